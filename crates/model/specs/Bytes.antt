@@ -1,0 +1,147 @@
+-- Bytes: 16-bit fields, sections, the case, documents and lists, read and written.
+use Prim.Native.Nat.{ℕ, zero, suc, _+_, _*_, _/_, _%_, _≤_}
+use mathlib.Core.Path.{_≡_}
+use mathlib.Core.Bool.{Bool, true, false, _&&_}
+use mathlib.Core.List.{List, [], _∷_, _++_, map, flatMap}
+use lib.Dec.{eqb, leb}
+use lib.ListN.{length, getD, drop}
+use Rattle.model.specs.Lists.{upFrom}
+use Rattle.model.specs.Limits.{maxCaseBytes, summaryWidth, patternWidth, documentWidth}
+use Rattle.model.specs.Tree.{DocumentRecord, Document}
+use Rattle.model.specs.Summary.{SummaryRecord, Summary}
+use Rattle.model.specs.Pattern.{PatternRecord, Pattern}
+
+-- field i: 16 bits, low byte first; 0 past the end
+unfoldable pub field : List ℕ → ℕ → ℕ
+field b i = getD b (2 * i) 0 + 256 * getD b (2 * i + 1) 0
+
+unfoldable pub fieldBytes : ℕ → List ℕ
+fieldBytes n = n % 256 ∷ n / 256 % 256 ∷ []
+
+-- fields as bytes
+unfoldable pub bytesOf : List ℕ → List ℕ
+bytesOf fs = flatMap fieldBytes fs
+
+-- n records of the given width from field `at` on
+unfoldable pub recordsAt : {A : Type 0} → (ℕ → A) → ℕ → ℕ → ℕ → List A
+recordsAt read width at n = map (λ i. read (at + width * i)) (upFrom 0 n)
+
+-- the record that begins at field `at`
+abbrev pub summaryRecordAt : List ℕ → ℕ → SummaryRecord
+summaryRecordAt b at = record { parent = field b at; label = field b (at + 1); strong = field b (at + 2) }
+
+abbrev pub patternRecordAt : List ℕ → ℕ → PatternRecord
+patternRecordAt b at = record { parent = field b at; label = field b (at + 1); edge = field b (at + 2); position = field b (at + 3) }
+
+abbrev pub documentRecordAt : List ℕ → ℕ → DocumentRecord
+documentRecordAt b at = record { parent = field b at; label = field b (at + 1) }
+
+-- a section's records stand after its count
+unfoldable pub section : {A : Type 0} → (List ℕ → ℕ → A) → ℕ → List ℕ → ℕ → List A
+section read width b at = recordsAt (read b) width (at + 1) (field b at)
+
+-- the field after a section whose count is field `at`
+abbrev pub sectionEnd : ℕ → List ℕ → ℕ → ℕ
+sectionEnd width b at = at + 1 + width * field b at
+
+-- where the first selection's section begins, and the second's, and where the case ends
+abbrev pub firstAt : List ℕ → ℕ
+firstAt b = sectionEnd summaryWidth b 0
+
+abbrev pub secondAt : List ℕ → ℕ
+secondAt b = sectionEnd patternWidth b (firstAt b)
+
+abbrev pub caseEnd : List ℕ → ℕ
+caseEnd b = sectionEnd patternWidth b (secondAt b)
+
+-- the case: an outline, the first selection, the second selection
+pub record Case : Type 0 where
+  pub summary : Summary
+  pub first : Pattern
+  pub second : Pattern
+
+-- the tables of a case; fields past the end read as 0
+unfoldable pub caseOf : List ℕ → Case
+caseOf b =
+    record { summary = section summaryRecordAt summaryWidth b 0
+           ; first = section patternRecordAt patternWidth b (firstAt b)
+           ; second = section patternRecordAt patternWidth b (secondAt b) }
+
+-- a section that begins at field `at` is whole: its count, and every record that it announces
+pub record WholeSection (width : ℕ) (b : List ℕ) (at : ℕ) : Type 0 where
+  pub count : 2 * (at + 1) ≤ length b
+  pub records : 2 * sectionEnd width b at ≤ length b
+
+-- the case has at most 65,536 bytes, every count and announced record whole, and nothing after
+pub record WholeCase (b : List ℕ) : Type 0 where
+  pub size : length b ≤ maxCaseBytes
+  pub summary : WholeSection summaryWidth b 0
+  pub first : WholeSection patternWidth b (firstAt b)
+  pub second : WholeSection patternWidth b (secondAt b)
+  pub nothingAfter : length b ≤ 2 * caseEnd b
+
+-- the same as a test: the end lies after every count, and a count past the end reads as 0, so one equation says it all
+unfoldable pub isWholeCase : List ℕ → Bool
+isWholeCase b = leb (length b) maxCaseBytes && eqb (length b) (2 * caseEnd b)
+
+-- what decoding gives: the tables, or that a count or record is not whole or something stands after
+pub data Decoded (A : Type 0) : Type 0 where
+  tables : A → Decoded A
+  notWhole : Decoded A
+
+unfoldable pub decodeCase : List ℕ → Decoded Case
+decodeCase b = elim (isWholeCase b) [ true ↦ tables (caseOf b) | false ↦ notWhole ]
+
+-- a volume is one section
+unfoldable pub documentOf : List ℕ → Document
+documentOf b = section documentRecordAt documentWidth b 0
+
+-- the volume is whole, nothing after
+unfoldable pub isWholeDocument : List ℕ → Bool
+isWholeDocument b = eqb (length b) (2 * sectionEnd documentWidth b 0)
+
+unfoldable pub decodeDocument : List ℕ → Decoded Document
+decodeDocument b = elim (isWholeDocument b) [ true ↦ tables (documentOf b) | false ↦ notWhole ]
+
+-- a list is bare fields with no count
+unfoldable pub listOf : List ℕ → List ℕ
+listOf b = map (field b) (upFrom 0 (length b / 2))
+
+-- every field of a list is whole
+unfoldable pub isWholeList : List ℕ → Bool
+isWholeList b = eqb (length b % 2) 0
+
+-- a record's fields
+abbrev pub summaryFields : SummaryRecord → List ℕ
+summaryFields r = r .parent ∷ r .label ∷ r .strong ∷ []
+
+abbrev pub patternFields : PatternRecord → List ℕ
+patternFields r = r .parent ∷ r .label ∷ r .edge ∷ r .position ∷ []
+
+abbrev pub documentFields : DocumentRecord → List ℕ
+documentFields r = r .parent ∷ r .label ∷ []
+
+-- a section's fields: its count, then its records
+unfoldable pub sectionFields : {A : Type 0} → (A → List ℕ) → List A → List ℕ
+sectionFields fields rs = length rs ∷ flatMap fields rs
+
+unfoldable pub caseFields : Case → List ℕ
+caseFields c =
+    sectionFields summaryFields (c .summary) ++ (sectionFields patternFields (c .first) ++ sectionFields patternFields (c .second))
+
+-- the bytes of a case, of a volume's section, of a list, and of a count with its numbers
+unfoldable pub encodeCase : Case → List ℕ
+encodeCase c = bytesOf (caseFields c)
+
+unfoldable pub encodeDocument : Document → List ℕ
+encodeDocument W = bytesOf (sectionFields documentFields W)
+
+unfoldable pub encodeList : List ℕ → List ℕ
+encodeList ns = bytesOf ns
+
+unfoldable pub encodeCounted : List ℕ → List ℕ
+encodeCounted ns = bytesOf (length ns ∷ ns)
+
+-- a buffer or table written at its front: what stands after what is written keeps its contents
+unfoldable pub writtenAtFront : {A : Type 0} → List A → List A → List A
+writtenAtFront written buffer = written ++ drop (length written) buffer

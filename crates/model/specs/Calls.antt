@@ -1,0 +1,150 @@
+-- The whole outcome of each of the six calls: answer, buffer or table afterwards, tally afterwards. A refusal holds its
+-- number and zero in every other field, and alters no lent byte, record or tally.
+use Prim.Native.Nat.{ℕ, zero, suc, _+_}
+use mathlib.Core.Bool.{Bool, true, false}
+use mathlib.Core.List.{List, [], _∷_, _++_, map}
+use lib.Dec.{eqb}
+use lib.ListN.{length, replicate}
+use Rattle.model.specs.Lists.{upFrom}
+use Rattle.model.specs.Limits.{maxPattern}
+use Rattle.model.specs.Tree.{Document}
+use Rattle.model.specs.Summary.{Summary, summaryLabel}
+use Rattle.model.specs.Pattern.{Pattern}
+use Rattle.model.specs.Embeddings.{isResult, nodesAt, pathMask, pathCount}
+use Rattle.model.specs.Fitting.{fits}
+use Rattle.model.specs.Canonical.{Spot, canonical, canonicalSpots, ownResult}
+use Rattle.model.specs.Verdict.{Verdict, included, notIncluded, stopped, verdict, triedOf}
+use Rattle.model.specs.Bytes.{Case, caseOf, documentOf, listOf, encodeDocument, encodeCounted, writtenAtFront}
+use Rattle.model.specs.Questions.{selected, verdictRefusal, fitsRefusal, resultRefusal, nodesRefusal, pathsRefusal, layoutRefusal}
+
+-- the kinds of a verdict; 0 is a refusal's
+abbrev pub kindIncluded : ℕ
+kindIncluded = 1
+
+abbrev pub kindNotIncluded : ℕ
+kindNotIncluded = 2
+
+abbrev pub kindStopped : ℕ
+kindStopped = 3
+
+unfoldable pub kindOf : Verdict → ℕ
+kindOf (included n) = kindIncluded
+kindOf (notIncluded n es) = kindNotIncluded
+kindOf (stopped n) = kindStopped
+
+-- the answer of the verdict call
+pub record VerdictAnswer : Type 0 where
+  pub refused : ℕ
+  pub kind : ℕ
+  pub tried : ℕ
+
+pub record VerdictOutcome : Type 0 where
+  pub answer : VerdictAnswer
+  pub buffer : List ℕ
+  pub tally : ℕ
+
+-- "not included" writes the volume's section, then the result as a count and k node numbers; the others write nothing
+unfoldable pub shown : Summary → Pattern → Verdict → List ℕ
+shown S P (included n) = []
+shown S P (notIncluded n es) = encodeDocument (canonical S P es) ++ encodeCounted (ownResult S P es)
+shown S P (stopped n) = []
+
+unfoldable pub verdictAccepted : Case → ℕ → ℕ → List ℕ → VerdictOutcome
+verdictAccepted c L tally buffer =
+    let v : Verdict = verdict (c .summary) (c .first) (c .second) L in
+    record { answer = record { refused = 0; kind = kindOf v; tried = triedOf v }
+           ; buffer = writtenAtFront (shown (c .summary) (c .first) v) buffer
+           ; tally = tally + triedOf v }
+
+unfoldable pub verdictRefused : ℕ → ℕ → List ℕ → VerdictOutcome
+verdictRefused number tally buffer = record { answer = record { refused = number; kind = 0; tried = 0 }; buffer = buffer; tally = tally }
+
+-- Verdict: case, limit, tally, answer buffer
+unfoldable pub verdictCall : List ℕ → ℕ → ℕ → List ℕ → VerdictOutcome
+verdictCall b L tally buffer =
+    let number : ℕ = verdictRefusal b L tally (length buffer) in
+    elim (eqb number 0) [ true ↦ verdictAccepted (caseOf b) L tally buffer | false ↦ verdictRefused number tally buffer ]
+
+-- an answer that is yes (1) or no (0)
+pub record TestAnswer : Type 0 where
+  pub refused : ℕ
+  pub holds : ℕ
+
+unfoldable pub testAnswer : ℕ → Bool → TestAnswer
+testAnswer number test =
+    elim (eqb number 0) [ true ↦ record { refused = 0; holds = elim test [ true ↦ 1 | false ↦ 0 ] }
+    | false ↦ record { refused = number; holds = 0 } ]
+
+-- Fits: case, volume
+unfoldable pub fitsCall : List ℕ → List ℕ → TestAnswer
+fitsCall b w = testAnswer (fitsRefusal b w) (fits (caseOf b .summary) (documentOf w))
+
+-- Is it a result: case, selection 1 or 2, volume, list
+unfoldable pub resultCall : List ℕ → ℕ → List ℕ → List ℕ → TestAnswer
+resultCall b s w r = testAnswer (resultRefusal b s w r) (isResult (selected (caseOf b) s) (documentOf w) (listOf r))
+
+-- an answer that is a count
+pub record CountAnswer : Type 0 where
+  pub refused : ℕ
+  pub count : ℕ
+
+pub record NodesOutcome : Type 0 where
+  pub answer : CountAnswer
+  pub buffer : List ℕ
+
+unfoldable pub nodesAccepted : List ℕ → List ℕ → NodesOutcome
+nodesAccepted nodes buffer = record { answer = record { refused = 0; count = length nodes }; buffer = writtenAtFront (encodeCounted nodes) buffer }
+
+unfoldable pub nodesRefused : ℕ → List ℕ → NodesOutcome
+nodesRefused number buffer = record { answer = record { refused = number; count = 0 }; buffer = buffer }
+
+-- Nodes at a position in any result, written ascending after their count: case, selection, volume, position, answer buffer
+unfoldable pub nodesCall : List ℕ → ℕ → List ℕ → ℕ → List ℕ → NodesOutcome
+nodesCall b s w p buffer =
+    let number : ℕ = nodesRefusal b s w p (length buffer) in
+    elim (eqb number 0) [ true ↦ nodesAccepted (nodesAt (selected (caseOf b) s) (documentOf w) p) buffer | false ↦ nodesRefused number buffer ]
+
+-- sixteen masks, bit i for outline node i, and for each how many paths the node may take
+pub record PathsAnswer : Type 0 where
+  pub refused : ℕ
+  pub masks : List ℕ
+  pub counts : List ℕ
+
+unfoldable pub pathsAccepted : Summary → Pattern → PathsAnswer
+pathsAccepted S P = record { refused = 0; masks = map (pathMask S P) (upFrom 0 maxPattern); counts = map (pathCount S P) (upFrom 0 maxPattern) }
+
+unfoldable pub pathsRefused : ℕ → PathsAnswer
+pathsRefused number = record { refused = number; masks = replicate maxPattern 0; counts = replicate maxPattern 0 }
+
+-- Paths of each node: case, selection
+unfoldable pub pathsCall : List ℕ → ℕ → PathsAnswer
+pathsCall b s =
+    let number : ℕ = pathsRefusal b s in
+    elim (eqb number 0) [ true ↦ pathsAccepted (caseOf b .summary) (selected (caseOf b) s) | false ↦ pathsRefused number ]
+
+-- a record of the lent table: parent, outline node, label
+pub record LaidRecord : Type 0 where
+  pub parent : ℕ
+  pub summaryNode : ℕ
+  pub label : ℕ
+
+abbrev pub laidRecord : Summary → Spot → LaidRecord
+laidRecord S s = record { parent = s .parent; summaryNode = s .at; label = summaryLabel S (s .at) }
+
+pub record LayoutOutcome : Type 0 where
+  pub answer : CountAnswer
+  pub table : List LaidRecord
+
+unfoldable pub layoutAccepted : Summary → Pattern → List ℕ → List LaidRecord → LayoutOutcome
+layoutAccepted S P es table =
+    let laid : List LaidRecord = map (laidRecord S) (canonicalSpots S P es) in
+    record { answer = record { refused = 0; count = length laid }; table = writtenAtFront laid table }
+
+unfoldable pub layoutRefused : ℕ → List LaidRecord → LayoutOutcome
+layoutRefused number table = record { answer = record { refused = number; count = 0 }; table = table }
+
+-- Lay out a trial: case, selection, placement list, lent table; the volume fills the front, the node count is the result
+unfoldable pub layoutCall : List ℕ → ℕ → List ℕ → List LaidRecord → LayoutOutcome
+layoutCall b s l table =
+    let number : ℕ = layoutRefusal b s l (length table) in
+    elim (eqb number 0) [ true ↦ layoutAccepted (caseOf b .summary) (selected (caseOf b) s) (listOf l) table | false ↦ layoutRefused number table ]

@@ -1,0 +1,15 @@
+pub mod Lists
+pub mod Tree
+pub mod Summary
+pub mod Pattern
+pub mod Embeddings
+pub mod Fitting
+pub mod Canonical
+pub mod Verdict
+pub mod Quick
+pub mod Limits
+pub mod Bytes
+pub mod Questions
+pub mod Calls
+pub mod Facts
+pub mod Examples

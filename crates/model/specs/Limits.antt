@@ -1,0 +1,48 @@
+-- Limits and record widths, each named once.
+use Prim.Native.Nat.{ℕ}
+
+-- the largest limit of a verdict
+abbrev pub maxLimit : ℕ
+maxLimit = 1_000_000
+
+-- the most a tally may come to
+abbrev pub maxTally : ℕ
+maxTally = 1_000_000_000_000
+
+-- the bytes that an answer buffer has at least, and the records that a lent table has at least
+abbrev pub minBuffer : ℕ
+minBuffer = 4_096
+
+abbrev pub minTable : ℕ
+minTable = 1_024
+
+-- the most bytes of a case
+abbrev pub maxCaseBytes : ℕ
+maxCaseBytes = 65_536
+
+-- the most nodes of an outline, of a selection and of a volume that a call takes; the last position
+abbrev pub maxSummary : ℕ
+maxSummary = 64
+
+abbrev pub maxPattern : ℕ
+maxPattern = 16
+
+abbrev pub maxDocument : ℕ
+maxDocument = 1_024
+
+abbrev pub maxPosition : ℕ
+maxPosition = 8
+
+-- the most nodes of a trial volume
+abbrev pub maxCanonical : ℕ
+maxCanonical = 1_009
+
+-- fields of an outline record, a selection record and a volume record
+abbrev pub summaryWidth : ℕ
+summaryWidth = 3
+
+abbrev pub patternWidth : ℕ
+patternWidth = 4
+
+abbrev pub documentWidth : ℕ
+documentWidth = 2

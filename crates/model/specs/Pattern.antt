@@ -1,0 +1,108 @@
+-- Conjunctive tree patterns (document 01: selections): embeddings, results, placements, inclusion.
+use Prim.Native.Nat.{ℕ, _<_, _+_}
+use mathlib.Core.Path.{_≡_}
+use mathlib.Core.Bool.{Bool, true, _||_}
+use mathlib.Core.List.{List, map, List·Memᴰ}
+use lib.Dec.{eqb, ltb}
+use lib.ListN.{length, getD}
+use Rattle.model.specs.Lists.{upFrom, countOf, firstOf}
+use Rattle.model.specs.Tree.{Document, labelOf, Edge, Rooted}
+use Rattle.model.specs.Summary.{Summary, asDocument, Fits}
+
+-- a selection node: its parent's number, its label or 0 for any, its edge (0 child, 1 descendant), its position or 0
+pub record PatternRecord : Type 0 where
+  pub parent : ℕ
+  pub label : ℕ
+  pub edge : ℕ
+  pub position : ℕ
+
+-- selection
+abbrev pub Pattern : Type 0
+Pattern = List PatternRecord
+
+-- what a number past the last node reads as
+abbrev pub noPatternRecord : PatternRecord
+noPatternRecord = record { parent = 0; label = 0; edge = 0; position = 0 }
+
+abbrev pub patternParent : Pattern → ℕ → ℕ
+patternParent P q = getD P q noPatternRecord .parent
+
+abbrev pub patternLabel : Pattern → ℕ → ℕ
+patternLabel P q = getD P q noPatternRecord .label
+
+-- the edge from the node's parent is a descendant edge
+abbrev pub descends : Pattern → ℕ → Bool
+descends P q = eqb (getD P q noPatternRecord .edge) 1
+
+abbrev pub position : Pattern → ℕ → ℕ
+position P q = getD P q noPatternRecord .position
+
+-- the table is a rooted tree
+abbrev pub IsPatternTree : Pattern → Type 0
+IsPatternTree P = Rooted (length P) (patternParent P)
+
+-- k, the number of positions
+abbrev pub arity : Pattern → ℕ
+arity P = countOf (λ (r : PatternRecord). ltb 0 (r .position)) P
+
+-- the node that holds a position
+abbrev pub nodeAt : Pattern → ℕ → ℕ
+nodeAt P p = firstOf (λ q. eqb (position P q) p) (length P) (upFrom 0 (length P))
+
+-- the nodes at positions 1 to k
+abbrev pub returnNodes : Pattern → List ℕ
+returnNodes P = map (nodeAt P) (upFrom 1 (arity P))
+
+-- labels fit: a selection's label, where 0 is any, and a label of a volume or an outline
+unfoldable pub labelFits : ℕ → ℕ → Bool
+labelFits l m = eqb l 0 || eqb l m
+
+-- embedding: each selection node goes to a volume node, the root to the root, labels fit, child edges go to children and
+-- descendant edges to descendants
+pub record Embeds (P : Pattern) (W : Document) (e : ℕ → ℕ) : Type 0 where
+  pub inside : (q : ℕ) → q < length P → e q < length W
+  pub root : e 0 ≡ 0
+  pub labels : (q : ℕ) → q < length P → labelFits (patternLabel P q) (labelOf W (e q)) ≡ true
+  pub edges : (q : ℕ) → 0 < q → q < length P → Edge (descends P q) W (e (patternParent P q)) (e q)
+
+-- result: the list of the volume nodes at positions 1 to k of some embedding
+pub record Result (P : Pattern) (W : Document) (r : List ℕ) : Type 0 where
+  pub image : ℕ → ℕ
+  pub embeds : Embeds P W image
+  pub returns : r ≡ map image (returnNodes P)
+
+-- placement: an embedding into the outline read as a volume
+abbrev pub Placement : Summary → Pattern → (ℕ → ℕ) → Type 0
+Placement S P e = Embeds P (asDocument S) e
+
+-- s is one of the paths of selection node q: it takes s in some placement
+pub record PathOf (S : Summary) (P : Pattern) (q s : ℕ) : Type 0 where
+  pub image : ℕ → ℕ
+  pub places : Placement S P image
+  pub takes : image q ≡ s
+
+-- v is at position p in some result
+pub record AtPosition (P : Pattern) (W : Document) (p v : ℕ) : Type 0 where
+  pub image : ℕ → ℕ
+  pub embeds : Embeds P W image
+  pub takes : image (nodeAt P p) ≡ v
+
+-- in every fitting volume, of any size, each result of the pattern passes
+abbrev pub ContainedIn : Summary → Pattern → (Document → List ℕ → Type 0) → Type 0
+ContainedIn S P Passes = (W : Document) → Fits S W → (r : List ℕ) → Result P W r → Passes W r
+
+-- included: in every fitting volume, each result of the first selection is a result of the second
+abbrev pub Contained : Summary → Pattern → Pattern → Type 0
+Contained S P Q = ContainedIn S P (Result Q)
+
+-- a result of at least one of several selections
+pub record ResultOfSome (Qs : List Pattern) (W : Document) (r : List ℕ) : Type 0 where
+  pub pattern : Pattern
+  pub among : List·Memᴰ pattern Qs
+  pub result : Result pattern W r
+
+-- what shuts inclusion out: a fitting volume, of any size, and a result of the first selection there that is none of the second
+pub record CounterExample (S : Summary) (P Q : Pattern) (W : Document) (r : List ℕ) : Type 0 where
+  pub fits : Fits S W
+  pub ofFirst : Result P W r
+  pub notOfSecond : Result Q W r → ⊥

@@ -1,0 +1,156 @@
+-- Questions 1 to 13, one definition each, and the refusal of each of the six calls in the call's own order.
+use Prim.Native.Nat.{ℕ, _+_, _≤_, _<_}
+use mathlib.Core.Path.{_≡_}
+use mathlib.Core.Bool.{Bool, true, false, _&&_, _||_, not}
+use mathlib.Core.List.{List, [], _∷_, _++_}
+use lib.Dec.{eqb, leb, ltb}
+use lib.ListN.{length, getD}
+use Rattle.model.specs.Lists.{upFrom, anyOf, allOf, countOf, sameList}
+use Rattle.model.specs.Limits.{maxLimit, maxTally, minBuffer, minTable, maxSummary, maxPattern, maxDocument, maxPosition}
+use Rattle.model.specs.Tree.{Document, parentOf, labelOf, Child}
+use Rattle.model.specs.Summary.{Summary, noSummaryRecord, asDocument, summaryParent, summaryLabel}
+use Rattle.model.specs.Pattern.{PatternRecord, Pattern, noPatternRecord, patternParent, position, arity}
+use Rattle.model.specs.Embeddings.{childTest, placements}
+use Rattle.model.specs.Fitting.{parentRule}
+use Rattle.model.specs.Bytes.{Case, caseOf, documentOf, listOf, isWholeCase, isWholeDocument, isWholeList}
+
+-- a number from low to high
+abbrev pub between : ℕ → ℕ → ℕ → Bool
+between low high n = leb low n && leb n high
+
+-- 1. Is the limit 1 to 1,000,000?
+unfoldable pub limitInRange : ℕ → Bool
+limitInRange L = between 1 maxLimit L
+
+-- 2. Has the answer buffer 4,096 bytes or more, or the lent table 1,024 records or more?
+unfoldable pub bufferLargeEnough : ℕ → Bool
+bufferLargeEnough bytes = leb minBuffer bytes
+
+unfoldable pub tableLargeEnough : ℕ → Bool
+tableLargeEnough records = leb minTable records
+
+-- 3. Has the case at most 65,536 bytes, every count and announced record whole, and nothing after?
+unfoldable pub caseWhole : List ℕ → Bool
+caseWhole b = isWholeCase b
+
+-- 4. Are the counts 1 to 64, 1 to 16 and 1 to 16?
+unfoldable pub countsInRange : Case → Bool
+countsInRange c =
+    between 1 maxSummary (length (c .summary)) && between 1 maxPattern (length (c .first)) && between 1 maxPattern (length (c .second))
+
+-- 5. Do all outline records keep the rules for parent, label and strong?
+unfoldable pub summaryRecordKept : Summary → ℕ → Bool
+summaryRecordKept S i =
+    parentRule i (getD S i noSummaryRecord .parent) && ltb 0 (getD S i noSummaryRecord .label)
+    && leb (getD S i noSummaryRecord .strong) 1 && (ltb 0 i || eqb (getD S i noSummaryRecord .strong) 0)
+
+unfoldable pub summaryKept : Summary → Bool
+summaryKept S = allOf (summaryRecordKept S) (upFrom 0 (length S))
+
+-- 6. Do siblings in the outline have different labels?
+unfoldable pub alike : Summary → ℕ → ℕ → Bool
+alike S i j = ltb 0 i && eqb (summaryParent S i) (summaryParent S j) && eqb (summaryLabel S i) (summaryLabel S j)
+
+unfoldable pub siblingsDiffer : Summary → Bool
+siblingsDiffer S = allOf (λ j. allOf (λ i. not (alike S i j)) (upFrom 0 j)) (upFrom 0 (length S))
+
+-- 7. Do all records of both selections keep the rules for parent and edge, with positions at most 8?
+unfoldable pub patternRecordKept : Pattern → ℕ → Bool
+patternRecordKept P q =
+    parentRule q (patternParent P q) && leb (getD P q noPatternRecord .edge) 1
+    && (ltb 0 q || eqb (getD P q noPatternRecord .edge) 0) && leb (position P q) maxPosition
+
+unfoldable pub patternKept : Pattern → Bool
+patternKept P = allOf (patternRecordKept P) (upFrom 0 (length P))
+
+unfoldable pub patternsKept : Case → Bool
+patternsKept c = patternKept (c .first) && patternKept (c .second)
+
+-- 8. Has each selection the positions 1 to k once each, k at least 1, the same k in both?
+unfoldable pub positionsOnce : Pattern → Bool
+positionsOnce P = leb 1 (arity P) && allOf (λ p. eqb (countOf (λ (r : PatternRecord). eqb (r .position) p) P) 1) (upFrom 1 (arity P))
+
+unfoldable pub positionsKept : Case → Bool
+positionsKept c = positionsOnce (c .first) && positionsOnce (c .second) && eqb (arity (c .first)) (arity (c .second))
+
+-- 9. Is the tally plus the limit at most 1,000,000,000,000?
+unfoldable pub tallyInRange : ℕ → ℕ → Bool
+tallyInRange tally L = leb (tally + L) maxTally
+
+-- 10. Is the volume whole, nothing after, with 1 to 1,024 nodes, parents by the rule and labels not 0?
+unfoldable pub documentRecordKept : Document → ℕ → Bool
+documentRecordKept W i = parentRule i (parentOf W i) && ltb 0 (labelOf W i)
+
+unfoldable pub documentKept : List ℕ → Bool
+documentKept b =
+    isWholeDocument b && between 1 maxDocument (length (documentOf b))
+    && allOf (documentRecordKept (documentOf b)) (upFrom 0 (length (documentOf b)))
+
+-- 11. Is the list k fields, each below the volume's count?
+unfoldable pub listInRange : ℕ → ℕ → List ℕ → Bool
+listInRange k n b = isWholeList b && eqb (length (listOf b)) k && allOf (λ v. ltb v n) (listOf b)
+
+-- 12. Is the selection 1 or 2 and, where given, the position 1 to k?
+unfoldable pub selectionGiven : ℕ → Bool
+selectionGiven s = between 1 2 s
+
+-- the selection that a number gives
+abbrev pub selected : Case → ℕ → Pattern
+selected c s = elim (eqb s 1) [ true ↦ c .first | false ↦ c .second ]
+
+unfoldable pub positionGiven : Case → ℕ → ℕ → Bool
+positionGiven c s p = selectionGiven s && between 1 (arity (selected c s)) p
+
+-- 13. Is the list a placement of that selection?
+unfoldable pub isPlacement : Case → ℕ → List ℕ → Bool
+isPlacement c s b = isWholeList b && anyOf (sameList (listOf b)) (placements (c .summary) (selected c s))
+
+-- a question: its number, which a refusal holds, and its answer
+pub record Question : Type 0 where
+  pub number : ℕ
+  pub answer : Bool
+
+abbrev pub ask : ℕ → Bool → Question
+ask n a = record { number = n; answer = a }
+
+-- the refusal that a list of questions leads to: the number of the first whose answer is no; 0 where there is none
+unfoldable pub refusal : List Question → ℕ
+refusal [] = 0
+refusal (q ∷ qs) = elim (q .answer) [ true ↦ refusal qs | false ↦ q .number ]
+
+-- 3 to 8
+unfoldable pub caseQuestions : List ℕ → List Question
+caseQuestions b =
+    ask 3 (caseWhole b) ∷ ask 4 (countsInRange (caseOf b)) ∷ ask 5 (summaryKept (caseOf b .summary))
+    ∷ ask 6 (siblingsDiffer (caseOf b .summary)) ∷ ask 7 (patternsKept (caseOf b)) ∷ ask 8 (positionsKept (caseOf b)) ∷ []
+
+-- Verdict: 1 to 9
+unfoldable pub verdictRefusal : List ℕ → ℕ → ℕ → ℕ → ℕ
+verdictRefusal b L tally bufferBytes =
+    refusal (ask 1 (limitInRange L) ∷ ask 2 (bufferLargeEnough bufferBytes) ∷ caseQuestions b ++ ask 9 (tallyInRange tally L) ∷ [])
+
+-- Fits: 3 to 8, 10
+unfoldable pub fitsRefusal : List ℕ → List ℕ → ℕ
+fitsRefusal b w = refusal (caseQuestions b ++ ask 10 (documentKept w) ∷ [])
+
+-- Is it a result: 3 to 8, 10, 12, 11
+unfoldable pub resultRefusal : List ℕ → ℕ → List ℕ → List ℕ → ℕ
+resultRefusal b s w r =
+    refusal
+    (caseQuestions b ++ ask 10 (documentKept w) ∷ ask 12 (selectionGiven s)
+    ∷ ask 11 (listInRange (arity (selected (caseOf b) s)) (length (documentOf w)) r) ∷ [])
+
+-- Nodes at a position: 2 to 8, 10, 12
+unfoldable pub nodesRefusal : List ℕ → ℕ → List ℕ → ℕ → ℕ → ℕ
+nodesRefusal b s w p bufferBytes =
+    refusal (ask 2 (bufferLargeEnough bufferBytes) ∷ caseQuestions b ++ ask 10 (documentKept w) ∷ ask 12 (positionGiven (caseOf b) s p) ∷ [])
+
+-- Paths of each node: 3 to 8, 12
+unfoldable pub pathsRefusal : List ℕ → ℕ → ℕ
+pathsRefusal b s = refusal (caseQuestions b ++ ask 12 (selectionGiven s) ∷ [])
+
+-- Lay out a trial: 2 to 8, 12, 13
+unfoldable pub layoutRefusal : List ℕ → ℕ → List ℕ → ℕ → ℕ
+layoutRefusal b s l tableRecords =
+    refusal
+    (ask 2 (tableLargeEnough tableRecords) ∷ caseQuestions b ++ ask 12 (selectionGiven s) ∷ ask 13 (isPlacement (caseOf b) s l) ∷ [])

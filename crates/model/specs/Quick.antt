@@ -1,0 +1,60 @@
+-- The quick test of a placement, which lays nothing out. proofs/Quick.antt shows that it equals "the trial passes", so no
+-- other definition rests on it. Sets of the second pattern's nodes are functions to Bool. x is a summary node, n the position
+-- that the document node there holds or 0, acc the pattern nodes that its children offer.
+use Prim.Native.Nat.{ℕ, zero, suc}
+use mathlib.Core.Bool.{Bool, true, false, _&&_, _||_, not}
+use mathlib.Core.List.{List, [], _∷_}
+use lib.Dec.{eqb, ltb}
+use lib.ListN.{length}
+use Rattle.model.specs.Lists.{upFrom, anyOf, allOf}
+use Rattle.model.specs.Summary.{Summary, summaryLabel}
+use Rattle.model.specs.Pattern.{Pattern, patternParent, patternLabel, descends, position, labelFits}
+use Rattle.model.specs.Embeddings.{imageIn}
+use Rattle.model.specs.Fitting.{strongChildren}
+use Rattle.model.specs.Canonical.{chain}
+
+-- c is a child of p in the pattern
+unfoldable pub hangsFrom : Pattern → ℕ → ℕ → Bool
+hangsFrom Q p c = ltb 0 c && eqb (patternParent Q c) p
+
+-- p's label fits, p's position is 0 or n, and all of p's children are offered
+unfoldable pub meets : Summary → Pattern → ℕ → ℕ → (ℕ → Bool) → ℕ → Bool
+meets S Q x n acc p =
+    labelFits (patternLabel Q p) (summaryLabel S x) && (eqb (position Q p) 0 || eqb (position Q p) n)
+    && allOf (λ c. not (hangsFrom Q p c) || acc c) (upFrom 0 (length Q))
+
+-- what a node offers to its parent: p meets there, or p hangs by a descendant edge and is offered from further down
+unfoldable pub offers : Summary → Pattern → ℕ → ℕ → (ℕ → Bool) → ℕ → Bool
+offers S Q x n acc p = meets S Q x n acc p || (descends Q p && acc p)
+
+-- what the filled-up children of a node on x offer, at most n levels deep
+unfoldable pub closedIn : ℕ → Summary → Pattern → ℕ → ℕ → Bool
+closedIn zero S Q x p = false
+closedIn (suc n) S Q x p = anyOf (λ t. offers S Q t 0 (closedIn n S Q t) p) (strongChildren S x)
+
+-- what the filled-up children of a node on x offer
+unfoldable pub closed : Summary → Pattern → ℕ → ℕ → Bool
+closed S Q = closedIn (length S) S Q
+
+abbrev pub union : (ℕ → Bool) → (ℕ → Bool) → ℕ → Bool
+union f g p = f p || g p
+
+-- what a chain along the summary nodes xs offers to the node it hangs from; its last node holds position n, or none where n
+-- is 0, and is offered g by the chains that hang from it
+unfoldable pub hang : Summary → Pattern → ℕ → (ℕ → Bool) → List ℕ → ℕ → Bool
+hang S Q n g [] = g
+hang S Q n g (x ∷ []) = offers S Q x n (union (closed S Q x) g)
+hang S Q n g (x ∷ y ∷ ys) = offers S Q x 0 (union (closed S Q x) (hang S Q n g (y ∷ ys)))
+
+-- what the chains that hang from first-pattern node j offer, in the placement es, at most n levels deep
+unfoldable pub givenIn : ℕ → Summary → Pattern → Pattern → List ℕ → ℕ → ℕ → Bool
+givenIn zero S P Q es j p = false
+givenIn (suc n) S P Q es j p =
+    anyOf (λ c. hangsFrom P j c && hang S Q (position P c) (givenIn n S P Q es c) (chain S (imageIn es j) (imageIn es c)) p) (upFrom 0 (length P))
+
+unfoldable pub given : Summary → Pattern → Pattern → List ℕ → ℕ → ℕ → Bool
+given S P Q es = givenIn (length P) S P Q es
+
+-- the second pattern's root meets at the root
+unfoldable pub quick : Summary → Pattern → Pattern → List ℕ → Bool
+quick S P Q es = meets S Q 0 (position P 0) (union (closed S Q 0) (given S P Q es 0)) 0

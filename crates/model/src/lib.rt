@@ -1,0 +1,1 @@
+// Definitions (specs/) and theorems (proofs/) only: the code of the layers above is proved against them.
