@@ -63,9 +63,11 @@ pub record Case : Type 0 where
 -- the tables of a case; fields past the end read as 0
 unfoldable pub caseOf : List ℕ → Case
 caseOf b =
-    record { summary = section summaryRecordAt summaryWidth b 0
-           ; first = section patternRecordAt patternWidth b (firstAt b)
-           ; second = section patternRecordAt patternWidth b (secondAt b) }
+    record {
+      summary = section summaryRecordAt summaryWidth b 0;
+      first = section patternRecordAt patternWidth b (firstAt b);
+      second = section patternRecordAt patternWidth b (secondAt b);
+    }
 
 -- a section that begins at field `at` is whole: its count, and every record that it announces
 pub record WholeSection (width : ℕ) (b : List ℕ) (at : ℕ) : Type 0 where

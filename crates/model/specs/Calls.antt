@@ -52,9 +52,11 @@ shown S P (stopped n) = []
 unfoldable pub verdictAccepted : Case → ℕ → ℕ → List ℕ → VerdictOutcome
 verdictAccepted c L tally buffer =
     let v : Verdict = verdict (c .summary) (c .first) (c .second) L in
-    record { answer = record { refused = 0; kind = kindOf v; tried = triedOf v }
-           ; buffer = writtenAtFront (shown (c .summary) (c .first) v) buffer
-           ; tally = tally + triedOf v }
+    record {
+      answer = record { refused = 0; kind = kindOf v; tried = triedOf v };
+      buffer = writtenAtFront (shown (c .summary) (c .first) v) buffer;
+      tally = tally + triedOf v;
+    }
 
 unfoldable pub verdictRefused : ℕ → ℕ → List ℕ → VerdictOutcome
 verdictRefused number tally buffer = record { answer = record { refused = number; kind = 0; tried = 0 }; buffer = buffer; tally = tally }
@@ -72,8 +74,10 @@ pub record TestAnswer : Type 0 where
 
 unfoldable pub testAnswer : ℕ → Bool → TestAnswer
 testAnswer number test =
-    elim (eqb number 0) [ true ↦ record { refused = 0; holds = elim test [ true ↦ 1 | false ↦ 0 ] }
-    | false ↦ record { refused = number; holds = 0 } ]
+    elim (eqb number 0) [
+      | true ↦ record { refused = 0; holds = elim test [ true ↦ 1 | false ↦ 0 ] }
+      | false ↦ record { refused = number; holds = 0 }
+    ]
 
 -- Fits: case, volume
 unfoldable pub fitsCall : List ℕ → List ℕ → TestAnswer

@@ -80,8 +80,10 @@ hasChildOn spots v t = anyOf (λ i. ltb 0 i && eqb (spotParent spots i) v && eqb
 -- one child of v on path t is appended if v has none
 unfoldable pub addMissing : List Spot → ℕ → ℕ → List Spot
 addMissing spots v t =
-    elim (hasChildOn spots v t) [ true ↦ spots
-    | false ↦ spots ++ record { parent = v; at = t; owner = getD spots v rootSpot .owner; filled = true } ∷ [] ]
+    elim (hasChildOn spots v t) [
+      | true ↦ spots
+      | false ↦ spots ++ record { parent = v; at = t; owner = getD spots v rootSpot .owner; filled = true } ∷ []
+    ]
 
 unfoldable pub addAll : List Spot → ℕ → List ℕ → List Spot
 addAll spots v [] = spots
