@@ -1,2 +1,4 @@
 pub mod Examples
 pub mod ListLaws
+pub mod TreeLaws
+pub mod Laid
