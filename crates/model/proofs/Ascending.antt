@@ -1,0 +1,93 @@
+-- Strictly ascending lists, over any relation: each element stands in the relation to every later one. A list that ascends in
+-- an asymmetric relation repeats nothing, and its members alone decide it. Assumes nothing.
+use Prim.Native.Nat.{ℕ, zero, suc, _<_}
+use mathlib.Core.Path.{_≡_, refl, sym, _∙_, subst}
+use mathlib.Core.Bool.{Bool, true, false}
+use mathlib.Core.Logic.{_⊎_, inl, inr, _↔_}
+use mathlib.Core.List.{List, [], _∷_, _++_, flatMap, List·Memᴰ, List·Memᴰ·head, List·Memᴰ·tail, List·Memᴰ·not-nil, List·Memᴰ·cases-cons, List·Memᴰ·append-cases}
+use native.Mathlib.Nat.{not-suc-le-zero, le-of-suc-le-suc}
+use lib.ListN.{length, getD}
+use Rattle.model.specs.Lists.{upFrom, keep}
+use Rattle.model.proofs.ListLaws.{upFrom-mem, keep-elim, flat-elim}
+
+pub mem-at : {A : Type 0} (xs : List A) (i : ℕ) (d : A) → i < length xs → List·Memᴰ (getD xs i d) xs
+mem-at [] i d h = absurd (not-suc-le-zero h)
+mem-at (x ∷ xs) zero d h = List·Memᴰ·head refl
+mem-at (x ∷ xs) (suc i) d h = List·Memᴰ·tail (mem-at xs i d (le-of-suc-le-suc h))
+
+module _ {A : Type 0} (R : A → A → Type 0) where
+  -- each element stands in the relation R to every later one
+  abbrev pub Ascending : List A → Type 0
+  Ascending [] = Unit {0}
+  Ascending (x ∷ xs) = ((y : A) → List·Memᴰ y xs → R x y) × Ascending xs
+
+  -- by places: what stands earlier is in the relation to what stands later
+  pub ascending-at : (xs : List A) → Ascending xs → (i j : ℕ) (d : A) → i < j → j < length xs → R (getD xs i d) (getD xs j d)
+  ascending-at [] a i j d h k = absurd (not-suc-le-zero k)
+  ascending-at (x ∷ xs) a i zero d h k = absurd (not-suc-le-zero h)
+  ascending-at (x ∷ xs) a zero (suc j) d h k = a .0 (getD xs j d) (mem-at xs j d (le-of-suc-le-suc k))
+  ascending-at (x ∷ xs) a (suc i) (suc j) d h k = ascending-at xs (a .1) i j d (le-of-suc-le-suc h) (le-of-suc-le-suc k)
+
+  -- so nothing stands in two places, where nothing is in the relation to itself
+  pub ascending-distinct : ((x : A) → R x x → ⊥) → (xs : List A) → Ascending xs → (i j : ℕ) (d : A) → i < j → j < length xs → getD xs i d ≡ getD xs j d → ⊥
+  ascending-distinct irr xs a i j d h k e = irr (getD xs j d) (subst (λ (x : A). R x (getD xs j d)) e (ascending-at xs a i j d h k))
+
+  -- two ascending lists with the same members are equal
+  pub ascending-unique : ((x y : A) → R x y → R y x → ⊥) → (xs ys : List A) → Ascending xs → Ascending ys
+      → ((x : A) → List·Memᴰ x xs ↔ List·Memᴰ x ys) → xs ≡ ys
+  ascending-unique asym [] [] a b same = refl
+  ascending-unique asym [] (y ∷ ys) a b same = absurd (List·Memᴰ·not-nil (same y .1 (List·Memᴰ·head refl)))
+  ascending-unique asym (x ∷ xs) [] a b same = absurd (List·Memᴰ·not-nil (same x .0 (List·Memᴰ·head refl)))
+  ascending-unique asym (x ∷ xs) (y ∷ ys) a b same =
+      let rest : xs ≡ ys = ascending-unique asym xs ys (a .1) (b .1) (λ z. (
+        λ m. later x xs y ys (a .0) first z m (List·Memᴰ·cases-cons (same z .0 (List·Memᴰ·tail m))),
+        λ m. later y ys x xs (b .0) (sym first) z m (List·Memᴰ·cases-cons (same z .1 (List·Memᴰ·tail m))),
+      )) in
+      cc (first, rest)
+    where
+      -- either head is the other, or each stands later than the other
+      heads : (x ≡ y) ⊎ List·Memᴰ x ys → (y ≡ x) ⊎ List·Memᴰ y xs → x ≡ y
+      heads (inl e) n = e
+      heads (inr m) (inl e) = sym e
+      heads (inr m) (inr n) = absurd (asym x y (a .0 y n) (b .0 x m))
+
+      first : x ≡ y
+      first = heads (List·Memᴰ·cases-cons (same x .0 (List·Memᴰ·head refl))) (List·Memᴰ·cases-cons (same y .1 (List·Memᴰ·head refl)))
+
+      -- what is later than the one head is not the other head
+      later : (u : A) (us : List A) (w : A) (ws : List A) → ((z : A) → List·Memᴰ z us → R u z) → u ≡ w → (z : A) → List·Memᴰ z us → (z ≡ w) ⊎ List·Memᴰ z ws → List·Memᴰ z ws
+      later u us w ws f e z m (inl q) = let h : R u u = subst (R u) (q ∙ sym e) (f z m) in absurd (asym u u h h)
+      later u us w ws f e z m (inr n) = n
+
+  pub ascending-append : (xs ys : List A) → Ascending xs → Ascending ys → ((x y : A) → List·Memᴰ x xs → List·Memᴰ y ys → R x y) → Ascending (xs ++ ys)
+  ascending-append [] ys a b h = b
+  ascending-append (x ∷ xs) ys a b h = (λ y m. go y (List·Memᴰ·append-cases xs m), ascending-append xs ys (a .1) b (λ u w m n. h u w (List·Memᴰ·tail m) n))
+    where
+      go : (y : A) → List·Memᴰ y xs ⊎ List·Memᴰ y ys → R x y
+      go y (inl m) = a .0 y m
+      go y (inr m) = h x y (List·Memᴰ·head refl) m
+
+  pub ascending-keep : (test : A → Bool) (xs : List A) → Ascending xs → Ascending (keep test xs)
+  unfolding keep
+  ascending-keep test [] a = tt
+  ascending-keep test (x ∷ xs) a = go (test x) (ascending-keep test xs (a .1))
+    where
+      go : (t : Bool) → Ascending (keep test xs) → Ascending (elim t as (λ _. List A) [ true ↦ x ∷ keep test xs | false ↦ keep test xs ])
+      go true b = (λ y m. a .0 y (keep-elim test y xs m .0), b)
+      go false b = b
+
+pub ascending-upFrom : (a n : ℕ) → Ascending _<_ (upFrom a n)
+unfolding upFrom
+ascending-upFrom a zero = tt
+ascending-upFrom a (suc n) = (λ y m. upFrom-mem (suc a) n y m .0, ascending-upFrom (suc a) n)
+
+-- lists that ascend one by one and one after the other
+pub ascending-flat : {A B : Type 0} (R : A → A → Type 0) (Q : B → B → Type 0) (f : A → List B) (xs : List A) → Ascending R xs → ((x : A) → Ascending Q (f x))
+    → ((x y : A) (b c : B) → R x y → List·Memᴰ b (f x) → List·Memᴰ c (f y) → Q b c) → Ascending Q (flatMap f xs)
+unfolding flatMap
+ascending-flat R Q f [] a each across = tt
+ascending-flat {A} {B} R Q f (x ∷ xs) a each across =
+    ascending-append Q (f x) (flatMap f xs) (each x) (ascending-flat R Q f xs (a .1) each across) (λ b c m n. after b c m (flat-elim f xs c n))
+  where
+    after : (b c : B) → List·Memᴰ b (f x) → (y : A) × List·Memᴰ y xs × List·Memᴰ c (f y) → Q b c
+    after b c m r = across x (r .0) b c (a .0 (r .0) (r .1)) m (r .2)

@@ -1,0 +1,111 @@
+-- The invariant of a canonical document while it is laid out, and what appending nodes keeps of it. Assumes nothing.
+use Prim.Native.Nat.{ℕ, zero, suc, _+_, _≤_, _<_}
+use mathlib.Core.Path.{_≡_, refl, sym, ap, _∙_, subst}
+use mathlib.Core.Bool.{Bool, true, false, false≢true}
+use mathlib.Core.Logic.{_⊎_, inl, inr}
+use mathlib.Core.List.{List, [], _∷_, _++_}
+use native.Mathlib.Omega.{arith}
+use lib.ListN.{length, getD, length-append, List·getD-append}
+use lib.Seq.{getD-append-seam}
+use Rattle.model.specs.Tree.{Child}
+use Rattle.model.specs.Summary.{Summary, asDocument, StrongEdge}
+use Rattle.model.specs.Pattern.{Pattern, patternParent}
+use Rattle.model.specs.Embeddings.{imageIn}
+use Rattle.model.specs.Canonical.{Spot, rootSpot, spotParent, spotAt, chain}
+use Rattle.model.proofs.Laid.{spotOwner, spotFilled, SpotChild, ChainChild}
+
+-- what holds of node i, by its spot s alone, once m pattern nodes are laid out
+pub record SpotFacts (S : Summary) (es own : List ℕ) (m i : ℕ) (s : Spot) : Type 0 where
+  pub owner : s .owner < m
+  pub chainEnd : s .filled ≡ false → chain S (s .at) (imageIn es (s .owner)) ≡ [] → s .at ≡ imageIn es (s .owner)
+  pub ownOnly : s .filled ≡ false → s .at ≡ imageIn es (s .owner) → i ≡ imageIn own (s .owner)
+
+-- node with spot s stands in a chain under its parent with spot u
+pub record ChainedTo (S : Summary) (es : List ℕ) (s u : Spot) : Type 0 where
+  pub owner : u .owner ≡ s .owner
+  pub unfilled : u .filled ≡ false
+  pub chained : chain S (u .at) (imageIn es (s .owner)) ≡ s .at ∷ chain S (s .at) (imageIn es (s .owner))
+
+-- or is the first of a chain
+pub record FirstOf (S : Summary) (P : Pattern) (es own : List ℕ) (s : Spot) : Type 0 where
+  pub owner : 0 < s .owner
+  pub hangs : s .parent ≡ imageIn own (patternParent P (s .owner))
+  pub chained : chain S (imageIn es (patternParent P (s .owner))) (imageIn es (s .owner)) ≡ s .at ∷ chain S (s .at) (imageIn es (s .owner))
+
+-- what holds of a node with spot s and its parent's spot u
+pub record NodeFacts (S : Summary) (P : Pattern) (es own : List ℕ) (s u : Spot) : Type 0 where
+  pub edge : Child (asDocument S) (u .at) (s .at)
+  pub filledUp : s .filled ≡ true → StrongEdge S (u .at) (s .at)
+  pub chainUp : s .filled ≡ false → ChainedTo S es s u ⊎ FirstOf S P es own s
+
+-- node i has the least path of its owner's nodes
+pub record Least (spots : List Spot) (i : ℕ) : Type 0 where
+  pub least : (j : ℕ) → j < length spots → spotOwner spots j ≡ spotOwner spots i → spotAt spots i ≤ spotAt spots j
+
+-- the invariant once m pattern nodes are laid out
+pub record Built (S : Summary) (P : Pattern) (es : List ℕ) (m : ℕ) (spots : List Spot) (own : List ℕ) : Type 0 where
+  pub some : 0 < length spots
+  pub root : getD spots 0 rootSpot ≡ rootSpot
+  pub spot : (i : ℕ) (s : Spot) → i < length spots → getD spots i rootSpot ≡ s → SpotFacts S es own m i s
+  pub earlier : (i : ℕ) → 0 < i → i < length spots → spotParent spots i < i
+  pub node : (i : ℕ) (s u : Spot) → 0 < i → i < length spots → getD spots i rootSpot ≡ s → getD spots (s .parent) rootSpot ≡ u → NodeFacts S P es own s u
+  pub next : (i : ℕ) (s : Spot) (x : ℕ) (xs : List ℕ) → i < length spots → getD spots i rootSpot ≡ s → s .filled ≡ false → chain S (s .at) (imageIn es (s .owner)) ≡ x ∷ xs → ChainChild spots i (s .owner) x
+  pub first : (q x : ℕ) (xs : List ℕ) → 0 < q → q < m → chain S (imageIn es (patternParent P q)) (imageIn es q) ≡ x ∷ xs → ChainChild spots (imageIn own (patternParent P q)) q x
+  pub ownLength : length own ≡ m
+  pub ownRoot : imageIn own 0 ≡ 0
+  pub ownInside : (q : ℕ) → q < m → imageIn own q < length spots
+  pub ownAt : (q : ℕ) → q < m → spotAt spots (imageIn own q) ≡ imageIn es q
+  pub ownOwner : (q : ℕ) → q < m → spotOwner spots (imageIn own q) ≡ q
+  pub ownUnfilled : (q : ℕ) → q < m → spotFilled spots (imageIn own q) ≡ false
+  -- in an owner's part no two nodes are on one path; a node's parent is its owner's too, or the node has the least path there
+  pub distinct : (i j : ℕ) → i < length spots → j < length spots → spotOwner spots i ≡ spotOwner spots j → spotAt spots i ≡ spotAt spots j → i ≡ j
+  pub least : (i : ℕ) → 0 < i → i < length spots → (spotOwner spots (spotParent spots i) ≡ spotOwner spots i) ⊎ Least spots i
+
+-- ---- the table goes on
+
+-- later begins with the nodes of spots
+pub record Extends (spots later : List Spot) : Type 0 where
+  pub longer : length spots ≤ length later
+  pub same : (i : ℕ) → i < length spots → getD later i rootSpot ≡ getD spots i rootSpot
+
+pub extends-refl : (spots : List Spot) → Extends spots spots
+extends-refl spots = record { longer = omega arith; same = λ i h. refl }
+
+pub extends-trans : {a b c : List Spot} → Extends a b → Extends b c → Extends a c
+extends-trans f g =
+    record {
+      longer = let l = f .longer in let k = g .longer in omega arith;
+      same = λ i h. g .same i (let l = f .longer in omega arith) ∙ f .same i h;
+    }
+
+pub extends-snoc : (spots : List Spot) (s : Spot) → Extends spots (spots ++ s ∷ [])
+extends-snoc spots s =
+    record {
+      longer = omega (arith, length-append spots (s ∷ []));
+      same = λ i h. List·getD-append spots (s ∷ []) rootSpot i h;
+    }
+
+pub length-snoc : (spots : List Spot) (s : Spot) → length (spots ++ s ∷ []) ≡ suc (length spots)
+length-snoc spots s = length-append spots (s ∷ []) ∙ omega arith
+
+pub last-snoc : (spots : List Spot) (s : Spot) → getD (spots ++ s ∷ []) (length spots) rootSpot ≡ s
+last-snoc spots s = getD-append-seam spots s [] rootSpot
+
+pub child-kept : {spots later : List Spot} {i j : ℕ} → Extends spots later → SpotChild spots i j → SpotChild later i j
+child-kept {j = j} f c =
+    record {
+      notRoot = c .notRoot;
+      inside = let l = f .longer in let h = c .inside in omega arith;
+      isParent = ap (λ (s : Spot). s .parent) (f .same j (c .inside)) ∙ c .isParent;
+    }
+
+pub chain-child-kept : {spots later : List Spot} {i q x : ℕ} → Extends spots later → ChainChild spots i q x → ChainChild later i q x
+chain-child-kept {spots} {later} f c =
+    let e : getD later (c .node) rootSpot ≡ getD spots (c .node) rootSpot = f .same (c .node) (c .child .inside) in
+    record {
+      node = c .node;
+      child = child-kept f (c .child);
+      owner = ap (λ (s : Spot). s .owner) e ∙ c .owner;
+      unfilled = ap (λ (s : Spot). s .filled) e ∙ c .unfilled;
+      on = ap (λ (s : Spot). s .at) e ∙ c .on;
+    }

@@ -1,0 +1,462 @@
+-- The first phase of a canonical document keeps the invariant: the root alone has it, and the chain of one more pattern node
+-- keeps it. Assumes nothing.
+use Prim.Native.Nat.{ℕ, zero, suc, _+_, _-_, _≤_, _<_}
+use mathlib.Core.Path.{_≡_, refl, sym, ap, _∙_, subst, subst₂, ap₂}
+use mathlib.Core.Bool.{Bool, true, false, false≢true}
+use mathlib.Core.Logic.{_⊎_, inl, inr}
+use mathlib.Core.List.{List, [], _∷_, _++_, tail, nil≢cons, head-eq-of-cons-eq, tail-eq-of-cons-eq}
+use native.Mathlib.Omega.{arith}
+use lib.Dec.{eqb, ltb}
+use lib.ListN.{length, getD, drop, length-append, length-drop, List·getD-append}
+use lib.Seq.{drop-cons, getD-append-seam}
+use borrow.Author.Tests.{eqb-true, eqb-false, ltb-true, ltb-false}
+use Rattle.model.specs.Tree.{IsTree, Child}
+use Rattle.model.specs.Summary.{Summary, asDocument, StrongEdge}
+use Rattle.model.specs.Pattern.{Pattern, PatternRecord, noPatternRecord, IsPatternTree, patternParent, Placement, descends}
+use Rattle.model.specs.Embeddings.{imageIn}
+use Rattle.model.specs.Canonical.{Spot, rootSpot, spotParent, spotAt, chainIn, chain, appendChain, Layout, layNode, layNodes, rootLayout, chains}
+use Rattle.model.proofs.TreeLaws.{edge-below}
+use Rattle.model.proofs.Chains.{Way, step, below-way, chain-way}
+use Rattle.model.proofs.Laid.{spotOwner, spotFilled, SpotChild, ChainChild}
+use Rattle.model.proofs.Built.{SpotFacts, ChainedTo, FirstOf, NodeFacts, Least, Built, Extends, chain-child-kept}
+use Rattle.model.proofs.Segment.{Segment, Appended, append-chain, SegmentNode, segment-node, segment-rises}
+
+-- ---- the root alone
+
+-- no chain leads down to the root
+chain-root : (S : Summary) (a : ℕ) → chain S a 0 ≡ []
+unfolding chain chainIn
+chain-root S a = refl
+
+pub root-built : (S : Summary) (P : Pattern) (es : List ℕ) → imageIn es 0 ≡ 0 → Built S P es 1 (rootSpot ∷ []) (0 ∷ [])
+root-built S P es z =
+    record {
+      some = omega arith;
+      root = refl;
+      spot = spot-at;
+      earlier = λ i p h. absurd (omega arith);
+      node = λ i s u p h e f. absurd (omega arith);
+      next = next-at;
+      first = λ q x xs p h e. absurd (omega arith);
+      ownLength = refl;
+      ownRoot = refl;
+      ownInside = own-inside;
+      ownAt = own-at;
+      ownOwner = own-owner;
+      ownUnfilled = own-unfilled;
+      distinct = λ i j h k o a. omega arith;
+      least = λ i p h. absurd (omega arith);
+    }
+  where
+    spot-zero : (s : Spot) → rootSpot ≡ s → SpotFacts S es (0 ∷ []) 1 0 s
+    spot-zero s e =
+        subst (λ (k : Spot). SpotFacts S es (0 ∷ []) 1 0 k) e
+        (record { owner = omega arith; chainEnd = λ f c. sym z; ownOnly = λ f a. refl })
+
+    spot-at : (i : ℕ) (s : Spot) → i < 1 → getD (rootSpot ∷ []) i rootSpot ≡ s → SpotFacts S es (0 ∷ []) 1 i s
+    spot-at zero s h e = spot-zero s e
+    spot-at (suc i) s h e = absurd (omega arith)
+
+    -- the chain from the root down to the root is empty
+    none : (s : Spot) (x : ℕ) (xs : List ℕ) → rootSpot ≡ s → chain S (s .at) (imageIn es (s .owner)) ≡ x ∷ xs → ⊥
+    none s x xs e c =
+        let c′ : chain S 0 (imageIn es 0) ≡ x ∷ xs = subst (λ (k : Spot). chain S (k .at) (imageIn es (k .owner)) ≡ x ∷ xs) (sym e) c in
+        nil≢cons (sym (chain-root S 0) ∙ subst (λ (k : ℕ). chain S 0 k ≡ x ∷ xs) z c′)
+
+    next-at : (i : ℕ) (s : Spot) (x : ℕ) (xs : List ℕ) → i < 1 → getD (rootSpot ∷ []) i rootSpot ≡ s → s .filled ≡ false
+        → chain S (s .at) (imageIn es (s .owner)) ≡ x ∷ xs → ChainChild (rootSpot ∷ []) i (s .owner) x
+    next-at zero s x xs h e f c = absurd (none s x xs e c)
+    next-at (suc i) s x xs h e f c = absurd (omega arith)
+
+    own-inside : (q : ℕ) → q < 1 → imageIn (0 ∷ []) q < 1
+    own-inside zero h = omega arith
+    own-inside (suc q) h = absurd (omega arith)
+
+    own-at : (q : ℕ) → q < 1 → spotAt (rootSpot ∷ []) (imageIn (0 ∷ []) q) ≡ imageIn es q
+    own-at zero h = sym z
+    own-at (suc q) h = absurd (omega arith)
+
+    own-owner : (q : ℕ) → q < 1 → spotOwner (rootSpot ∷ []) (imageIn (0 ∷ []) q) ≡ q
+    own-owner zero h = refl
+    own-owner (suc q) h = absurd (omega arith)
+
+    own-unfilled : (q : ℕ) → q < 1 → spotFilled (rootSpot ∷ []) (imageIn (0 ∷ []) q) ≡ false
+    own-unfilled zero h = refl
+    own-unfilled (suc q) h = absurd (omega arith)
+
+-- ---- one more pattern node
+
+-- what is known when pattern node m, hung from node v, is given the chain xs down to its image in the table T
+record Turn (S : Summary) (P : Pattern) (es : List ℕ) (m : ℕ) (spots : List Spot) (own : List ℕ) (v : ℕ) (xs : List ℕ) (T : List Spot) : Type 0 where
+  tree : IsTree (asDocument S)
+  ordered : IsPatternTree P
+  built : Built S P es m spots own
+  positive : 0 < m
+  inside : m < length P
+  hung : imageIn own (patternParent P m) ≡ v
+  way : Way (asDocument S) (imageIn es m) (imageIn es (patternParent P m)) xs
+  nonempty : 0 < length xs
+  appended : Appended m spots v xs T
+
+module _ {S : Summary} {P : Pattern} {es : List ℕ} {m : ℕ} {spots : List Spot} {own : List ℕ} {v : ℕ} {xs : List ℕ} {T : List Spot}
+    (t : Turn S P es m spots own v xs T) where
+  abbrev own′ : List ℕ
+  own′ = own ++ (length T - 1) ∷ []
+
+  parent-lt : patternParent P m < m
+  parent-lt = t .ordered .earlier m (t .positive) (t .inside)
+
+  v-inside : v < length spots
+  v-inside = subst (λ (k : ℕ). k < length spots) (t .hung) (t .built .ownInside (patternParent P m) parent-lt)
+
+  size : length T ≡ length spots + length xs
+  size = t .appended .size
+
+  -- an old node, or one of the new chain
+  side : (i : ℕ) → i < length T → (i < length spots) ⊎ ((length spots ≤ i) × (i < length spots + length xs))
+  side i h = go (ltb i (length spots)) refl
+    where
+      go : (b : Bool) → ltb i (length spots) ≡ b → (i < length spots) ⊎ ((length spots ≤ i) × (i < length spots + length xs))
+      go true e = inl (ltb-true i (length spots) e)
+      go false e = let z = size in inr (ltb-false i (length spots) e, omega arith)
+
+  same : (i : ℕ) → i < length spots → getD T i rootSpot ≡ getD spots i rootSpot
+  same = t .appended .extends .same
+
+  same-parent : (i : ℕ) → i < length spots → spotParent T i ≡ spotParent spots i
+  same-parent i l = ap (λ (s : Spot). s .parent) (same i l)
+
+  same-at : (i : ℕ) → i < length spots → spotAt T i ≡ spotAt spots i
+  same-at i l = ap (λ (s : Spot). s .at) (same i l)
+
+  same-owner : (i : ℕ) → i < length spots → spotOwner T i ≡ spotOwner spots i
+  same-owner i l = ap (λ (s : Spot). s .owner) (same i l)
+
+  v-at : spotAt T v ≡ imageIn es (patternParent P m)
+  v-at =
+      ap (λ (s : Spot). s .at) (same v v-inside)
+      ∙ subst (λ (k : ℕ). spotAt spots k ≡ imageIn es (patternParent P m)) (t .hung) (t .built .ownAt (patternParent P m) parent-lt)
+
+  new : (i : ℕ) → length spots ≤ i → i < length spots + length xs → SegmentNode S T m (imageIn es m) v (length spots) (length xs) i
+  new = segment-node S (t .tree) T m (imageIn es m) v (length spots) (t .way) v-at (t .appended .segment) (let z = size in omega arith)
+
+  rises : (i j : ℕ) → length spots ≤ i → i < j → j < length spots + length xs → spotAt T i < spotAt T j
+  rises = segment-rises S (t .tree) T m (imageIn es m) v (length spots) (t .way) v-at (t .appended .segment) (let z = size in omega arith)
+
+  -- own nodes so far keep their numbers, and the last new node is the next
+  own-old : (q : ℕ) → q < m → imageIn own′ q ≡ imageIn own q
+  own-old q h = List·getD-append own ((length T - 1) ∷ []) 0 q (let z = t .built .ownLength in omega arith)
+
+  own-new : imageIn own′ m ≡ length T - 1
+  own-new = subst (λ (k : ℕ). imageIn own′ k ≡ length T - 1) (t .built .ownLength) (getD-append-seam own (length T - 1) [] 0)
+
+  last-lower : length spots ≤ length T - 1
+  last-lower = let z = size in let k = t .nonempty in omega arith
+
+  last-upper : length T - 1 < length spots + length xs
+  last-upper = let z = size in let k = t .nonempty in omega arith
+
+  last-node : SegmentNode S T m (imageIn es m) v (length spots) (length xs) (length T - 1)
+  last-node = new (length T - 1) last-lower last-upper
+
+  old-owner : (i : ℕ) → i < length spots → spotOwner T i < m
+  old-owner i h = (t .built .spot i (getD T i rootSpot) h (sym (same i h))) .owner
+
+  -- spots
+  old-spot : {i : ℕ} {s : Spot} → SpotFacts S es own m i s → SpotFacts S es own′ (suc m) i s
+  old-spot {i} {s} f =
+      record {
+        owner = let h = f .owner in omega arith;
+        chainEnd = f .chainEnd;
+        ownOnly = λ p a. f .ownOnly p a ∙ sym (own-old (s .owner) (f .owner));
+      }
+
+  new-spot : (i : ℕ) → SegmentNode S T m (imageIn es m) v (length spots) (length xs) i → SpotFacts S es own′ (suc m) i (getD T i rootSpot)
+  new-spot i n =
+      let z : length T ≡ length spots + length xs = size in
+      record {
+        owner = rw (n .owner) (omega arith);
+        chainEnd = λ p c. n .lowest (subst (λ (k : ℕ). chain S (spotAt T i) (imageIn es k) ≡ []) (n .owner) c) ∙ ap (imageIn es) (sym (n .owner));
+        ownOnly = λ p a. only-at (n .last (a ∙ ap (imageIn es) (n .owner))) ∙ (sym own-new ∙ ap (imageIn own′) (sym (n .owner)));
+      }
+    where
+      only-at : suc i ≡ length spots + length xs → i ≡ length T - 1
+      only-at p = let z = size in omega arith
+
+  spot-of : (i : ℕ) (s : Spot) → i < length T → getD T i rootSpot ≡ s → SpotFacts S es own′ (suc m) i s
+  spot-of i s h e = go (side i h)
+    where
+      go : (i < length spots) ⊎ ((length spots ≤ i) × (i < length spots + length xs)) → SpotFacts S es own′ (suc m) i s
+      go (inl l) = old-spot (t .built .spot i s l (sym (same i l) ∙ e))
+      go (inr r) = subst (λ (k : Spot). SpotFacts S es own′ (suc m) i k) e (new-spot i (new i (r .0) (r .1)))
+
+  -- parents
+  earlier-of : (i : ℕ) → 0 < i → i < length T → spotParent T i < i
+  earlier-of i p h = go (side i h)
+    where
+      hung-lt : length spots ≤ i → ((i ≡ length spots) × (spotParent T i ≡ v)) ⊎ ((length spots ≤ spotParent T i) × (suc (spotParent T i) ≡ i)) → spotParent T i < i
+      hung-lt l (inl k) = let a = k .0 in let b = k .1 in let c = v-inside in omega arith
+      hung-lt l (inr k) = let b = k .1 in omega arith
+
+      go : (i < length spots) ⊎ ((length spots ≤ i) × (i < length spots + length xs)) → spotParent T i < i
+      go (inl l) = rw (same-parent i l) (t .built .earlier i p l)
+      go (inr r) = hung-lt (r .0) (new i (r .0) (r .1) .hangs)
+
+  -- nodes
+  old-node : {s u : Spot} → s .owner < m → NodeFacts S P es own s u → NodeFacts S P es own′ s u
+  old-node {s} {u} l f = record { edge = f .edge; filledUp = f .filledUp; chainUp = λ p. go (f .chainUp p) }
+    where
+      go : ChainedTo S es s u ⊎ FirstOf S P es own s → ChainedTo S es s u ⊎ FirstOf S P es own′ s
+      go (inl c) = inl c
+      go (inr c) =
+          let k : patternParent P (s .owner) < s .owner = t .ordered .earlier (s .owner) (c .owner) (let i = t .inside in omega arith) in
+          inr (record { owner = c .owner; hangs = c .hangs ∙ sym (own-old (patternParent P (s .owner)) (omega arith)); chained = c .chained })
+
+  new-node : (i : ℕ) → length spots ≤ i → i < length spots + length xs → NodeFacts S P es own′ (getD T i rootSpot) (getD T (spotParent T i) rootSpot)
+  new-node i l h =
+      record {
+        edge = n .edge;
+        filledUp = λ p. absurd (false≢true (sym (n .unfilled) ∙ p));
+        chainUp = λ p. up (n .hangs);
+      }
+    where
+      n : SegmentNode S T m (imageIn es m) v (length spots) (length xs) i
+      n = new i l h
+
+      up : ((i ≡ length spots) × (spotParent T i ≡ v)) ⊎ ((length spots ≤ spotParent T i) × (suc (spotParent T i) ≡ i))
+          → ChainedTo S es (getD T i rootSpot) (getD T (spotParent T i) rootSpot) ⊎ FirstOf S P es own′ (getD T i rootSpot)
+      up (inl k) =
+          inr (record {
+            owner = rw (n .owner) (t .positive);
+            hangs = k .1 ∙ (sym (t .hung) ∙ (sym (own-old (patternParent P m) parent-lt) ∙ ap (λ (q : ℕ). imageIn own′ (patternParent P q)) (sym (n .owner))));
+            chained = rw (n .owner, ← v-at, ← (k .1)) (n .chained);
+          })
+      up (inr k) =
+          let a = k .1 in
+          let p : SegmentNode S T m (imageIn es m) v (length spots) (length xs) (spotParent T i) = new (spotParent T i) (k .0) (omega arith) in
+          inl (record { owner = p .owner ∙ sym (n .owner); unfilled = p .unfilled; chained = rw (n .owner) (n .chained) })
+
+  node-of : (i : ℕ) (s u : Spot) → 0 < i → i < length T → getD T i rootSpot ≡ s → getD T (s .parent) rootSpot ≡ u → NodeFacts S P es own′ s u
+  node-of i s u p h e f = go (side i h)
+    where
+      old : i < length spots → NodeFacts S P es own′ s u
+      old l =
+          let e′ : getD spots i rootSpot ≡ s = sym (same i l) ∙ e in
+          let k : spotParent spots i < i = t .built .earlier i p l in
+          let k′ : s .parent < length spots = subst (λ (z : Spot). z .parent < length spots) e′ (omega arith) in
+          old-node (t .built .spot i s l e′ .owner) (t .built .node i s u p l e′ (sym (same (s .parent) k′) ∙ f))
+
+      go : (i < length spots) ⊎ ((length spots ≤ i) × (i < length spots + length xs)) → NodeFacts S P es own′ s u
+      go (inl l) = old l
+      go (inr r) =
+          let g : getD T (spotParent T i) rootSpot ≡ u = ap (λ (z : Spot). getD T (z .parent) rootSpot) e ∙ f in
+          subst₂ (λ (a b : Spot). NodeFacts S P es own′ a b) e g (new-node i (r .0) (r .1))
+
+  -- the next of a chain
+  next-of : (i : ℕ) (s : Spot) (y : ℕ) (ys : List ℕ) → i < length T → getD T i rootSpot ≡ s → s .filled ≡ false
+      → chain S (s .at) (imageIn es (s .owner)) ≡ y ∷ ys → ChainChild T i (s .owner) y
+  next-of i s y ys h e f c = go (side i h)
+    where
+      go : (i < length spots) ⊎ ((length spots ≤ i) × (i < length spots + length xs)) → ChainChild T i (s .owner) y
+      go (inl l) = chain-child-kept (t .appended .extends) (t .built .next i s y ys l (sym (same i l) ∙ e) f c)
+      go (inr r) =
+          let n : SegmentNode S T m (imageIn es m) v (length spots) (length xs) i = new i (r .0) (r .1) in
+          let o : s .owner ≡ m = ap (λ (z : Spot). z .owner) (sym e) ∙ n .owner in
+          let a : s .at ≡ spotAt T i = ap (λ (z : Spot). z .at) (sym e) in
+          rw o (n .next y ys (rw (← a, ← o) c))
+
+  -- the first of the new chain
+  first-new : (y : ℕ) (ys : List ℕ) → chain S (imageIn es (patternParent P m)) (imageIn es m) ≡ y ∷ ys → ChainChild T v m y
+  first-new y ys c =
+      let z = size in
+      let k = t .nonempty in
+      let b = t .built .some in
+      let p : xs ≡ y ∷ ys = sym (chain-way S (t .tree) (t .way)) ∙ c in
+      let g : Segment T m v (length spots) (y ∷ ys) = subst (λ (l : List ℕ). Segment T m v (length spots) l) p (t .appended .segment) in
+      record {
+        node = length spots;
+        child = record { notRoot = b; inside = omega arith; isParent = ap (λ (s : Spot). s .parent) (g .0) };
+        owner = ap (λ (s : Spot). s .owner) (g .0);
+        unfilled = ap (λ (s : Spot). s .filled) (g .0);
+        on = ap (λ (s : Spot). s .at) (g .0);
+      }
+
+  first-of : (q y : ℕ) (ys : List ℕ) → 0 < q → q < suc m → chain S (imageIn es (patternParent P q)) (imageIn es q) ≡ y ∷ ys
+      → ChainChild T (imageIn own′ (patternParent P q)) q y
+  first-of q y ys p h c = go (eqb q m) refl
+    where
+      go : (b : Bool) → eqb q m ≡ b → ChainChild T (imageIn own′ (patternParent P q)) q y
+      go true e =
+          let e′ : q ≡ m = eqb-true q m e in
+          rw (e′, own-old (patternParent P m) parent-lt, t .hung) (first-new y ys (rw (← e′) c))
+      go false e =
+          let ne : q ≡ m → ⊥ = eqb-false q m e in
+          let k : patternParent P q < q = t .ordered .earlier q p (let i = t .inside in omega arith) in
+          rw (own-old (patternParent P q) (omega arith)) (chain-child-kept (t .appended .extends) (t .built .first q y ys p (omega arith) c))
+
+  -- own nodes
+  own-of : (F : ℕ → ℕ → Type 0) → ((q : ℕ) → q < m → F q (imageIn own q)) → F m (length T - 1) → (q : ℕ) → q < suc m → F q (imageIn own′ q)
+  own-of F old last q h = go (eqb q m) refl
+    where
+      go : (b : Bool) → eqb q m ≡ b → F q (imageIn own′ q)
+      go true e = let e′ : q ≡ m = eqb-true q m e in rw (e′, own-new) last
+      go false e =
+          let ne : q ≡ m → ⊥ = eqb-false q m e in
+          let l : q < m = omega arith in
+          rw (own-old q l) (old q l)
+
+  -- no two nodes of an owner are on one path
+  new-distinct : (i j : ℕ) → length spots ≤ i → i < length spots + length xs → length spots ≤ j → j < length spots + length xs → spotAt T i ≡ spotAt T j → i ≡ j
+  new-distinct i j a b c d e = go (ltb i j) (ltb j i) refl refl
+    where
+      go : (p q : Bool) → ltb i j ≡ p → ltb j i ≡ q → i ≡ j
+      go true q x y = let r : spotAt T i < spotAt T j = rises i j a (ltb-true i j x) d in absurd (omega arith)
+      go false true x y = let r : spotAt T j < spotAt T i = rises j i c (ltb-true j i y) b in absurd (omega arith)
+      go false false x y = let k = ltb-false i j x in let l = ltb-false j i y in omega arith
+
+  apart : (i j : ℕ) → i < length spots → length spots ≤ j → j < length spots + length xs → spotOwner T i ≡ spotOwner T j → ⊥
+  apart i j l a b o =
+      let n = new j a b in
+      let p : spotOwner T j ≡ m = n .owner in
+      let q : spotOwner T i < m = old-owner i l in
+      omega arith
+
+  distinct-of : (i j : ℕ) → i < length T → j < length T → spotOwner T i ≡ spotOwner T j → spotAt T i ≡ spotAt T j → i ≡ j
+  distinct-of i j h k o a = go (side i h) (side j k)
+    where
+      Side : ℕ → Type 0
+      Side n = (n < length spots) ⊎ ((length spots ≤ n) × (n < length spots + length xs))
+
+      go : Side i → Side j → i ≡ j
+      go (inl p) (inl q) =
+          t .built .distinct i j p q (sym (same-owner i p) ∙ (o ∙ same-owner j q)) (sym (same-at i p) ∙ (a ∙ same-at j q))
+      go (inl p) (inr q) = absurd (apart i j p (q .0) (q .1) o)
+      go (inr p) (inl q) = absurd (apart j i q (p .0) (p .1) (sym o))
+      go (inr p) (inr q) = new-distinct i j (p .0) (p .1) (q .0) (q .1) a
+
+  least-of : (i : ℕ) → 0 < i → i < length T → (spotOwner T (spotParent T i) ≡ spotOwner T i) ⊎ Least T i
+  least-of i p h = go (side i h)
+    where
+      old-least : i < length spots → Least spots i → Least T i
+      old-least l f = record { least = λ j k o. at-j j o (side j k) }
+        where
+          at-j : (j : ℕ) → spotOwner T j ≡ spotOwner T i → (j < length spots) ⊎ ((length spots ≤ j) × (j < length spots + length xs)) → spotAt T i ≤ spotAt T j
+          at-j j o (inl q) = rw (same-at i l, same-at j q) (f .least j q (sym (same-owner j q) ∙ (o ∙ same-owner i l)))
+          at-j j o (inr q) = absurd (apart i j l (q .0) (q .1) (sym o))
+
+      old : i < length spots → (spotOwner spots (spotParent spots i) ≡ spotOwner spots i) ⊎ Least spots i → (spotOwner T (spotParent T i) ≡ spotOwner T i) ⊎ Least T i
+      old l (inl e) =
+          let k : spotParent spots i < i = t .built .earlier i p l in
+          inl (ap (spotOwner T) (same-parent i l) ∙ (same-owner (spotParent spots i) (omega arith) ∙ (e ∙ sym (same-owner i l))))
+      old l (inr f) = inr (old-least l f)
+
+      first-least : i ≡ length spots → length spots ≤ i → Least T i
+      first-least e l = record { least = λ j k o. at-j j o (side j k) }
+        where
+          n : SegmentNode S T m (imageIn es m) v (length spots) (length xs) i
+          n = new i l (let z = t .nonempty in omega arith)
+
+          below : (j : ℕ) → length spots ≤ j → j < length spots + length xs → (b : Bool) → ltb i j ≡ b → spotAt T i ≤ spotAt T j
+          below j a b true q = let r : spotAt T i < spotAt T j = rises i j l (ltb-true i j q) b in omega arith
+          below j a b false q =
+              let r : j ≤ i = ltb-false i j q in
+              let same-number : i ≡ j = omega arith in
+              rw same-number (omega arith)
+
+          at-j : (j : ℕ) → spotOwner T j ≡ spotOwner T i → (j < length spots) ⊎ ((length spots ≤ j) × (j < length spots + length xs)) → spotAt T i ≤ spotAt T j
+          at-j j o (inl q) = absurd (apart j i q l (let z = t .nonempty in omega arith) o)
+          at-j j o (inr q) = below j (q .0) (q .1) (ltb i j) refl
+
+      chained : length spots ≤ i → i < length spots + length xs → ((i ≡ length spots) × (spotParent T i ≡ v)) ⊎ ((length spots ≤ spotParent T i) × (suc (spotParent T i) ≡ i))
+          → (spotOwner T (spotParent T i) ≡ spotOwner T i) ⊎ Least T i
+      chained l b (inl k) = inr (first-least (k .0) l)
+      chained l b (inr k) = let a = k .1 in inl (new (spotParent T i) (k .0) (omega arith) .owner ∙ sym (new i l b .owner))
+
+      go : (i < length spots) ⊎ ((length spots ≤ i) × (i < length spots + length xs)) → (spotOwner T (spotParent T i) ≡ spotOwner T i) ⊎ Least T i
+      go (inl l) =
+          old l (t .built .least i p l)
+      go (inr r) = chained (r .0) (r .1) (new i (r .0) (r .1) .hangs)
+
+  turn-built : Built S P es (suc m) T own′
+  turn-built =
+      let z = size in
+      let k = t .built .some in
+      record {
+        some = omega arith;
+        root = same 0 k ∙ t .built .root;
+        spot = spot-of;
+        earlier = earlier-of;
+        node = node-of;
+        next = next-of;
+        first = first-of;
+        ownLength = length-append own ((length T - 1) ∷ []) ∙ (let l = t .built .ownLength in omega arith);
+        ownRoot = own-old 0 (t .positive) ∙ t .built .ownRoot;
+        ownInside = own-of (λ q i. i < length T) (λ q l. (let a = t .built .ownInside q l in omega arith)) (let a = last-upper in omega arith);
+        ownAt = own-of (λ q i. spotAt T i ≡ imageIn es q) (λ q l. ap (λ (s : Spot). s .at) (same (imageIn own q) (t .built .ownInside q l)) ∙ t .built .ownAt q l) (last-node .ends (let a = t .nonempty in omega arith));
+        ownOwner = own-of (λ q i. spotOwner T i ≡ q) (λ q l. ap (λ (s : Spot). s .owner) (same (imageIn own q) (t .built .ownInside q l)) ∙ t .built .ownOwner q l) (last-node .owner);
+        ownUnfilled = own-of (λ q i. spotFilled T i ≡ false) (λ q l. ap (λ (s : Spot). s .filled) (same (imageIn own q) (t .built .ownInside q l)) ∙ t .built .ownUnfilled q l) (last-node .unfilled);
+        distinct = distinct-of;
+        least = least-of;
+      }
+
+-- ---- all pattern nodes
+
+-- the layout after pattern node q, whose parent is p, as one function of these two numbers
+abbrev laid : Summary → List ℕ → Layout → ℕ → ℕ → Layout
+laid S es l q p =
+    let spots : List Spot = appendChain q (l .spots) (imageIn (l .own) p) (chain S (imageIn es p) (imageIn es q)) in
+    record { spots = spots; own = l .own ++ (length spots - 1) ∷ [] }
+
+layNode-laid : (S : Summary) (es : List ℕ) (l : Layout) (r : PatternRecord) → layNode es S l r ≡ laid S es l (length (l .own)) (r .parent)
+unfolding layNode
+layNode-laid S es l r = refl
+
+drop-one : (P : Pattern) → drop 1 P ≡ tail P
+drop-one [] = refl
+drop-one (r ∷ rs) = refl
+
+module _ (S : Summary) (P : Pattern) (es : List ℕ) (tree : IsTree (asDocument S)) (ordered : IsPatternTree P) (placed : Placement S P (imageIn es)) where
+  lay-node : (l : Layout) (m : ℕ) → Built S P es m (l .spots) (l .own) → 0 < m → m < length P
+      → Built S P es (suc m) (laid S es l m (patternParent P m) .spots) (laid S es l m (patternParent P m) .own)
+  lay-node l m b p h =
+      let a : ℕ = imageIn es (patternParent P m) in
+      let w : (x : ℕ) × (xs : List ℕ) × Way (asDocument S) (imageIn es m) a (x ∷ xs) =
+      below-way (edge-below (descends P m) (asDocument S) a (imageIn es m) (placed .edges m p h)) in
+      let c : chain S a (imageIn es m) ≡ w .0 ∷ w .1 = chain-way S tree (w .2) in
+      let v : ℕ = imageIn (l .own) (patternParent P m) in
+      let T : List ℕ → List Spot = λ xs. appendChain m (l .spots) v xs in
+      subst (λ (xs : List ℕ). Built S P es (suc m) (T xs) (l .own ++ (length (T xs) - 1) ∷ [])) (sym c)
+      (turn-built
+      (record {
+        tree = tree;
+        ordered = ordered;
+        built = b;
+        positive = p;
+        inside = h;
+        hung = refl;
+        way = w .2;
+        nonempty = omega arith;
+        appended = append-chain m (l .spots) v (w .0 ∷ w .1);
+      }))
+
+  lay-nodes : (rs : List PatternRecord) (l : Layout) (m : ℕ) → drop m P ≡ rs → Built S P es m (l .spots) (l .own) → 0 < m → m ≤ length P
+      → Built S P es (length P) (layNodes es S l rs .spots) (layNodes es S l rs .own)
+  unfolding layNodes
+  lay-nodes [] l m d b p h =
+      let k : length P - m ≡ 0 = sym (length-drop m P) ∙ ap (λ (z : List PatternRecord). length z) d in
+      subst (λ (n : ℕ). Built S P es n (l .spots) (l .own)) (omega arith) b
+  lay-nodes (r ∷ rs) l m d b p h =
+      let k : length P - m ≡ suc (length rs) = sym (length-drop m P) ∙ ap (λ (z : List PatternRecord). length z) d in
+      let i : m < length P = omega arith in
+      let e : getD P m noPatternRecord ∷ drop (suc m) P ≡ r ∷ rs = sym (drop-cons P m noPatternRecord i) ∙ d in
+      let f : layNode es S l r ≡ laid S es l m (patternParent P m) = step-eq (b .ownLength) (ap (λ (z : PatternRecord). z .parent) (sym (head-eq-of-cons-eq e))) in
+      lay-nodes rs (layNode es S l r) (suc m) (tail-eq-of-cons-eq e)
+      (subst (λ (z : Layout). Built S P es (suc m) (z .spots) (z .own)) (sym f) (lay-node l m b p i)) (omega arith) i
+    where
+      step-eq : length (l .own) ≡ m → r .parent ≡ patternParent P m → layNode es S l r ≡ laid S es l m (patternParent P m)
+      step-eq x y = layNode-laid S es l r ∙ ap₂ (laid S es l) x y
+
+  -- after the first phase every pattern node is laid out
+  pub chains-built : Built S P es (length P) (chains S P es .spots) (chains S P es .own)
+  unfolding chains
+  chains-built = lay-nodes (tail P) rootLayout 1 (drop-one P) (root-built S P es (placed .root)) (omega arith) (ordered .inhabited)

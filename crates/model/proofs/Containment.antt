@@ -1,0 +1,80 @@
+-- Containment is decided by canonical documents: every result of the first pattern in a fitting document passes exactly when the
+-- own nodes of each placement's canonical document pass. A canonical document is a fitting one, and a result anywhere is
+-- carried there from a canonical one. This for any way of passing that homomorphisms keep. The section's parameter `laid` is
+-- that the layout has the facts of proofs/Laid.antt. Assumes nothing else.
+use Prim.Native.Nat.{ℕ, _<_}
+use mathlib.Core.Path.{_≡_, sym, _∙_, subst}
+use mathlib.Core.Logic.{_↔_}
+use mathlib.Core.List.{List, map}
+use lib.ListN.{length}
+use Rattle.model.specs.Tree.{Document, IsTree, Hom}
+use Rattle.model.specs.Summary.{Summary, Fits}
+use Rattle.model.specs.Pattern.{Pattern, returnNodes, Result, ResultOfSome, Placement, Contained, ContainedIn}
+use Rattle.model.specs.Embeddings.{imageIn}
+use Rattle.model.specs.Canonical.{canonicalSpots, canonical, ownNodes, ownResult}
+use Rattle.model.specs.Facts.{SummaryFacts, PatternFacts}
+use Rattle.model.proofs.TreeLaws.{hom-result}
+use Rattle.model.proofs.Laid.{Laid}
+use Rattle.model.proofs.SpotLaws.{spotDocument}
+use Rattle.model.proofs.CanonicalFits.{laid-fits, laid-result}
+use Rattle.model.proofs.CanonicalHom.{pathsOf, length-paths, paths-image, paths-placed, laid-hom, own-result-carried}
+
+-- what passes in a tree passes where a homomorphism carries it
+pub record KeptByHoms (Passes : Document → List ℕ → Type 0) : Type 0 where
+  pub keeps : (W D : Document) (h : ℕ → ℕ) (r : List ℕ) → IsTree W → Hom W D h → Passes W r → Passes D (map h r)
+
+pub result-kept : (Q : Pattern) → KeptByHoms (Result Q)
+result-kept Q = record { keeps = λ W D h r t m p. hom-result p m }
+
+pub some-result-kept : (Qs : List Pattern) → KeptByHoms (ResultOfSome Qs)
+some-result-kept Qs = record { keeps = λ W D h r t m p. record { pattern = p .pattern; among = p .among; result = hom-result (p .result) m } }
+
+-- every placement's own nodes pass in its canonical document
+abbrev pub TrialsPass : Summary → Pattern → (Document → List ℕ → Type 0) → Type 0
+TrialsPass S P Passes = (es : List ℕ) → length es ≡ length P → Placement S P (imageIn es) → Passes (canonical S P es) (ownResult S P es)
+
+module _ {S : Summary} {P : Pattern} (f : SummaryFacts S) (g : PatternFacts P)
+    (laid : (es : List ℕ) → length es ≡ length P → Placement S P (imageIn es) → Laid S P es (canonicalSpots S P es) (ownNodes S P es)) where
+  pub canonical-fits : (es : List ℕ) → length es ≡ length P → Placement S P (imageIn es) → Fits S (canonical S P es)
+  unfolding canonical
+  canonical-fits es l m = laid-fits f (laid es l m)
+
+  pub canonical-result : (es : List ℕ) → length es ≡ length P → Placement S P (imageIn es) → Result P (canonical S P es) (ownResult S P es)
+  unfolding canonical ownResult
+  canonical-result es l m = laid-result (f .tree) (g .tree) m (laid es l m)
+
+  -- a result in a fitting document is carried there from the canonical document of its embedding's paths
+  pub result-carried : (W : Document) (r : List ℕ) → Fits S W → (k : Result P W r)
+      → (h : ℕ → ℕ) × Hom (canonical S P (pathsOf S P W (k .image))) W h × (map h (ownResult S P (pathsOf S P W (k .image))) ≡ r)
+  unfolding canonical ownResult
+  result-carried W r w k = go (laid-hom f (g .tree) w (k .embeds) (paths-image S P W (k .image)) (laid es (length-paths S P W (k .image)) (paths-placed f (g .tree) w (k .embeds))))
+    where
+      es : List ℕ
+      es = pathsOf S P W (k .image)
+
+      go : (h : ℕ → ℕ) × Hom (spotDocument S (canonicalSpots S P es)) W h × ((q : ℕ) → q < length P → h (imageIn (ownNodes S P es) q) ≡ k .image q)
+          → (h : ℕ → ℕ) × Hom (spotDocument S (canonicalSpots S P es)) W h × (map h (map (imageIn (ownNodes S P es)) (returnNodes P)) ≡ r)
+      go (h, m, a) = (h, m, sym (k .returns ∙ own-result-carried (k .image) h (ownNodes S P es) g a))
+
+  -- contained exactly when every trial passes
+  pub contained-trials : (Passes : Document → List ℕ → Type 0) → KeptByHoms Passes → ContainedIn S P Passes ↔ TrialsPass S P Passes
+  contained-trials Passes kept = (there, back)
+    where
+      there : ContainedIn S P Passes → TrialsPass S P Passes
+      there c es l m = c (canonical S P es) (canonical-fits es l m) (ownResult S P es) (canonical-result es l m)
+
+      back : TrialsPass S P Passes → ContainedIn S P Passes
+      back c W w r k =
+          let es : List ℕ = pathsOf S P W (k .image) in
+          let l : length es ≡ length P = length-paths S P W (k .image) in
+          let m : Placement S P (imageIn es) = paths-placed f (g .tree) w (k .embeds) in
+          let b = result-carried W r w k in
+          subst (Passes W) (b .2) (kept .keeps (canonical S P es) W (b .0) (ownResult S P es) (canonical-fits es l m .tree) (b .1) (c es l m))
+
+  -- in one second pattern
+  pub contained-in-one : (Q : Pattern) → Contained S P Q ↔ TrialsPass S P (Result Q)
+  contained-in-one Q = contained-trials (Result Q) (result-kept Q)
+
+  -- in several together
+  pub contained-in-some : (Qs : List Pattern) → ContainedIn S P (ResultOfSome Qs) ↔ TrialsPass S P (ResultOfSome Qs)
+  contained-in-some Qs = contained-trials (ResultOfSome Qs) (some-result-kept Qs)

@@ -1,0 +1,238 @@
+-- The test of fitting says exactly `Fits`: a path map that stays inside the summary is a homomorphism, which gives each node
+-- its path, and the rest is test by test what the definition asks. Assumes nothing.
+use Prim.Native.Nat.{ℕ, zero, suc, _<_}
+use mathlib.Core.Path.{_≡_, refl, sym, ap, _∙_, subst}
+use mathlib.Core.Bool.{Bool, true, false, _&&_}
+use mathlib.Core.Logic.{_⊎_, inl, inr, _↔_}
+use mathlib.Core.List.{List, [], _∷_, List·Memᴰ, List·Memᴰ·head, List·Memᴰ·tail, List·Memᴰ·not-nil, List·Memᴰ·cases-cons}
+use native.Mathlib.Omega.{arith}
+use lib.Dec.{eqb, ltb}
+use lib.ListN.{length, getD}
+use borrow.Author.Tests.{ltb-true, eqb-true, lt-ltb, eq-eqb}
+use Rattle.model.specs.Lists.{upFrom, keep, anyOf, allOf}
+use Rattle.model.specs.Tree.{Rooted, Document, IsTree, parentOf, labelOf, Child, Hom}
+use Rattle.model.specs.Summary.{Summary, asDocument, noSummaryRecord, StrongEdge, OnPath, Fits}
+use Rattle.model.specs.Facts.{SummaryFacts}
+use Rattle.model.specs.Embeddings.{childTest}
+use Rattle.model.specs.Fitting.{parentRule, isRooted, strongChildren, pathMap, strongKept, fits}
+use Rattle.model.proofs.ListLaws.{and-intro, and-left, and-right, all-intro, all-elim, keep-intro, keep-elim, all-below, below-all, any-below, below-any, mem-upFrom, upFrom-mem}
+use Rattle.model.proofs.TreeLaws.{length-asDocument, test-child, child-test}
+use Rattle.model.proofs.Paths.{pathIn, on-path-unique, hom-on-path, length-pathMap, inside-hom, path-hom, path-on}
+
+-- ---- trees
+
+-- the test of a table says exactly that it is a rooted tree
+pub rooted-exact : (n : ℕ) (parent : ℕ → ℕ) → (isRooted n parent ≡ true) ↔ Rooted n parent
+unfolding isRooted parentRule
+rooted-exact n parent = (forth, back)
+  where
+    forth : (ltb 0 n && allOf (λ i. parentRule i (parent i)) (upFrom 0 n)) ≡ true → Rooted n parent
+    forth e =
+        let some = ltb-true 0 n (and-left (ltb 0 n) (allOf (λ i. parentRule i (parent i)) (upFrom 0 n)) e) in
+        let each = all-below (λ i. parentRule i (parent i)) n (and-right (ltb 0 n) (allOf (λ i. parentRule i (parent i)) (upFrom 0 n)) e) in
+        record {
+          inhabited = some;
+          root = eqb-true (parent 0) 0 (each 0 some);
+          earlier = earlier each;
+        }
+      where
+        earlier : ((i : ℕ) → i < n → parentRule i (parent i) ≡ true) → (i : ℕ) → 0 < i → i < n → parent i < i
+        earlier each zero p l = absurd (omega arith)
+        earlier each (suc i) p l = ltb-true (parent (suc i)) (suc i) (each (suc i) l)
+
+    rule : Rooted n parent → (i : ℕ) → i < n → parentRule i (parent i) ≡ true
+    rule r zero l = eq-eqb (parent 0) 0 (r .root)
+    rule r (suc i) l = lt-ltb (parent (suc i)) (suc i) (r .earlier (suc i) (omega arith) l)
+
+    back : Rooted n parent → (ltb 0 n && allOf (λ i. parentRule i (parent i)) (upFrom 0 n)) ≡ true
+    back r = and-intro (lt-ltb 0 n (r .inhabited)) (below-all (λ i. parentRule i (parent i)) n (rule r))
+
+-- ---- entries of a list by their numbers
+
+module _ {A : Type 0} where
+  pub getD-mem : (xs : List A) (i : ℕ) (d : A) → i < length xs → List·Memᴰ (getD xs i d) xs
+  getD-mem [] i d l = absurd (omega arith)
+  getD-mem (x ∷ xs) zero d l = List·Memᴰ·head refl
+  getD-mem (x ∷ xs) (suc i) d l = List·Memᴰ·tail (getD-mem xs i d (omega arith))
+
+  pub mem-getD : (xs : List A) (x d : A) → List·Memᴰ x xs → (i : ℕ) × (i < length xs) × (getD xs i d ≡ x)
+  mem-getD [] x d m = absurd (List·Memᴰ·not-nil m)
+  mem-getD (y ∷ ys) x d m = go (List·Memᴰ·cases-cons m) (λ p. mem-getD ys x d p)
+    where
+      go : (x ≡ y) ⊎ List·Memᴰ x ys → (List·Memᴰ x ys → (i : ℕ) × (i < length ys) × (getD ys i d ≡ x)) → (i : ℕ) × (i < length (y ∷ ys)) × (getD (y ∷ ys) i d ≡ x)
+      go (inl p) rest = (0, omega arith, sym p)
+      go (inr p) rest = let r = rest p in (suc (r .0), (let l : r .0 < length ys = r .1 in omega arith), r .2)
+
+-- what is kept of a range ascends
+pub keep-range-ascends : (test : ℕ → Bool) (a n i j : ℕ) → i < j → j < length (keep test (upFrom a n)) → getD (keep test (upFrom a n)) i 0 < getD (keep test (upFrom a n)) j 0
+unfolding keep upFrom
+keep-range-ascends test a zero i j h l = absurd (omega arith)
+keep-range-ascends test a (suc n) i j h l = go (test a) i j h l (keep-range-ascends test (suc a) n)
+  where
+    rest : List ℕ
+    rest = keep test (upFrom (suc a) n)
+
+    after : (k : ℕ) → k < length rest → a < getD rest k 0
+    after k p =
+        let m = keep-elim test (getD rest k 0) (upFrom (suc a) n) (getD-mem rest k 0 p) .0 in
+        upFrom-mem (suc a) n (getD rest k 0) m .0
+
+    kept : Bool → List ℕ
+    kept t = elim t [ true ↦ a ∷ rest | false ↦ rest ]
+
+    go : (t : Bool) (i j : ℕ) → i < j → j < length (kept t) → ((i j : ℕ) → i < j → j < length rest → getD rest i 0 < getD rest j 0) → getD (kept t) i 0 < getD (kept t) j 0
+    go false i j h l up = up i j h l
+    go true i zero h l up = absurd (omega arith)
+    go true zero (suc j) h l up = after j (omega arith)
+    go true (suc i) (suc j) h l up = up i j (omega arith) (omega arith)
+
+-- ---- strong edges
+
+-- the strong children listed are exactly the ends of the strong edges
+pub strong-children-exact : (S : Summary) (s t : ℕ) → List·Memᴰ t (strongChildren S s) ↔ StrongEdge S s t
+unfolding strongChildren
+strong-children-exact S s t = (forth, back)
+  where
+    test : ℕ → Bool
+    test u = childTest (asDocument S) s u && eqb (getD S u noSummaryRecord .strong) 1
+
+    forth : List·Memᴰ t (keep test (upFrom 0 (length S))) → StrongEdge S s t
+    forth m =
+        let e = keep-elim test t (upFrom 0 (length S)) m .1 in
+        record {
+          child = test-child (asDocument S) s t (and-left (childTest (asDocument S) s t) (eqb (getD S t noSummaryRecord .strong) 1) e);
+          strong = eqb-true (getD S t noSummaryRecord .strong) 1 (and-right (childTest (asDocument S) s t) (eqb (getD S t noSummaryRecord .strong) 1) e);
+        }
+
+    back : StrongEdge S s t → List·Memᴰ t (keep test (upFrom 0 (length S)))
+    back g =
+        let size : length (asDocument S) ≡ length S = length-asDocument S in
+        let low : t < length (asDocument S) = g .child .inside in
+        keep-intro test t (upFrom 0 (length S)) (mem-upFrom 0 (length S) t (omega arith) (omega arith)) (and-intro (child-test (g .child)) (eq-eqb (getD S t noSummaryRecord .strong) 1 (g .strong)))
+
+-- they are in outline order
+pub strong-children-ascend : (S : Summary) (s i j : ℕ) → i < j → j < length (strongChildren S s) → getD (strongChildren S s) i 0 < getD (strongChildren S s) j 0
+unfolding strongChildren
+strong-children-ascend S s i j h l = keep-range-ascends (λ t. childTest (asDocument S) s t && eqb (getD S t noSummaryRecord .strong) 1) 0 (length S) i j h l
+
+-- ---- fitting
+
+-- the path map stays inside the summary
+pub paths-inside-exact : (S : Summary) (W : Document) → (allOf (λ m. ltb m (length S)) (pathMap S W) ≡ true) ↔ ((i : ℕ) → i < length W → pathIn S W i < length S)
+paths-inside-exact S W = (forth, back)
+  where
+    size : length (pathMap S W) ≡ length W
+    size = length-pathMap S W
+
+    forth : allOf (λ m. ltb m (length S)) (pathMap S W) ≡ true → (i : ℕ) → i < length W → pathIn S W i < length S
+    forth e i l = ltb-true (pathIn S W i) (length S) (all-elim (λ m. ltb m (length S)) (pathMap S W) e (pathIn S W i) (getD-mem (pathMap S W) i 0 (omega (arith, size))))
+
+    back : ((i : ℕ) → i < length W → pathIn S W i < length S) → allOf (λ m. ltb m (length S)) (pathMap S W) ≡ true
+    back h = all-intro (λ m. ltb m (length S)) (pathMap S W) each
+      where
+        each : (m : ℕ) → List·Memᴰ m (pathMap S W) → ltb m (length S) ≡ true
+        each m k =
+            let r = mem-getD (pathMap S W) m 0 k in
+            let l : r .0 < length (pathMap S W) = r .1 in
+            lt-ltb m (length S) (subst (λ (x : ℕ). x < length S) (r .2) (h (r .0) (omega (arith, size))))
+
+-- node i has a child on the other end of each strong edge from its path
+pub strong-kept-exact : (S : Summary) (W : Document) (i : ℕ) → (strongKept S W i ≡ true) ↔ ((t : ℕ) → StrongEdge S (pathIn S W i) t → (j : ℕ) × Child W i j × (pathIn S W j ≡ t))
+unfolding strongKept
+strong-kept-exact S W i = (forth, back)
+  where
+    test : ℕ → ℕ → Bool
+    test t j = childTest W i j && eqb (pathIn S W j) t
+
+    forth : allOf (λ t. anyOf (test t) (upFrom 0 (length W))) (strongChildren S (pathIn S W i)) ≡ true → (t : ℕ) → StrongEdge S (pathIn S W i) t → (j : ℕ) × Child W i j × (pathIn S W j ≡ t)
+    forth e t g =
+        let some = all-elim (λ t. anyOf (test t) (upFrom 0 (length W))) (strongChildren S (pathIn S W i)) e t (strong-children-exact S (pathIn S W i) t .1 g) in
+        let r = any-below (test t) (length W) some in
+        (r .0, test-child W i (r .0) (and-left (childTest W i (r .0)) (eqb (pathIn S W (r .0)) t) (r .2)), eqb-true (pathIn S W (r .0)) t (and-right (childTest W i (r .0)) (eqb (pathIn S W (r .0)) t) (r .2)))
+
+    back : ((t : ℕ) → StrongEdge S (pathIn S W i) t → (j : ℕ) × Child W i j × (pathIn S W j ≡ t)) → allOf (λ t. anyOf (test t) (upFrom 0 (length W))) (strongChildren S (pathIn S W i)) ≡ true
+    back h = all-intro (λ t. anyOf (test t) (upFrom 0 (length W))) (strongChildren S (pathIn S W i)) each
+      where
+        each : (t : ℕ) → List·Memᴰ t (strongChildren S (pathIn S W i)) → anyOf (test t) (upFrom 0 (length W)) ≡ true
+        each t m =
+            let r = h t (strong-children-exact S (pathIn S W i) t .0 m) in
+            below-any (test t) (length W) (r .0) (r .1 .inside) (and-intro (child-test (r .1)) (eq-eqb (pathIn S W (r .0)) t (r .2)))
+
+-- what the three tests of fitting say together
+record Tested (S : Summary) (W : Document) : Type 0 where
+  tree : IsTree W
+  inside : (i : ℕ) → i < length W → pathIn S W i < length S
+  strong : (i : ℕ) → i < length W → (t : ℕ) → StrongEdge S (pathIn S W i) t → (j : ℕ) × Child W i j × (pathIn S W j ≡ t)
+
+tested-exact : (S : Summary) (W : Document) → (fits S W ≡ true) ↔ Tested S W
+unfolding fits
+tested-exact S W = (forth, back)
+  where
+    a : Bool
+    a = isRooted (length W) (parentOf W)
+
+    b : Bool
+    b = allOf (λ m. ltb m (length S)) (pathMap S W)
+
+    c : Bool
+    c = allOf (strongKept S W) (upFrom 0 (length W))
+
+    forth : (a && b && c) ≡ true → Tested S W
+    forth e =
+        record {
+          tree = rooted-exact (length W) (parentOf W) .0 (and-left a b (and-left (a && b) c e));
+          inside = paths-inside-exact S W .0 (and-right a b (and-left (a && b) c e));
+          strong = λ i l. strong-kept-exact S W i .0 (all-below (strongKept S W) (length W) (and-right (a && b) c e) i l);
+        }
+
+    back : Tested S W → (a && b && c) ≡ true
+    back w =
+        and-intro (and-intro (rooted-exact (length W) (parentOf W) .1 (w .tree)) (paths-inside-exact S W .1 (w .inside)))
+        (below-all (strongKept S W) (length W) (λ i l. strong-kept-exact S W i .1 (w .strong i l)))
+
+tested-fits : {S : Summary} {W : Document} → SummaryFacts S → Tested S W → Fits S W
+tested-fits {S} {W} f w =
+    record {
+      tree = w .tree;
+      root = sym (hom .labels 0 (w .tree .inhabited)) ∙ ap (λ (k : ℕ). labelOf (asDocument S) k) (hom .root);
+      paths = λ i l. (pathIn S W i, w .inside i l, on i l);
+      strong = strong;
+    }
+  where
+    hom : Hom W (asDocument S) (pathIn S W)
+    hom = inside-hom S W (w .tree) (w .inside)
+
+    on : (i : ℕ) → i < length W → OnPath S W i (pathIn S W i)
+    on i l = hom-on-path (w .tree) hom i l
+
+    strong : (i s t : ℕ) → i < length W → s < length S → OnPath S W i s → StrongEdge S s t → (j : ℕ) × Child W i j × OnPath S W j t
+    strong i s t l k o g =
+        let e : pathIn S W i ≡ s = on-path-unique f (w .inside i l) k (on i l) o in
+        let r = w .strong i l t (subst (λ (x : ℕ). StrongEdge S x t) (sym e) g) in
+        (r .0, r .1, subst (λ (x : ℕ). OnPath S W (r .0) x) (r .2) (on (r .0) (r .1 .inside)))
+
+fits-tested : {S : Summary} {W : Document} → SummaryFacts S → Fits S W → Tested S W
+fits-tested {S} {W} f w =
+    record {
+      tree = w .tree;
+      inside = inside;
+      strong = strong;
+    }
+  where
+    hom : Hom W (asDocument S) (pathIn S W)
+    hom = path-hom f w
+
+    size : length (asDocument S) ≡ length S
+    size = length-asDocument S
+
+    inside : (i : ℕ) → i < length W → pathIn S W i < length S
+    inside i l = subst (λ (n : ℕ). pathIn S W i < n) size (hom .inside i l)
+
+    strong : (i : ℕ) → i < length W → (t : ℕ) → StrongEdge S (pathIn S W i) t → (j : ℕ) × Child W i j × (pathIn S W j ≡ t)
+    strong i l t g =
+        let r = w .strong i (pathIn S W i) t l (inside i l) (hom-on-path (w .tree) hom i l) g in
+        (r .0, r .1, path-on f w (r .0) t (r .1 .inside) (subst (λ (n : ℕ). t < n) size (g .child .inside)) (r .2))
+
+-- the test of fitting says exactly that the document fits
+pub fits-exact : {S : Summary} → SummaryFacts S → (W : Document) → (fits S W ≡ true) ↔ Fits S W
+fits-exact {S} f W = (λ e. tested-fits f (tested-exact S W .0 e), λ w. tested-exact S W .1 (fits-tested f w))

@@ -1,0 +1,227 @@
+-- What is read off the list of embeddings says what document 01's words say: results, nodes at a position in any result, paths
+-- and their masks. True because the list holds exactly the embeddings. Assumes nothing.
+use Prim.Native.Nat.{ℕ, _-_, _^_, _≤_, _<_}
+use mathlib.Core.Path.{_≡_, refl, sym, ap, _∙_, subst}
+use mathlib.Core.Bool.{Bool, true, false}
+use mathlib.Core.Logic.{_⊎_, inl, inr, _↔_}
+use mathlib.Core.List.{List, [], _∷_, map, List·Memᴰ, List·Memᴰ·head, List·Memᴰ·tail, List·Memᴰ·not-nil, List·Memᴰ·cases-cons}
+use native.Mathlib.Omega.{arith}
+use lib.Dec.{eqb, ltb}
+use lib.ListN.{length, getD, length-map}
+use native.Mathlib.Nat.{le-trans}
+use lib.Pow.{pow-pos, pow-mono}
+use lib.Count.{ones, trailingZeros}
+use borrow.Author.Tests.{eqb-true, eq-eqb, lt-ltb, le-ltb, ltb-true, ltb-false}
+use Rattle.model.specs.Lists.{upFrom, anyOf, sameList, maskBelow, countBelow}
+use Rattle.model.specs.Tree.{Document, IsTree}
+use Rattle.model.specs.Summary.{Summary, asDocument}
+use Rattle.model.specs.Pattern.{Pattern, IsPatternTree, arity, nodeAt, returnNodes, Embeds, Result, PathOf, AtPosition}
+use Rattle.model.specs.Embeddings.{embeddings, placements, imageIn, isResult, isAt, nodesAt, isPath, pathMask, pathCount}
+use Rattle.model.specs.Facts.{SummaryFacts, PatternFacts}
+use Rattle.model.proofs.ListLaws.{not-both, length-upFrom, getD-upFrom, upFrom-mem, mem-upFrom, any-intro, any-elim, keep-intro, keep-elim, same-eq, eq-same}
+use Rattle.model.proofs.TreeLaws.{length-asDocument}
+use Rattle.model.proofs.Ascending.{Ascending, ascending-unique, ascending-keep, ascending-upFrom}
+use Rattle.model.proofs.Embeddings.{getD-map, embeddings-sound, imagesOf, image-imagesOf, embeddings-complete}
+use Rattle.model.proofs.Masks.{has, has-past, mask-lt, mask-below, mask-none, ones-mask, Least, mask-least}
+
+-- ---- map
+
+module _ {A B : Type 0} where
+  pub map-elim : (f : A → B) (xs : List A) (y : B) → List·Memᴰ y (map f xs) → (x : A) × List·Memᴰ x xs × (y ≡ f x)
+  map-elim f [] y m = absurd (List·Memᴰ·not-nil m)
+  map-elim f (x ∷ xs) y m = go (List·Memᴰ·cases-cons m) (λ n. map-elim f xs y n)
+    where
+      go : (y ≡ f x) ⊎ List·Memᴰ y (map f xs) → (List·Memᴰ y (map f xs) → (z : A) × List·Memᴰ z xs × (y ≡ f z)) → (z : A) × List·Memᴰ z (x ∷ xs) × (y ≡ f z)
+      go (inl e) rest = (x, List·Memᴰ·head refl, e)
+      go (inr n) rest = let r = rest n in (r .0, List·Memᴰ·tail (r .1), r .2)
+
+  pub map-agree : (f g : A → B) (xs : List A) → ((x : A) → List·Memᴰ x xs → f x ≡ g x) → map f xs ≡ map g xs
+  map-agree f g [] h = refl
+  map-agree f g (x ∷ xs) h = cc (h x (List·Memᴰ·head refl), map-agree f g xs (λ y m. h y (List·Memᴰ·tail m)))
+
+-- ---- results
+
+-- the return nodes are nodes of the pattern
+pub return-inside : {P : Pattern} → PatternFacts P → (q : ℕ) → List·Memᴰ q (returnNodes P) → q < length P
+return-inside {P} f q m =
+    let r = map-elim (nodeAt P) (upFrom 1 (arity P)) q m in
+    let k = upFrom-mem 1 (arity P) (r .0) (r .1) in
+    subst (λ (x : ℕ). x < length P) (sym (r .2)) (f .holds (r .0) (k .0) (omega arith))
+
+-- at place p - 1 stands the node that holds position p
+pub return-at : (P : Pattern) (p : ℕ) → 1 ≤ p → p ≤ arity P → getD (returnNodes P) (p - 1) 0 ≡ nodeAt P p
+return-at P p h k =
+    let l : length (upFrom 1 (arity P)) ≡ arity P = length-upFrom 1 (arity P) in
+    getD-map (nodeAt P) (upFrom 1 (arity P)) (p - 1) 0 0 (omega arith) ∙ ap (nodeAt P) (getD-upFrom 1 (arity P) (p - 1) 0 (omega arith) ∙ omega arith)
+
+pub length-returnNodes : (P : Pattern) → length (returnNodes P) ≡ arity P
+length-returnNodes P = length-map (upFrom 1 (arity P)) (nodeAt P) ∙ length-upFrom 1 (arity P)
+
+-- the test says whether the list is a result, as one list
+pub result-exact : {P : Pattern} {W : Document} (r : List ℕ) → PatternFacts P → IsTree W → (isResult P W r ≡ true) ↔ Result P W r
+unfolding isResult
+result-exact {P} {W} r f u = (sound, complete)
+  where
+    sound : anyOf (λ es. sameList r (map (imageIn es) (returnNodes P))) (embeddings P W) ≡ true → Result P W r
+    sound e =
+        let x = any-elim (λ es. sameList r (map (imageIn es) (returnNodes P))) (embeddings P W) e in
+        record { image = imageIn (x .0); embeds = embeddings-sound (f .tree) u (x .1) .1; returns = same-eq r (map (imageIn (x .0)) (returnNodes P)) (x .2) }
+
+    -- an embedding and the list of its images give the same result
+    agree : (e : ℕ → ℕ) → map e (returnNodes P) ≡ map (imageIn (imagesOf P e)) (returnNodes P)
+    agree e = map-agree e (imageIn (imagesOf P e)) (returnNodes P) (λ q n. sym (image-imagesOf P e q (return-inside f q n)))
+
+    complete : Result P W r → anyOf (λ es. sameList r (map (imageIn es) (returnNodes P))) (embeddings P W) ≡ true
+    complete m =
+        any-intro (λ es. sameList r (map (imageIn es) (returnNodes P))) (imagesOf P (m .image)) (embeddings P W) (embeddings-complete (f .tree) u (m .embeds))
+        (eq-same r (map (imageIn (imagesOf P (m .image))) (returnNodes P)) (m .returns ∙ agree (m .image)))
+
+-- ---- what one node takes
+
+-- some listed embedding takes q to v where some embedding does
+pub takes-exact : {P : Pattern} {W : Document} (q v : ℕ) → IsPatternTree P → IsTree W → q < length P
+    → (anyOf (λ es. eqb (imageIn es q) v) (embeddings P W) ≡ true) ↔ ((e : ℕ → ℕ) × Embeds P W e × (e q ≡ v))
+takes-exact {P} {W} q v t u h = (sound, complete)
+  where
+    sound : anyOf (λ es. eqb (imageIn es q) v) (embeddings P W) ≡ true → (e : ℕ → ℕ) × Embeds P W e × (e q ≡ v)
+    sound e =
+        let x = any-elim (λ es. eqb (imageIn es q) v) (embeddings P W) e in
+        (imageIn (x .0), embeddings-sound t u (x .1) .1, eqb-true (imageIn (x .0) q) v (x .2))
+
+    complete : (e : ℕ → ℕ) × Embeds P W e × (e q ≡ v) → anyOf (λ es. eqb (imageIn es q) v) (embeddings P W) ≡ true
+    complete m =
+        any-intro (λ es. eqb (imageIn es q) v) (imagesOf P (m .0)) (embeddings P W) (embeddings-complete t u (m .1))
+        (eq-eqb (imageIn (imagesOf P (m .0)) q) v (image-imagesOf P (m .0) q h ∙ m .2))
+
+-- ---- nodes at a position
+
+-- the test says whether v is at position p in some result
+module _ {P : Pattern} {W : Document} (p v : ℕ) (f : PatternFacts P) (u : IsTree W) (low : 1 ≤ p) (top : p ≤ arity P) where
+  pub at-position-exact : (isAt P W p v ≡ true) ↔ AtPosition P W p v
+  unfolding isAt
+  at-position-exact =
+      let h = takes-exact (nodeAt P p) v (f .tree) u (f .holds p low top) in
+      (λ e. (let x = h .0 e in record { image = x .0; embeds = x .1; takes = x .2 }), λ m. h .1 (m .image, m .embeds, m .takes))
+
+  -- the list of nodes at a position holds exactly those at that position
+  pub nodes-at-exact : List·Memᴰ v (nodesAt P W p) ↔ AtPosition P W p v
+  unfolding nodesAt
+  nodes-at-exact = (λ m. at-position-exact .0 (keep-elim (isAt P W p) v (upFrom 0 (length W)) m .1), back)
+    where
+      back : AtPosition P W p v → List·Memᴰ v (nodesAt P W p)
+      back m =
+          let i : v < length W = subst (λ (x : ℕ). x < length W) (m .takes) (m .embeds .inside (nodeAt P p) (f .holds p low top)) in
+          keep-intro (isAt P W p) v (upFrom 0 (length W)) (mem-upFrom 0 (length W) v (omega arith) (omega arith)) (at-position-exact .1 m)
+
+-- to be at position p is to stand at place p - 1 of some result
+pub at-position-result : {P : Pattern} {W : Document} (p v : ℕ) → 1 ≤ p → p ≤ arity P → AtPosition P W p v ↔ ((r : List ℕ) × Result P W r × (getD r (p - 1) 0 ≡ v))
+at-position-result {P} {W} p v h k = (
+  λ m. (map (m .image) (returnNodes P), record { image = m .image; embeds = m .embeds; returns = refl }, place (m .image) ∙ m .takes),
+  λ m. record { image = m .1 .image; embeds = m .1 .embeds; takes = sym (place (m .1 .image)) ∙ ap (λ (r : List ℕ). getD r (p - 1) 0) (sym (m .1 .returns)) ∙ m .2 },
+)
+  where
+    place : (e : ℕ → ℕ) → getD (map e (returnNodes P)) (p - 1) 0 ≡ e (nodeAt P p)
+    place e =
+        let l : length (returnNodes P) ≡ arity P = length-returnNodes P in
+        getD-map e (returnNodes P) (p - 1) 0 0 (omega arith) ∙ ap e (return-at P p h k)
+
+-- the nodes at a position are written ascending, and are nodes of the document
+pub nodes-at-ascending : (P : Pattern) (W : Document) (p : ℕ) → Ascending _<_ (nodesAt P W p)
+unfolding nodesAt
+nodes-at-ascending P W p = ascending-keep _<_ (isAt P W p) (upFrom 0 (length W)) (ascending-upFrom 0 (length W))
+
+pub nodes-at-inside : (P : Pattern) (W : Document) (p v : ℕ) → List·Memᴰ v (nodesAt P W p) → v < length W
+unfolding nodesAt
+nodes-at-inside P W p v m = let k = upFrom-mem 0 (length W) v (keep-elim (isAt P W p) v (upFrom 0 (length W)) m .0) in omega arith
+
+-- so this is the only ascending list that holds exactly the nodes at the position
+pub nodes-at-unique : {P : Pattern} {W : Document} (p : ℕ) (vs : List ℕ) → PatternFacts P → IsTree W → 1 ≤ p → p ≤ arity P → Ascending _<_ vs
+    → ((v : ℕ) → List·Memᴰ v vs ↔ AtPosition P W p v) → vs ≡ nodesAt P W p
+nodes-at-unique {P} {W} p vs f u low top a h =
+    ascending-unique _<_ (λ x y l k. absurd (omega arith)) vs (nodesAt P W p) a (nodes-at-ascending P W p)
+    (λ v. (λ m. nodes-at-exact p v f u low top .1 (h v .0 m), λ m. h v .1 (nodes-at-exact p v f u low top .0 m)))
+
+-- ---- paths
+
+-- the test says whether s is one of the paths of selection node q
+pub path-exact : {S : Summary} {P : Pattern} (q s : ℕ) → IsPatternTree P → SummaryFacts S → q < length P → (isPath S P q s ≡ true) ↔ PathOf S P q s
+unfolding isPath
+path-exact q s t f h =
+    let k = takes-exact q s t (f .tree) h in
+    (λ e. (let x = k .0 e in record { image = x .0; places = x .1; takes = x .2 }), λ m. k .1 (m .image, m .places, m .takes))
+
+pub path-inside : {S : Summary} {P : Pattern} {q s : ℕ} → PathOf S P q s → q < length P → s < length S
+path-inside {S} {P} {q} {s} m h = subst (λ (x : ℕ). s < x) (length-asDocument S) (subst (λ (x : ℕ). x < length (asDocument S)) (m .takes) (m .places .inside q h))
+
+no-path : (S : Summary) (P : Pattern) (q s : ℕ) → placements S P ≡ [] → isPath S P q s ≡ false
+unfolding isPath anyOf
+no-path S P q s e = ap (anyOf (λ es. eqb (imageIn es q) s)) e
+
+-- ---- masks of paths
+
+pub path-mask-of : (S : Summary) (P : Pattern) (q : ℕ) → q < length P → pathMask S P q ≡ maskBelow (isPath S P q) (length S)
+unfolding pathMask
+path-mask-of S P q h = rw (lt-ltb q (length P) h, pathMask)
+
+-- entries past the last node are 0
+pub path-mask-beyond : (S : Summary) (P : Pattern) (q : ℕ) → length P ≤ q → pathMask S P q ≡ 0
+unfolding pathMask
+path-mask-beyond S P q h = rw (le-ltb q (length P) h, pathMask)
+
+-- a mask has no bit past the last outline node
+pub path-mask-lt : (S : Summary) (P : Pattern) (q : ℕ) → pathMask S P q < 2 ^ length S
+unfolding pathMask
+path-mask-lt S P q = go (ltb q (length P))
+  where
+    go : (b : Bool) → (elim b as (λ _. ℕ) [ true ↦ maskBelow (isPath S P q) (length S) | false ↦ 0 ]) < 2 ^ length S
+    go true = mask-lt (isPath S P q) (length S)
+    go false = pow-pos (length S)
+
+pub path-mask-past : (S : Summary) (P : Pattern) (q s : ℕ) → length S ≤ s → has (pathMask S P q) s ≡ false
+path-mask-past S P q s h = has-past (pathMask S P q) s (le-trans (path-mask-lt S P q) (pow-mono h))
+
+-- bit s of the mask of a selection node says whether s is one of its paths
+pub path-mask-exact : {S : Summary} {P : Pattern} (q s : ℕ) → IsPatternTree P → SummaryFacts S → q < length P → (has (pathMask S P q) s ≡ true) ↔ PathOf S P q s
+path-mask-exact {S} {P} q s t f h = (λ e. go (ltb s (length S)) refl e, λ m. bit (path-inside m h) ∙ path-exact q s t f h .1 m)
+  where
+    bit : s < length S → has (pathMask S P q) s ≡ isPath S P q s
+    bit l = ap (λ (x : ℕ). has x s) (path-mask-of S P q h) ∙ mask-below (isPath S P q) (length S) s l
+
+    go : (b : Bool) → ltb s (length S) ≡ b → has (pathMask S P q) s ≡ true → PathOf S P q s
+    go true l e = path-exact q s t f h .0 (sym (bit (ltb-true s (length S) l)) ∙ e)
+    go false l e = absurd (not-both (has (pathMask S P q) s) e (path-mask-past S P q s (ltb-false s (length S) l)))
+
+-- the count of paths is the count of ones of the mask
+pub path-count-ones : (S : Summary) (P : Pattern) (q : ℕ) → pathCount S P q ≡ ones (pathMask S P q)
+unfolding pathMask pathCount ones
+path-count-ones S P q = go (ltb q (length P))
+  where
+    go : (b : Bool) → (elim b as (λ _. ℕ) [ true ↦ countBelow (isPath S P q) (length S) | false ↦ 0 ]) ≡ ones (elim b as (λ _. ℕ) [ true ↦ maskBelow (isPath S P q) (length S) | false ↦ 0 ])
+    go true = sym (ones-mask (isPath S P q) (length S))
+    go false = refl
+
+-- the trailing zeros of the mask give the first path, where there is one
+pub path-mask-first : {S : Summary} {P : Pattern} (q s k : ℕ) → IsPatternTree P → SummaryFacts S → q < length P → length S ≤ k → PathOf S P q s
+    → PathOf S P q (trailingZeros k (pathMask S P q)) × ((i : ℕ) → i < trailingZeros k (pathMask S P q) → PathOf S P q i → ⊥)
+path-mask-first {S} {P} q s k t f h l m =
+    subst (λ (x : ℕ). PathOf S P q (trailingZeros k x) × ((i : ℕ) → i < trailingZeros k x → PathOf S P q i → ⊥)) (sym (path-mask-of S P q h))
+    (path-exact q first t f h .0 (least .passes), λ i j n. not-both (isPath S P q i) (path-exact q i t f h .1 n) (least .noneBefore i j))
+  where
+    first : ℕ
+    first = trailingZeros k (maskBelow (isPath S P q) (length S))
+
+    least : Least (isPath S P q) first
+    least = mask-least (isPath S P q) (length S) k s l (path-inside m h) (path-exact q s t f h .1 m)
+
+-- where nothing can be placed, no node has a path
+pub path-mask-none : (S : Summary) (P : Pattern) (q : ℕ) → placements S P ≡ [] → pathMask S P q ≡ 0
+path-mask-none S P q e = go (ltb q (length P)) refl
+  where
+    go : (b : Bool) → ltb q (length P) ≡ b → pathMask S P q ≡ 0
+    go true l = path-mask-of S P q (ltb-true q (length P) l) ∙ mask-none (isPath S P q) (length S) (λ s h. no-path S P q s e)
+    go false l = path-mask-beyond S P q (ltb-false q (length P) l)
+
+-- and a mask 0 counts no path
+pub path-count-zero : (S : Summary) (P : Pattern) (q : ℕ) → pathMask S P q ≡ 0 → pathCount S P q ≡ 0
+unfolding ones
+path-count-zero S P q e = path-count-ones S P q ∙ ap ones e
