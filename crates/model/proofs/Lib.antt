@@ -29,3 +29,5 @@ pub mod Containment
 pub mod NodeByNode
 pub mod QuickLaws
 pub mod Quick
+pub mod Demands
+pub mod Decision

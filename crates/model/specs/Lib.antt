@@ -12,4 +12,5 @@ pub mod Bytes
 pub mod Questions
 pub mod Calls
 pub mod Facts
+pub mod Demands
 pub mod Examples
