@@ -12,6 +12,7 @@ use Rattle.model.specs.Summary.{Summary, asDocument, StrongEdge}
 use Rattle.model.specs.Pattern.{Pattern, patternParent}
 use Rattle.model.specs.Embeddings.{imageIn}
 use Rattle.model.specs.Canonical.{Spot, rootSpot, spotParent, spotAt, chain}
+use Rattle.model.proofs.ListLaws.{length-snoc}
 use Rattle.model.proofs.Laid.{spotOwner, spotFilled, SpotChild, ChainChild}
 
 -- what holds of node i, by its spot s alone, once m pattern nodes are laid out
@@ -81,15 +82,9 @@ extends-trans f g =
 pub extends-snoc : (spots : List Spot) (s : Spot) → Extends spots (spots ++ s ∷ [])
 extends-snoc spots s =
     record {
-      longer = omega (arith, length-append spots (s ∷ []));
+      longer = omega (arith, length-snoc spots s);
       same = λ i h. List·getD-append spots (s ∷ []) rootSpot i h;
     }
-
-pub length-snoc : (spots : List Spot) (s : Spot) → length (spots ++ s ∷ []) ≡ suc (length spots)
-length-snoc spots s = length-append spots (s ∷ []) ∙ omega arith
-
-pub last-snoc : (spots : List Spot) (s : Spot) → getD (spots ++ s ∷ []) (length spots) rootSpot ≡ s
-last-snoc spots s = getD-append-seam spots s [] rootSpot
 
 pub child-kept : {spots later : List Spot} {i j : ℕ} → Extends spots later → SpotChild spots i j → SpotChild later i j
 child-kept {j = j} f c =

@@ -15,9 +15,11 @@ use Rattle.model.specs.Canonical.{canonicalSpots, canonical, ownNodes, o
 use Rattle.model.specs.Facts.{SummaryFacts, PatternFacts}
 use Rattle.model.proofs.TreeLaws.{hom-result}
 use Rattle.model.proofs.Laid.{Laid}
+use Rattle.model.proofs.Embeddings.{length-imagesOf, image-imagesOf}
+use Rattle.model.proofs.Paths.{pathIn}
 use Rattle.model.proofs.SpotLaws.{spotDocument}
 use Rattle.model.proofs.CanonicalFits.{laid-fits, laid-result}
-use Rattle.model.proofs.CanonicalHom.{pathsOf, length-paths, paths-image, paths-placed, laid-hom, own-result-carried}
+use Rattle.model.proofs.CanonicalHom.{pathsOf, paths-placed, laid-hom, own-result-carried}
 
 -- what passes in a tree passes where a homomorphism carries it
 pub record KeptByHoms (Passes : Document → List ℕ → Type 0) : Type 0 where
@@ -47,7 +49,7 @@ module _ {S : Summary} {P : Pattern} (f : SummaryFacts S) (g : PatternFacts P)
   pub result-carried : (W : Document) (r : List ℕ) → Fits S W → (k : Result P W r)
       → (h : ℕ → ℕ) × Hom (canonical S P (pathsOf S P W (k .image))) W h × (map h (ownResult S P (pathsOf S P W (k .image))) ≡ r)
   unfolding canonical ownResult
-  result-carried W r w k = go (laid-hom f (g .tree) w (k .embeds) (paths-image S P W (k .image)) (laid es (length-paths S P W (k .image)) (paths-placed f (g .tree) w (k .embeds))))
+  result-carried W r w k = go (laid-hom f (g .tree) w (k .embeds) (image-imagesOf P (λ q. pathIn S W (k .image q))) (laid es (length-imagesOf P (λ q. pathIn S W (k .image q))) (paths-placed f (g .tree) w (k .embeds))))
     where
       es : List ℕ
       es = pathsOf S P W (k .image)
@@ -66,7 +68,7 @@ module _ {S : Summary} {P : Pattern} (f : SummaryFacts S) (g : PatternFacts P)
       back : TrialsPass S P Passes → ContainedIn S P Passes
       back c W w r k =
           let es : List ℕ = pathsOf S P W (k .image) in
-          let l : length es ≡ length P = length-paths S P W (k .image) in
+          let l : length es ≡ length P = length-imagesOf P (λ q. pathIn S W (k .image q)) in
           let m : Placement S P (imageIn es) = paths-placed f (g .tree) w (k .embeds) in
           let b = result-carried W r w k in
           subst (Passes W) (b .2) (kept .keeps (canonical S P es) W (b .0) (ownResult S P es) (canonical-fits es l m .tree) (b .1) (c es l m))

@@ -8,6 +8,7 @@ use mathlib.Core.List.{List, [], _∷_, _++_, List·Memᴰ, List·Memᴰ·head, 
 use native.Mathlib.Omega.{arith}
 use lib.Dec.{eqb, ltb}
 use lib.ListN.{length, getD}
+use lib.Seq.{getD-append-seam}
 use borrow.Author.Tests.{eqb-true, eqb-false, ltb-true, ltb-false, lt-ltb, eq-eqb}
 use Rattle.model.specs.Lists.{upFrom}
 use Rattle.model.specs.Tree.{IsTree, Child}
@@ -16,12 +17,12 @@ use Rattle.model.specs.Pattern.{Pattern}
 use Rattle.model.specs.Embeddings.{imageIn}
 use Rattle.model.specs.Fitting.{strongChildren}
 use Rattle.model.specs.Canonical.{Spot, rootSpot, spotParent, spotAt, chain, hasChildOn, addMissing, addAll, fillNode, fillFrom}
-use Rattle.model.proofs.ListLaws.{and-intro, and-left, and-right, any-below, below-any}
+use Rattle.model.proofs.ListLaws.{length-snoc, and-intro, and-left, and-right, any-below, below-any}
 use Rattle.model.proofs.TreeLaws.{child-lt, length-asDocument}
 use Rattle.model.proofs.Fitting.{strong-children-exact}
 use Rattle.model.proofs.Counting.{pigeonhole, pair-below, pair-first}
 use Rattle.model.proofs.Laid.{spotOwner, spotFilled, SpotChild, ChainChild}
-use Rattle.model.proofs.Built.{SpotFacts, NodeFacts, Least, Built, Extends, extends-refl, extends-trans, extends-snoc, length-snoc, last-snoc, child-kept, chain-child-kept}
+use Rattle.model.proofs.Built.{SpotFacts, NodeFacts, Least, Built, Extends, extends-refl, extends-trans, extends-snoc, child-kept, chain-child-kept}
 
 -- ---- children on a path
 
@@ -82,7 +83,7 @@ module _ {S : Summary} {P : Pattern} {es : List ℕ} {m : ℕ} {spots : List Spo
   size = length-snoc spots added
 
   last : getD T (length spots) rootSpot ≡ added
-  last = last-snoc spots added
+  last = getD-append-seam spots added [] rootSpot
 
   same : (i : ℕ) → i < length spots → getD T i rootSpot ≡ getD spots i rootSpot
   same = ext .same

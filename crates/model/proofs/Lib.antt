@@ -19,6 +19,7 @@ pub mod Canonical
 pub mod Ascending
 pub mod Embeddings
 pub mod Masks
+pub mod ReturnNodes
 pub mod Results
 pub mod ChainLaws
 pub mod SpotLaws

@@ -17,7 +17,7 @@ use Rattle.model.specs.Summary.{Summary, asDocument, summaryParent, summ
 use Rattle.model.specs.Facts.{SummaryFacts}
 use Rattle.model.specs.Embeddings.{childTest}
 use Rattle.model.specs.Fitting.{childLabelled, nextPath, pathsFrom, pathMap}
-use Rattle.model.proofs.ListLaws.{and-intro, and-left, and-right, mem-upFrom, first-hit}
+use Rattle.model.proofs.ListLaws.{and-intro, and-left, and-right, mem-upFrom, first-hit, first-or}
 use Rattle.model.proofs.TreeLaws.{length-asDocument, test-child, child-test}
 
 -- a node's summary node by the path map
@@ -95,16 +95,6 @@ hom-on-path {S} {W} {h} t m i l =
     record { labels = r .0; ofDocument = r .1; ofSummary = hom-label-path t m (r .0) i l (r .1) }
 
 -- ---- the child with a label
-
-first-or : (test : ℕ → Bool) (d : ℕ) (xs : List ℕ) → (test (firstOf test d xs) ≡ true) ⊎ (firstOf test d xs ≡ d)
-unfolding firstOf
-first-or test d [] = inr refl
-first-or test d (x ∷ xs) = go (test x) refl (first-or test d xs)
-  where
-    go : (b : Bool) → test x ≡ b → (test (firstOf test d xs) ≡ true) ⊎ (firstOf test d xs ≡ d)
-        → (test (elim b as (λ _. ℕ) [ true ↦ x | false ↦ firstOf test d xs ]) ≡ true) ⊎ ((elim b as (λ _. ℕ) [ true ↦ x | false ↦ firstOf test d xs ]) ≡ d)
-    go true q rest = inl q
-    go false q rest = rest
 
 -- s has the child t with label l
 pub record ChildLabelled (S : Summary) (s l t : ℕ) : Type 0 where

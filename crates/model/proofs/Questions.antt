@@ -22,6 +22,7 @@ use Rattle.model.specs.Bytes.{Case, caseOf, documentOf, listOf, WholeCas
 use Rattle.model.specs.Questions.{between, limitInRange, bufferLargeEnough, tableLargeEnough, caseWhole, countsInRange, summaryRecordKept, summaryKept, alike, siblingsDiffer, patternRecordKept, patternKept, patternsKept, positionsOnce, positionsKept, tallyInRange, documentRecordKept, documentKept, listInRange, selectionGiven, selected, positionGiven, isPlacement, Question, ask, refusal, caseQuestions, verdictRefusal, fitsRefusal, resultRefusal, nodesRefusal, pathsRefusal, layoutRefusal}
 use Rattle.model.specs.Facts.{SummaryFacts, PatternFacts, CaseFacts}
 use Rattle.model.proofs.ListLaws.{by-bool, and-intro, and-left, and-right, not-both, true-or-false, all-elim, all-below, any-elim, mem-upFrom, upFrom-mem, same-eq, first-hit}
+use Rattle.model.proofs.Fitting.{rooted}
 use Rattle.model.proofs.Bytes.{whole-case}
 
 -- ---- refusals
@@ -192,17 +193,6 @@ module _ {A : Type 0} (of : A → ℕ) where
       let place : suc a + n ≡ a + suc n = omega arith in
       let same : countOf (λ x. ltb (suc a + n) (of x)) xs ≡ countOf (λ x. ltb (a + suc n) (of x)) xs = ap (λ (m : ℕ). countOf (λ x. ltb m (of x)) xs) place in
       omega arith
-
--- ---- trees
-
--- a table whose parents keep the rule is a tree
-pub rooted : (n : ℕ) (parent : ℕ → ℕ) → 1 ≤ n → ((i : ℕ) → i < n → parentRule i (parent i) ≡ true) → Rooted n parent
-unfolding parentRule
-rooted n parent some h = record { inhabited = some; root = eqb-true (parent 0) 0 (h 0 some); earlier = after }
-  where
-    after : (i : ℕ) → 0 < i → i < n → parent i < i
-    after zero p k = absurd (not-suc-le-zero p)
-    after (suc i) p k = ltb-true (parent (suc i)) (suc i) (h (suc i) k)
 
 -- ---- the outline
 

@@ -8,14 +8,16 @@ use mathlib.Core.List.{List, [], _∷_, _++_, nil≢cons}
 use native.Mathlib.Omega.{arith}
 use lib.Dec.{eqb}
 use lib.ListN.{length, getD}
+use lib.Seq.{getD-append-seam}
 use borrow.Author.Tests.{eqb-true, eqb-false}
 use Rattle.model.specs.Tree.{IsTree, Child}
 use Rattle.model.specs.Summary.{Summary, asDocument}
 use Rattle.model.specs.Canonical.{Spot, rootSpot, spotParent, spotAt, chain, appendChain}
+use Rattle.model.proofs.ListLaws.{length-snoc}
 use Rattle.model.proofs.TreeLaws.{child-lt}
 use Rattle.model.proofs.Chains.{Way, end, step, way-bound, chain-way}
 use Rattle.model.proofs.Laid.{spotOwner, spotFilled, SpotChild, ChainChild}
-use Rattle.model.proofs.Built.{Extends, extends-refl, extends-trans, extends-snoc, length-snoc, last-snoc}
+use Rattle.model.proofs.Built.{Extends, extends-refl, extends-trans, extends-snoc}
 
 abbrev chainSpot : ℕ → ℕ → ℕ → Spot
 chainSpot q v x = record { parent = v; at = x; owner = q; filled = false }
@@ -43,7 +45,7 @@ append-chain q spots v (x ∷ xs) =
     record {
       extends = extends-trans (extends-snoc spots s) (r .extends);
       size = omega arith;
-      segment = (r .extends .same (length spots) (omega arith) ∙ last-snoc spots s, subst (λ (k : ℕ). Segment T q (length spots) k xs) n (r .segment));
+      segment = (r .extends .same (length spots) (omega arith) ∙ getD-append-seam spots s [] rootSpot, subst (λ (k : ℕ). Segment T q (length spots) k xs) n (r .segment));
     }
 
 -- node i of the segment of k nodes from n on, hung from v, in a chain down to b

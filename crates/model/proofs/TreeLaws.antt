@@ -4,7 +4,7 @@ use Prim.Native.Nat.{ℕ, zero, suc, _+_, _≤_, _<_}
 use mathlib.Core.Path.{_≡_, refl, sym, ap, _∙_, subst}
 use mathlib.Core.Bool.{Bool, true, false, _&&_, _||_, false≢true}
 use mathlib.Core.Logic.{_⊎_, inl, inr, _↔_}
-use mathlib.Core.List.{List, [], _∷_, map}
+use mathlib.Core.List.{List, map, map-map}
 use native.Mathlib.Omega.{arith}
 use lib.Dec.{eqb, ltb}
 use lib.ListN.{length, getD, length-map, List·getD-eq-default}
@@ -169,9 +169,5 @@ hom-result {P} {h = h} r k =
     record {
       image = λ q. h (r .image q);
       embeds = hom-embeds (r .embeds) k;
-      returns = ap (map h) (r .returns) ∙ map-map (returnNodes P);
+      returns = ap (map h) (r .returns) ∙ map-map h (r .image) (returnNodes P);
     }
-  where
-    map-map : (qs : List ℕ) → map h (map (r .image) qs) ≡ map (λ q. h (r .image q)) qs
-    map-map [] = refl
-    map-map (q ∷ qs) = ap (λ (l : List ℕ). h (r .image q) ∷ l) (map-map qs)
