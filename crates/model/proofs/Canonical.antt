@@ -15,7 +15,7 @@ use Rattle.model.specs.Pattern.{Pattern, IsPatternTree, patternParent, d
 use Rattle.model.specs.Embeddings.{imageIn}
 use Rattle.model.specs.Canonical.{Spot, rootSpot, spotParent, spotAt, chain, chains, nodeBound, fillFrom, canonicalSpots, canonical, ownNodes, spotRecord}
 use Rattle.model.proofs.TreeLaws.{edge-below}
-use Rattle.model.proofs.Chains.{below-way, chain-way}
+use Rattle.model.proofs.Chains.{step, below-way, chain-way}
 use Rattle.model.proofs.Laid.{spotOwner, spotFilled, SpotChild, InChain, TopOfChain, Laid}
 use Rattle.model.proofs.Built.{ChainedTo, FirstOf, NodeFacts, Built}
 use Rattle.model.proofs.ChainPhase.{chains-built}
@@ -38,7 +38,7 @@ module _ (S : Summary) (P : Pattern) (es : List ℕ) (tree : IsTree (asDocument 
   chain-nonempty : (q : ℕ) → 0 < q → q < length P → (x : ℕ) × (xs : List ℕ) × (chain S (imageIn es (patternParent P q)) (imageIn es q) ≡ x ∷ xs)
   chain-nonempty q p h =
       let w = below-way (edge-below (descends P q) (asDocument S) (imageIn es (patternParent P q)) (imageIn es q) (placed .edges q p h)) in
-      (w .0, w .1, chain-way S tree (w .2))
+      (w .0, w .1, chain-way S tree (step (w .2) (w .3)))
 
   pub canonical-laid : Laid S P es (canonicalSpots S P es) (ownNodes S P es)
   canonical-laid =

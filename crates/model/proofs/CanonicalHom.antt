@@ -22,7 +22,7 @@ use Rattle.model.proofs.Laid.{Laid, SpotChild, InChain, TopOfChain, spo
 use Rattle.model.proofs.Paths.{pathIn, hom-on-path, path-hom, path-on}
 use Rattle.model.proofs.Embeddings.{embeds-ext, imagesOf, image-imagesOf}
 use Rattle.model.proofs.ReturnNodes.{return-inside}
-use Rattle.model.proofs.ChainLaws.{AtOrBelow, hom-at-or-below, first-step, chain-self, chain-step}
+use Rattle.model.proofs.Chains.{AtOrBelow, hom-at-or-below, first-step, chain-self, chain-step}
 use Rattle.model.proofs.SpotLaws.{spotDocument, in-table, spot-label, child-spot, laid-inside}
 use Rattle.model.proofs.CanonicalFits.{chain-down}
 use Rattle.model.proofs.TreeChoice.{Chosen, choose}

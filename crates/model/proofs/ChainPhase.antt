@@ -16,17 +16,12 @@ use Rattle.model.specs.Pattern.{Pattern, PatternRecord, noPatternRecord,
 use Rattle.model.specs.Embeddings.{imageIn}
 use Rattle.model.specs.Canonical.{Spot, rootSpot, spotParent, spotAt, chainIn, chain, appendChain, Layout, layNode, layNodes, rootLayout, chains}
 use Rattle.model.proofs.TreeLaws.{edge-below}
-use Rattle.model.proofs.Chains.{Way, step, below-way, chain-way}
+use Rattle.model.proofs.Chains.{Way, step, below-way, chain-way, chain-self}
 use Rattle.model.proofs.Laid.{spotOwner, spotFilled, SpotChild, ChainChild}
 use Rattle.model.proofs.Built.{SpotFacts, ChainedTo, FirstOf, NodeFacts, Least, Built, Extends, chain-child-kept}
 use Rattle.model.proofs.Segment.{Segment, Appended, append-chain, SegmentNode, segment-node, segment-rises}
 
 -- ---- the root alone
-
--- no chain leads down to the root
-chain-root : (S : Summary) (a : ℕ) → chain S a 0 ≡ []
-unfolding chain chainIn
-chain-root S a = refl
 
 pub root-built : (S : Summary) (P : Pattern) (es : List ℕ) → imageIn es 0 ≡ 0 → Built S P es 1 (rootSpot ∷ []) (0 ∷ [])
 root-built S P es z =
@@ -61,7 +56,7 @@ root-built S P es z =
     none : (s : Spot) (x : ℕ) (xs : List ℕ) → rootSpot ≡ s → chain S (s .at) (imageIn es (s .owner)) ≡ x ∷ xs → ⊥
     none s x xs e c =
         let c′ : chain S 0 (imageIn es 0) ≡ x ∷ xs = subst (λ (k : Spot). chain S (k .at) (imageIn es (k .owner)) ≡ x ∷ xs) (sym e) c in
-        nil≢cons (sym (chain-root S 0) ∙ subst (λ (k : ℕ). chain S 0 k ≡ x ∷ xs) z c′)
+        nil≢cons (sym (chain-self S 0) ∙ subst (λ (k : ℕ). chain S 0 k ≡ x ∷ xs) z c′)
 
     next-at : (i : ℕ) (s : Spot) (x : ℕ) (xs : List ℕ) → i < 1 → getD (rootSpot ∷ []) i rootSpot ≡ s → s .filled ≡ false
         → chain S (s .at) (imageIn es (s .owner)) ≡ x ∷ xs → ChainChild (rootSpot ∷ []) i (s .owner) x
@@ -420,9 +415,9 @@ module _ (S : Summary) (P : Pattern) (es : List ℕ) (tree : IsTree (asDocument 
       → Built S P es (suc m) (laid S es l m (patternParent P m) .spots) (laid S es l m (patternParent P m) .own)
   lay-node l m b p h =
       let a : ℕ = imageIn es (patternParent P m) in
-      let w : (x : ℕ) × (xs : List ℕ) × Way (asDocument S) (imageIn es m) a (x ∷ xs) =
-      below-way (edge-below (descends P m) (asDocument S) a (imageIn es m) (placed .edges m p h)) in
-      let c : chain S a (imageIn es m) ≡ w .0 ∷ w .1 = chain-way S tree (w .2) in
+      let r = below-way (edge-below (descends P m) (asDocument S) a (imageIn es m) (placed .edges m p h)) in
+      let w : Way (asDocument S) (imageIn es m) a (r .0 ∷ r .1) = step (r .2) (r .3) in
+      let c : chain S a (imageIn es m) ≡ r .0 ∷ r .1 = chain-way S tree w in
       let v : ℕ = imageIn (l .own) (patternParent P m) in
       let T : List ℕ → List Spot = λ xs. appendChain m (l .spots) v xs in
       subst (λ (xs : List ℕ). Built S P es (suc m) (T xs) (l .own ++ (length (T xs) - 1) ∷ [])) (sym c)
@@ -434,9 +429,9 @@ module _ (S : Summary) (P : Pattern) (es : List ℕ) (tree : IsTree (asDocument 
         positive = p;
         inside = h;
         hung = refl;
-        way = w .2;
+        way = w;
         nonempty = omega arith;
-        appended = append-chain m (l .spots) v (w .0 ∷ w .1);
+        appended = append-chain m (l .spots) v (r .0 ∷ r .1);
       }))
 
   lay-nodes : (rs : List PatternRecord) (l : Layout) (m : ℕ) → drop m P ≡ rs → Built S P es m (l .spots) (l .own) → 0 < m → m ≤ length P

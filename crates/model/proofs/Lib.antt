@@ -21,7 +21,6 @@ pub mod Embeddings
 pub mod Masks
 pub mod ReturnNodes
 pub mod Results
-pub mod ChainLaws
 pub mod SpotLaws
 pub mod CanonicalFits
 pub mod TreeChoice

@@ -19,10 +19,11 @@ use Rattle.model.specs.Quick.{meets, offers, closed, union, hang, given,
 use Rattle.model.proofs.ListLaws.{or-cases, or-left, or-right, bool-ext, true-or-false}
 use Rattle.model.proofs.TreeLaws.{below-trans}
 use Rattle.model.proofs.Laid.{Laid, SpotChild, ChainChild, InChain, TopOfChain, spotOwner, spotFilled}
+use Rattle.model.proofs.Chains.{chain-self}
 use Rattle.model.proofs.SpotLaws.{spotDocument, in-table, in-document, spot-label, spot-child, child-spot}
 use Rattle.model.proofs.NodeByNode.{UnderOf, under-lt, Can, can, Pinned, result-can}
 use Rattle.model.proofs.ReturnNodes.{length-returnNodes, return-at, returns-at}
-use Rattle.model.proofs.QuickLaws.{Within, Meets, meets-says, says-meets, offers-cases, offers-met, offers-on, offers-more, hold, hang-nil, hang-cons, closed-elim, closed-intro, given-elim, given-intro, chain-same}
+use Rattle.model.proofs.QuickLaws.{Within, Meets, meets-says, says-meets, offers-cases, offers-met, offers-on, offers-more, hold, hang-nil, hang-cons, closed-elim, closed-intro, given-elim, given-intro}
 
 -- ---- edges
 
@@ -96,7 +97,7 @@ module _ (S : Summary) (P Q : Pattern) (es : List ℕ) (spots : List Spot) where
 
     -- the own node of pattern node j has no rest, holds j's position and is offered what j's children give
     own-rest : (j : ℕ) → j < length P → rest (imageIn own j) ≡ []
-    own-rest j h = rw (L .ownAt j h, L .ownOwner j h) (chain-same S (imageIn es j))
+    own-rest j h = rw (L .ownAt j h, L .ownOwner j h) (chain-self S (imageIn es j))
 
     own-held : (j : ℕ) → j < length P → held (imageIn own j) ≡ position P j
     own-held j h = held-unfilled (imageIn own j) (L .ownUnfilled j h) ∙ rw (own-rest j h, L .ownOwner j h) refl

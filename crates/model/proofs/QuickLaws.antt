@@ -252,14 +252,3 @@ module _ (S : Summary) (P Q : Pattern) (es : List ℕ) where
           let r = any-below test (length P) e in
           let c : ℕ = r .0 in
           given-intro j c p T (hangs-under P j c (r .1) (and-left (hangsFrom P j c) (chainOf (given S P Q es) j c p) (r .2))) (and-right (hangsFrom P j c) (chainOf (given S P Q es) j c p) (r .2))
-
--- ---- the chain from a node to itself
-
-chainIn-same : (n : ℕ) (D : Document) (a : ℕ) → chainIn n D a a ≡ []
-unfolding chainIn
-chainIn-same zero D a = refl
-chainIn-same (suc n) D a = rw (eq-eqb a a refl, chainIn)
-
-pub chain-same : (S : Summary) (a : ℕ) → chain S a a ≡ []
-unfolding chain
-chain-same S a = chainIn-same a (asDocument S) a
