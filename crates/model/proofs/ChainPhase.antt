@@ -4,21 +4,22 @@ use Prim.Native.Nat.{ℕ, zero, suc, _+_, _-_, _≤_, _<_}
 use mathlib.Core.Path.{_≡_, refl, sym, ap, _∙_, subst, subst₂, ap₂}
 use mathlib.Core.Bool.{Bool, true, false, false≢true}
 use mathlib.Core.Logic.{_⊎_, inl, inr}
-use mathlib.Core.List.{List, [], _∷_, _++_, tail, nil≢cons, head-eq-of-cons-eq, tail-eq-of-cons-eq}
+use mathlib.Core.List.{List, [], _∷_, _++_, tail, nil≢cons}
 use native.Mathlib.Omega.{arith}
 use lib.Dec.{eqb, ltb}
-use lib.ListN.{length, getD, drop, length-append, length-drop, List·getD-append}
-use lib.Seq.{drop-cons, getD-append-seam}
+use lib.ListN.{length, getD, drop, length-drop, List·getD-append}
+use lib.Seq.{getD-append-seam}
 use borrow.Author.Tests.{eqb-true, eqb-false, ltb-true, ltb-false}
 use Rattle.model.specs.Tree.{IsTree, Child}
 use Rattle.model.specs.Summary.{Summary, asDocument, StrongEdge}
 use Rattle.model.specs.Pattern.{Pattern, PatternRecord, noPatternRecord, IsPatternTree, patternParent, Placement, descends}
 use Rattle.model.specs.Embeddings.{imageIn}
 use Rattle.model.specs.Canonical.{Spot, rootSpot, spotParent, spotAt, chainIn, chain, appendChain, Layout, layNode, layNodes, rootLayout, chains}
+use Rattle.model.proofs.ListLaws.{length-snoc, drop-begins}
 use Rattle.model.proofs.TreeLaws.{edge-below}
 use Rattle.model.proofs.Chains.{Way, step, below-way, chain-way, chain-self}
 use Rattle.model.proofs.Laid.{spotOwner, spotFilled, SpotChild, ChainChild}
-use Rattle.model.proofs.Built.{SpotFacts, ChainedTo, FirstOf, NodeFacts, Least, Built, Extends, chain-child-kept}
+use Rattle.model.proofs.Built.{SpotFacts, ChainedTo, FirstOf, NodeFacts, Least, Built, Extends, at-kept, chain-child-kept, spot-kept, earlier-kept, node-kept, next-kept, own-at-kept, own-owner-kept, own-unfilled-kept, distinct-kept, least-kept}
 use Rattle.model.proofs.Segment.{Segment, Appended, append-chain, SegmentNode, segment-node, segment-rises}
 
 -- ---- the root alone
@@ -115,21 +116,12 @@ module _ {S : Summary} {P : Pattern} {es : List ℕ} {m : ℕ} {spots : List Spo
       go true e = inl (ltb-true i (length spots) e)
       go false e = let z = size in inr (ltb-false i (length spots) e, omega arith)
 
-  same : (i : ℕ) → i < length spots → getD T i rootSpot ≡ getD spots i rootSpot
-  same = t .appended .extends .same
-
-  same-parent : (i : ℕ) → i < length spots → spotParent T i ≡ spotParent spots i
-  same-parent i l = ap (λ (s : Spot). s .parent) (same i l)
-
-  same-at : (i : ℕ) → i < length spots → spotAt T i ≡ spotAt spots i
-  same-at i l = ap (λ (s : Spot). s .at) (same i l)
-
-  same-owner : (i : ℕ) → i < length spots → spotOwner T i ≡ spotOwner spots i
-  same-owner i l = ap (λ (s : Spot). s .owner) (same i l)
+  ext : Extends spots T
+  ext = t .appended .extends
 
   v-at : spotAt T v ≡ imageIn es (patternParent P m)
   v-at =
-      ap (λ (s : Spot). s .at) (same v v-inside)
+      at-kept ext v v-inside
       ∙ subst (λ (k : ℕ). spotAt spots k ≡ imageIn es (patternParent P m)) (t .hung) (t .built .ownAt (patternParent P m) parent-lt)
 
   new : (i : ℕ) → length spots ≤ i → i < length spots + length xs → SegmentNode S T m (imageIn es m) v (length spots) (length xs) i
@@ -155,7 +147,7 @@ module _ {S : Summary} {P : Pattern} {es : List ℕ} {m : ℕ} {spots : List Spo
   last-node = new (length T - 1) last-lower last-upper
 
   old-owner : (i : ℕ) → i < length spots → spotOwner T i < m
-  old-owner i h = (t .built .spot i (getD T i rootSpot) h (sym (same i h))) .owner
+  old-owner i h = spot-kept ext (t .built) i (getD T i rootSpot) h refl .owner
 
   -- spots
   old-spot : {i : ℕ} {s : Spot} → SpotFacts S es own m i s → SpotFacts S es own′ (suc m) i s
@@ -182,7 +174,7 @@ module _ {S : Summary} {P : Pattern} {es : List ℕ} {m : ℕ} {spots : List Spo
   spot-of i s h e = go (side i h)
     where
       go : (i < length spots) ⊎ ((length spots ≤ i) × (i < length spots + length xs)) → SpotFacts S es own′ (suc m) i s
-      go (inl l) = old-spot (t .built .spot i s l (sym (same i l) ∙ e))
+      go (inl l) = old-spot (spot-kept ext (t .built) i s l e)
       go (inr r) = subst (λ (k : Spot). SpotFacts S es own′ (suc m) i k) e (new-spot i (new i (r .0) (r .1)))
 
   -- parents
@@ -194,7 +186,7 @@ module _ {S : Summary} {P : Pattern} {es : List ℕ} {m : ℕ} {spots : List Spo
       hung-lt l (inr k) = let b = k .1 in omega arith
 
       go : (i < length spots) ⊎ ((length spots ≤ i) × (i < length spots + length xs)) → spotParent T i < i
-      go (inl l) = rw (same-parent i l) (t .built .earlier i p l)
+      go (inl l) = earlier-kept ext (t .built) i p l
       go (inr r) = hung-lt (r .0) (new i (r .0) (r .1) .hangs)
 
   -- nodes
@@ -234,15 +226,8 @@ module _ {S : Summary} {P : Pattern} {es : List ℕ} {m : ℕ} {spots : List Spo
   node-of : (i : ℕ) (s u : Spot) → 0 < i → i < length T → getD T i rootSpot ≡ s → getD T (s .parent) rootSpot ≡ u → NodeFacts S P es own′ s u
   node-of i s u p h e f = go (side i h)
     where
-      old : i < length spots → NodeFacts S P es own′ s u
-      old l =
-          let e′ : getD spots i rootSpot ≡ s = sym (same i l) ∙ e in
-          let k : spotParent spots i < i = t .built .earlier i p l in
-          let k′ : s .parent < length spots = subst (λ (z : Spot). z .parent < length spots) e′ (omega arith) in
-          old-node (t .built .spot i s l e′ .owner) (t .built .node i s u p l e′ (sym (same (s .parent) k′) ∙ f))
-
       go : (i < length spots) ⊎ ((length spots ≤ i) × (i < length spots + length xs)) → NodeFacts S P es own′ s u
-      go (inl l) = old l
+      go (inl l) = old-node (spot-kept ext (t .built) i s l e .owner) (node-kept ext (t .built) i s u p l e f)
       go (inr r) =
           let g : getD T (spotParent T i) rootSpot ≡ u = ap (λ (z : Spot). getD T (z .parent) rootSpot) e ∙ f in
           subst₂ (λ (a b : Spot). NodeFacts S P es own′ a b) e g (new-node i (r .0) (r .1))
@@ -253,7 +238,7 @@ module _ {S : Summary} {P : Pattern} {es : List ℕ} {m : ℕ} {spots : List Spo
   next-of i s y ys h e f c = go (side i h)
     where
       go : (i < length spots) ⊎ ((length spots ≤ i) × (i < length spots + length xs)) → ChainChild T i (s .owner) y
-      go (inl l) = chain-child-kept (t .appended .extends) (t .built .next i s y ys l (sym (same i l) ∙ e) f c)
+      go (inl l) = next-kept ext (t .built) i s y ys l e f c
       go (inr r) =
           let n : SegmentNode S T m (imageIn es m) v (length spots) (length xs) i = new i (r .0) (r .1) in
           let o : s .owner ≡ m = ap (λ (z : Spot). z .owner) (sym e) ∙ n .owner in
@@ -287,7 +272,7 @@ module _ {S : Summary} {P : Pattern} {es : List ℕ} {m : ℕ} {spots : List Spo
       go false e =
           let ne : q ≡ m → ⊥ = eqb-false q m e in
           let k : patternParent P q < q = t .ordered .earlier q p (let i = t .inside in omega arith) in
-          rw (own-old (patternParent P q) (omega arith)) (chain-child-kept (t .appended .extends) (t .built .first q y ys p (omega arith) c))
+          rw (own-old (patternParent P q) (omega arith)) (chain-child-kept ext (t .built .first q y ys p (omega arith) c))
 
   -- own nodes
   own-of : (F : ℕ → ℕ → Type 0) → ((q : ℕ) → q < m → F q (imageIn own q)) → F m (length T - 1) → (q : ℕ) → q < suc m → F q (imageIn own′ q)
@@ -323,8 +308,7 @@ module _ {S : Summary} {P : Pattern} {es : List ℕ} {m : ℕ} {spots : List Spo
       Side n = (n < length spots) ⊎ ((length spots ≤ n) × (n < length spots + length xs))
 
       go : Side i → Side j → i ≡ j
-      go (inl p) (inl q) =
-          t .built .distinct i j p q (sym (same-owner i p) ∙ (o ∙ same-owner j q)) (sym (same-at i p) ∙ (a ∙ same-at j q))
+      go (inl p) (inl q) = distinct-kept ext (t .built) i j p q o a
       go (inl p) (inr q) = absurd (apart i j p (q .0) (q .1) o)
       go (inr p) (inl q) = absurd (apart j i q (p .0) (p .1) (sym o))
       go (inr p) (inr q) = new-distinct i j (p .0) (p .1) (q .0) (q .1) a
@@ -332,19 +316,6 @@ module _ {S : Summary} {P : Pattern} {es : List ℕ} {m : ℕ} {spots : List Spo
   least-of : (i : ℕ) → 0 < i → i < length T → (spotOwner T (spotParent T i) ≡ spotOwner T i) ⊎ Least T i
   least-of i p h = go (side i h)
     where
-      old-least : i < length spots → Least spots i → Least T i
-      old-least l f = record { least = λ j k o. at-j j o (side j k) }
-        where
-          at-j : (j : ℕ) → spotOwner T j ≡ spotOwner T i → (j < length spots) ⊎ ((length spots ≤ j) × (j < length spots + length xs)) → spotAt T i ≤ spotAt T j
-          at-j j o (inl q) = rw (same-at i l, same-at j q) (f .least j q (sym (same-owner j q) ∙ (o ∙ same-owner i l)))
-          at-j j o (inr q) = absurd (apart i j l (q .0) (q .1) (sym o))
-
-      old : i < length spots → (spotOwner spots (spotParent spots i) ≡ spotOwner spots i) ⊎ Least spots i → (spotOwner T (spotParent T i) ≡ spotOwner T i) ⊎ Least T i
-      old l (inl e) =
-          let k : spotParent spots i < i = t .built .earlier i p l in
-          inl (ap (spotOwner T) (same-parent i l) ∙ (same-owner (spotParent spots i) (omega arith) ∙ (e ∙ sym (same-owner i l))))
-      old l (inr f) = inr (old-least l f)
-
       first-least : i ≡ length spots → length spots ≤ i → Least T i
       first-least e l = record { least = λ j k o. at-j j o (side j k) }
         where
@@ -368,8 +339,7 @@ module _ {S : Summary} {P : Pattern} {es : List ℕ} {m : ℕ} {spots : List Spo
       chained l b (inr k) = let a = k .1 in inl (new (spotParent T i) (k .0) (omega arith) .owner ∙ sym (new i l b .owner))
 
       go : (i < length spots) ⊎ ((length spots ≤ i) × (i < length spots + length xs)) → (spotOwner T (spotParent T i) ≡ spotOwner T i) ⊎ Least T i
-      go (inl l) =
-          old l (t .built .least i p l)
+      go (inl l) = least-kept ext (t .built) i p l (λ f j a b o. absurd (apart i j l a (let z = size in omega arith) (sym o)))
       go (inr r) = chained (r .0) (r .1) (new i (r .0) (r .1) .hangs)
 
   turn-built : Built S P es (suc m) T own′
@@ -378,18 +348,18 @@ module _ {S : Summary} {P : Pattern} {es : List ℕ} {m : ℕ} {spots : List Spo
       let k = t .built .some in
       record {
         some = omega arith;
-        root = same 0 k ∙ t .built .root;
+        root = ext .same 0 k ∙ t .built .root;
         spot = spot-of;
         earlier = earlier-of;
         node = node-of;
         next = next-of;
         first = first-of;
-        ownLength = length-append own ((length T - 1) ∷ []) ∙ (let l = t .built .ownLength in omega arith);
+        ownLength = length-snoc own (length T - 1) ∙ ap suc (t .built .ownLength);
         ownRoot = own-old 0 (t .positive) ∙ t .built .ownRoot;
         ownInside = own-of (λ q i. i < length T) (λ q l. (let a = t .built .ownInside q l in omega arith)) (let a = last-upper in omega arith);
-        ownAt = own-of (λ q i. spotAt T i ≡ imageIn es q) (λ q l. ap (λ (s : Spot). s .at) (same (imageIn own q) (t .built .ownInside q l)) ∙ t .built .ownAt q l) (last-node .ends (let a = t .nonempty in omega arith));
-        ownOwner = own-of (λ q i. spotOwner T i ≡ q) (λ q l. ap (λ (s : Spot). s .owner) (same (imageIn own q) (t .built .ownInside q l)) ∙ t .built .ownOwner q l) (last-node .owner);
-        ownUnfilled = own-of (λ q i. spotFilled T i ≡ false) (λ q l. ap (λ (s : Spot). s .filled) (same (imageIn own q) (t .built .ownInside q l)) ∙ t .built .ownUnfilled q l) (last-node .unfilled);
+        ownAt = own-of (λ q i. spotAt T i ≡ imageIn es q) (own-at-kept ext (t .built)) (last-node .ends (let a = t .nonempty in omega arith));
+        ownOwner = own-of (λ q i. spotOwner T i ≡ q) (own-owner-kept ext (t .built)) (last-node .owner);
+        ownUnfilled = own-of (λ q i. spotFilled T i ≡ false) (own-unfilled-kept ext (t .built)) (last-node .unfilled);
         distinct = distinct-of;
         least = least-of;
       }
@@ -441,12 +411,10 @@ module _ (S : Summary) (P : Pattern) (es : List ℕ) (tree : IsTree (asDocument 
       let k : length P - m ≡ 0 = sym (length-drop m P) ∙ ap (λ (z : List PatternRecord). length z) d in
       subst (λ (n : ℕ). Built S P es n (l .spots) (l .own)) (omega arith) b
   lay-nodes (r ∷ rs) l m d b p h =
-      let k : length P - m ≡ suc (length rs) = sym (length-drop m P) ∙ ap (λ (z : List PatternRecord). length z) d in
-      let i : m < length P = omega arith in
-      let e : getD P m noPatternRecord ∷ drop (suc m) P ≡ r ∷ rs = sym (drop-cons P m noPatternRecord i) ∙ d in
-      let f : layNode es S l r ≡ laid S es l m (patternParent P m) = step-eq (b .ownLength) (ap (λ (z : PatternRecord). z .parent) (sym (head-eq-of-cons-eq e))) in
-      lay-nodes rs (layNode es S l r) (suc m) (tail-eq-of-cons-eq e)
-      (subst (λ (z : Layout). Built S P es (suc m) (z .spots) (z .own)) (sym f) (lay-node l m b p i)) (omega arith) i
+      let e = drop-begins P m r rs noPatternRecord d in
+      let f : layNode es S l r ≡ laid S es l m (patternParent P m) = step-eq (b .ownLength) (ap (λ (z : PatternRecord). z .parent) (sym (e .1))) in
+      lay-nodes rs (layNode es S l r) (suc m) (e .2)
+      (subst (λ (z : Layout). Built S P es (suc m) (z .spots) (z .own)) (sym f) (lay-node l m b p (e .0))) (omega arith) (e .0)
     where
       step-eq : length (l .own) ≡ m → r .parent ≡ patternParent P m → layNode es S l r ≡ laid S es l m (patternParent P m)
       step-eq x y = layNode-laid S es l r ∙ ap₂ (laid S es l) x y
