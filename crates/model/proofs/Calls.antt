@@ -4,12 +4,12 @@ use Prim.Native.Nat.{ℕ, zero, suc, _*_, _≤_}
 use mathlib.Core.Path.{_≡_, refl, ap, _∙_}
 use mathlib.Core.Bool.{Bool, true, false}
 use mathlib.Core.Logic.{_≢_}
-use mathlib.Core.List.{List, [], _∷_, map}
+use mathlib.Core.List.{List, _∷_, map}
 use native.Mathlib.Omega.{arith}
 use lib.Dec.{eqb}
 use lib.ListN.{length, replicate, length-map}
 use borrow.Author.Tests.{eq-eqb, ne-eqb}
-use Rattle.model.specs.Lists.{upFrom, keep}
+use Rattle.model.specs.Lists.{upFrom}
 use Rattle.model.specs.Limits.{minBuffer, minTable, maxPattern, maxDocument}
 use Rattle.model.specs.Tree.{Document}
 use Rattle.model.specs.Summary.{Summary}
@@ -35,7 +35,7 @@ module _ {A : Type 0} (number : ℕ) (accepted refused : A) where
   chosen-refused f = ap (λ (t : Bool). elim t as (λ _. A) [ true ↦ accepted | false ↦ refused ]) (ne-eqb number 0 f)
 
 -- what holds of an acceptance and of a refusal holds
-by-number : {X : Type 0} (number : ℕ) → (number ≡ 0 → X) → (number ≢ 0 → X) → X
+pub by-number : {X : Type 0} (number : ℕ) → (number ≡ 0 → X) → (number ≢ 0 → X) → X
 by-number zero a r = a refl
 by-number (suc n) a r = r (omega arith)
 

@@ -1,18 +1,16 @@
 -- An embedding of the pattern into a fitting document is carried there from a canonical document: the images' paths are a
 -- placement, and the canonical document of this placement maps homomorphically to the document, own nodes to images. Nodes of
 -- a chain go to the nodes on the way down to the image, filled-up nodes to the children that fitting gives. Assumes nothing.
-use Prim.Native.Nat.{ℕ, suc, _<_}
+use Prim.Native.Nat.{ℕ, _<_}
 use mathlib.Core.Path.{_≡_, refl, sym, ap, _∙_, subst}
 use mathlib.Core.Bool.{Bool, true, false, true≢false}
 use mathlib.Core.Logic.{_⊎_, inl, inr}
-use mathlib.Core.List.{List, [], _∷_, map, map-map, nil≢cons}
+use mathlib.Core.List.{List, _∷_, map, map-map, nil≢cons}
 use native.Mathlib.Omega.{arith}
-use native.Mathlib.Nat.{zero-add}
-use lib.ListN.{length, length-map}
-use Rattle.model.specs.Lists.{upFrom}
-use Rattle.model.specs.Tree.{Document, IsTree, labelOf, Child, Below, Edge, Hom}
+use lib.ListN.{length}
+use Rattle.model.specs.Tree.{Document, IsTree, Child, Below, Hom}
 use Rattle.model.specs.Summary.{Summary, asDocument, summaryLabel, OnPath, Fits}
-use Rattle.model.specs.Pattern.{Pattern, IsPatternTree, patternParent, patternLabel, labelFits, descends, arity, nodeAt, returnNodes, Embeds, Placement}
+use Rattle.model.specs.Pattern.{Pattern, IsPatternTree, patternParent, descends, returnNodes, Embeds, Placement}
 use Rattle.model.specs.Embeddings.{imageIn}
 use Rattle.model.specs.Canonical.{Spot, spotParent, spotAt, chain}
 use Rattle.model.specs.Facts.{SummaryFacts, PatternFacts}

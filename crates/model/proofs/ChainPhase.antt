@@ -10,15 +10,15 @@ use lib.Dec.{eqb, ltb}
 use lib.ListN.{length, getD, drop, length-drop, List·getD-append}
 use lib.Seq.{getD-append-seam}
 use borrow.Author.Tests.{eqb-true, eqb-false, ltb-true, ltb-false}
-use Rattle.model.specs.Tree.{IsTree, Child}
-use Rattle.model.specs.Summary.{Summary, asDocument, StrongEdge}
+use Rattle.model.specs.Tree.{IsTree}
+use Rattle.model.specs.Summary.{Summary, asDocument}
 use Rattle.model.specs.Pattern.{Pattern, PatternRecord, noPatternRecord, IsPatternTree, patternParent, Placement, descends}
 use Rattle.model.specs.Embeddings.{imageIn}
-use Rattle.model.specs.Canonical.{Spot, rootSpot, spotParent, spotAt, chainIn, chain, appendChain, Layout, layNode, layNodes, rootLayout, chains}
+use Rattle.model.specs.Canonical.{Spot, rootSpot, spotParent, spotAt, chain, appendChain, Layout, layNode, layNodes, rootLayout, chains}
 use Rattle.model.proofs.ListLaws.{length-snoc, drop-begins}
 use Rattle.model.proofs.TreeLaws.{edge-below}
 use Rattle.model.proofs.Chains.{Way, step, below-way, chain-way, chain-self}
-use Rattle.model.proofs.Laid.{spotOwner, spotFilled, SpotChild, ChainChild}
+use Rattle.model.proofs.Laid.{spotOwner, spotFilled, ChainChild}
 use Rattle.model.proofs.Built.{SpotFacts, ChainedTo, FirstOf, NodeFacts, Least, Built, Extends, at-kept, chain-child-kept, spot-kept, earlier-kept, node-kept, next-kept, own-at-kept, own-owner-kept, own-unfilled-kept, distinct-kept, least-kept}
 use Rattle.model.proofs.Segment.{Segment, Appended, append-chain, SegmentNode, segment-node, segment-rises}
 

@@ -1,6 +1,6 @@
 -- The computed list holds exactly the embeddings, each once, in document 01's order of placements: how a pattern node may stand
 -- depends on its image and its parent's, and parents come earlier, so images can be chosen one by one. Assumes nothing.
-use Prim.Native.Nat.{ℕ, zero, suc, _-_, _≤_, _<_}
+use Prim.Native.Nat.{ℕ, suc, _-_, _≤_, _<_}
 use mathlib.Core.Path.{_≡_, refl, sym, ap, _∙_, subst}
 use mathlib.Core.Bool.{Bool, true, false}
 use mathlib.Core.Logic.{_⊎_, inl, inr, _↔_}

@@ -2,7 +2,7 @@
 -- each node has its own pair of owner and path, so there are few enough of them for the visits allowed. Assumes nothing.
 use Prim.Native.Nat.{ℕ, zero, suc, _+_, _-_, _*_, _≤_, _<_}
 use mathlib.Core.Path.{_≡_, refl, sym, ap, _∙_, subst, subst₂}
-use mathlib.Core.Bool.{Bool, true, false, _&&_, true≢false, false≢true}
+use mathlib.Core.Bool.{Bool, true, false, _&&_, true≢false}
 use mathlib.Core.Logic.{_⊎_, inl, inr}
 use mathlib.Core.List.{List, [], _∷_, _++_, List·Memᴰ, List·Memᴰ·head, List·Memᴰ·tail, List·Memᴰ·not-nil, List·Memᴰ·cases-cons}
 use native.Mathlib.Omega.{arith}
@@ -10,7 +10,6 @@ use lib.Dec.{eqb, ltb}
 use lib.ListN.{length, getD}
 use lib.Seq.{getD-append-seam}
 use borrow.Author.Tests.{eqb-true, eqb-false, ltb-true, ltb-false, lt-ltb, eq-eqb}
-use Rattle.model.specs.Lists.{upFrom}
 use Rattle.model.specs.Tree.{IsTree, Child}
 use Rattle.model.specs.Summary.{Summary, asDocument, summaryParent, StrongEdge}
 use Rattle.model.specs.Pattern.{Pattern}
@@ -21,7 +20,7 @@ use Rattle.model.proofs.ListLaws.{length-snoc, and-intro, and-left, and
 use Rattle.model.proofs.TreeLaws.{child-lt, length-asDocument}
 use Rattle.model.proofs.Fitting.{strong-children-exact}
 use Rattle.model.proofs.Counting.{pigeonhole, pair-below, pair-first}
-use Rattle.model.proofs.Laid.{spotOwner, spotFilled, SpotChild, ChainChild}
+use Rattle.model.proofs.Laid.{spotOwner, SpotChild, ChainChild}
 use Rattle.model.proofs.Built.{SpotFacts, NodeFacts, Least, Built, Extends, extends-refl, extends-trans, extends-snoc, at-kept, owner-kept, child-kept, chain-child-kept, spot-kept, earlier-kept, node-kept, next-kept, own-at-kept, own-owner-kept, own-unfilled-kept, distinct-kept, least-kept}
 
 -- ---- children on a path

@@ -3,16 +3,12 @@
 -- down, since a parent stands before its children. Assumes nothing.
 use Prim.Native.Nat.{ℕ, zero, suc, _+_, _-_, _≤_, _<_}
 use mathlib.Core.Path.{_≡_, refl, sym, ap, _∙_, subst}
-use mathlib.Core.Bool.{Bool, true, false}
+use mathlib.Core.Bool.{true}
 use mathlib.Core.Logic.{_⊎_, inl, inr, _↔_}
-use mathlib.Core.List.{List, [], _∷_, map}
+use mathlib.Core.List.{List, map}
 use native.Mathlib.Omega.{arith}
-use native.Mathlib.Nat.{not-suc-le-zero, le-of-suc-le-suc}
-use lib.Dec.{eqb}
 use lib.ListN.{length, getD, length-map}
 use lib.Seq.{ext-getD}
-use borrow.Author.Tests.{eqb-true, eqb-false, eq-eqb, ne-eqb}
-use Rattle.model.specs.Lists.{upFrom}
 use Rattle.model.specs.Tree.{Document, labelOf, Edge}
 use Rattle.model.specs.Pattern.{Pattern, IsPatternTree, patternLabel, patternParent, descends, position, labelFits, arity, nodeAt, returnNodes, Embeds, Result}
 use Rattle.model.specs.Facts.{PatternFacts}

@@ -8,16 +8,16 @@ use mathlib.Core.List.{List, [], _∷_, _++_}
 use native.Mathlib.Omega.{arith}
 use native.Mathlib.Nat.{add-zero}
 use lib.Dec.{eqb}
-use lib.ListN.{length, getD, length-append, List·getD-append}
+use lib.ListN.{length, getD, List·getD-append}
 use lib.Seq.{getD-append-seam}
 use borrow.Author.Tests.{eqb-true, eq-eqb}
-use Rattle.model.specs.Lists.{upFrom, firstOf}
+use Rattle.model.specs.Lists.{upFrom}
 use Rattle.model.specs.Tree.{DocumentRecord, noDocumentRecord, Document, IsTree, parentOf, labelOf, Child, LabelPath, Hom}
 use Rattle.model.specs.Summary.{Summary, asDocument, summaryParent, summaryLabel, OnPath, Fits}
 use Rattle.model.specs.Facts.{SummaryFacts}
 use Rattle.model.specs.Embeddings.{childTest}
 use Rattle.model.specs.Fitting.{childLabelled, nextPath, pathsFrom, pathMap}
-use Rattle.model.proofs.ListLaws.{and-intro, and-left, and-right, mem-upFrom, first-hit, first-or}
+use Rattle.model.proofs.ListLaws.{and-intro, and-left, and-right, length-snoc, mem-upFrom, first-hit, first-or}
 use Rattle.model.proofs.TreeLaws.{length-asDocument, test-child, child-test}
 
 -- a node's summary node by the path map
@@ -134,7 +134,7 @@ unfolding pathsFrom
 length-pathsFrom S [] ms = sym (add-zero (length ms))
 length-pathsFrom S (r ∷ rs) ms =
     let rest = length-pathsFrom S rs (ms ++ nextPath S ms r ∷ []) in
-    let one = length-append ms (nextPath S ms r ∷ []) in
+    let one = length-snoc ms (nextPath S ms r) in
     omega arith
 
 pub length-pathMap : (S : Summary) (W : Document) → length (pathMap S W) ≡ length W
@@ -145,7 +145,7 @@ paths-before : (S : Summary) (rs : Document) (ms : List ℕ) (i : ℕ) → i < l
 unfolding pathsFrom
 paths-before S [] ms i l = refl
 paths-before S (r ∷ rs) ms i l =
-    let one = length-append ms (nextPath S ms r ∷ []) in
+    let one = length-snoc ms (nextPath S ms r) in
     paths-before S rs (ms ++ nextPath S ms r ∷ []) i (omega arith) ∙ List·getD-append ms (nextPath S ms r ∷ []) 0 i l
 
 -- entry i of the list of summary nodes comes by the rule from those before it, ns
@@ -159,7 +159,7 @@ paths-step : (S : Summary) (rs : Document) (ms : List ℕ) (i : ℕ) → i < len
 unfolding pathsFrom
 paths-step S [] ms i l = absurd (omega arith)
 paths-step S (r ∷ rs) ms zero l =
-    let one = length-append ms (nextPath S ms r ∷ []) in
+    let one = length-snoc ms (nextPath S ms r) in
     record {
       ns = ms;
       size = sym (add-zero (length ms));
@@ -167,7 +167,7 @@ paths-step S (r ∷ rs) ms zero l =
       here = ap (λ (k : ℕ). getD (pathsFrom S rs (ms ++ nextPath S ms r ∷ [])) k 0) (add-zero (length ms)) ∙ paths-before S rs (ms ++ nextPath S ms r ∷ []) (length ms) (omega arith) ∙ getD-append-seam ms (nextPath S ms r) [] 0;
     }
 paths-step S (r ∷ rs) ms (suc i) l =
-    let one = length-append ms (nextPath S ms r ∷ []) in
+    let one = length-snoc ms (nextPath S ms r) in
     let e : length (ms ++ nextPath S ms r ∷ []) + i ≡ length ms + suc i = omega arith in
     subst (λ (k : ℕ). Step S (pathsFrom S rs (ms ++ nextPath S ms r ∷ [])) k (getD rs i noDocumentRecord)) e (paths-step S rs (ms ++ nextPath S ms r ∷ []) i (omega arith))
 

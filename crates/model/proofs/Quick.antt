@@ -9,11 +9,11 @@ use mathlib.Core.List.{List, [], _∷_, map}
 use native.Mathlib.Omega.{arith}
 use native.Mathlib.Nat.{eq-zero-or-pos}
 use lib.ListN.{length, getD, length-map}
-use Rattle.model.specs.Tree.{Document, DocumentRecord, noDocumentRecord, IsTree, parentOf, labelOf, Child, Below, once, down, Edge}
-use Rattle.model.specs.Summary.{Summary, asDocument, summaryLabel}
+use Rattle.model.specs.Tree.{Document, IsTree, Child, Below, once, down, Edge}
+use Rattle.model.specs.Summary.{Summary, asDocument}
 use Rattle.model.specs.Pattern.{Pattern, patternParent, patternLabel, descends, position, labelFits, arity, nodeAt, returnNodes, Result}
 use Rattle.model.specs.Embeddings.{imageIn, isResult}
-use Rattle.model.specs.Canonical.{Spot, rootSpot, spotParent, spotAt, chain, spotRecord, canonicalSpots, canonical, ownNodes, ownResult, passes}
+use Rattle.model.specs.Canonical.{Spot, spotParent, spotAt, chain, canonicalSpots, canonical, ownNodes, ownResult, passes}
 use Rattle.model.specs.Facts.{SummaryFacts, PatternFacts}
 use Rattle.model.specs.Quick.{meets, offers, closed, union, hang, given, quick}
 use Rattle.model.proofs.ListLaws.{or-cases, or-left, or-right, bool-ext, true-or-false}

@@ -5,21 +5,21 @@ use Prim.Native.Nat.{ℕ, zero, suc, _+_, _≤_, _<_}
 use mathlib.Core.Path.{_≡_, refl, sym, ap, _∙_, subst}
 use mathlib.Core.Bool.{Bool, true, false, _&&_, _||_, not, false≢true}
 use mathlib.Core.Logic.{_⊎_, inl, inr, ⊎-elim}
-use mathlib.Core.List.{List, [], _∷_, List·Memᴰ}
+use mathlib.Core.List.{List, [], _∷_}
 use native.Mathlib.Omega.{arith}
 use lib.Dec.{eqb, ltb}
-use lib.ListN.{length, getD}
+use lib.ListN.{length}
 use borrow.Author.Tests.{ltb-true, lt-ltb, eqb-true, eq-eqb}
 use Rattle.model.specs.Lists.{upFrom, anyOf, allOf}
-use Rattle.model.specs.Tree.{Document, IsTree}
-use Rattle.model.specs.Summary.{Summary, asDocument, summaryLabel, noSummaryRecord, StrongEdge}
+use Rattle.model.specs.Tree.{IsTree}
+use Rattle.model.specs.Summary.{Summary, asDocument, summaryLabel, StrongEdge}
 use Rattle.model.specs.Pattern.{Pattern, IsPatternTree, patternParent, patternLabel, descends, position, labelFits}
-use Rattle.model.specs.Embeddings.{childTest, imageIn}
+use Rattle.model.specs.Embeddings.{imageIn}
 use Rattle.model.specs.Fitting.{strongChildren}
-use Rattle.model.specs.Canonical.{chainIn, chain}
+use Rattle.model.specs.Canonical.{chain}
 use Rattle.model.specs.Quick.{hangsFrom, meets, offers, closedIn, closed, union, hang, givenIn, given}
-use Rattle.model.proofs.ListLaws.{bool-ext, and-intro, and-left, and-right, or-cases, or-left, or-right, all-below, below-all, any-below, below-any, any-intro, any-elim, keep-intro, keep-elim, mem-upFrom}
-use Rattle.model.proofs.TreeLaws.{test-child, child-test, child-lt, length-asDocument}
+use Rattle.model.proofs.ListLaws.{bool-ext, and-intro, and-left, and-right, or-cases, or-left, or-right, all-below, below-all, any-below, below-any, any-intro, any-elim}
+use Rattle.model.proofs.TreeLaws.{child-lt, length-asDocument}
 use Rattle.model.proofs.Fitting.{strong-children-exact}
 use Rattle.model.proofs.NodeByNode.{UnderOf, under-lt}
 

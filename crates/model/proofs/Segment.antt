@@ -1,8 +1,8 @@
 -- One chain of new nodes, hung from a node and led down to the image of its pattern node: what each of its nodes is.
 -- Assumes nothing.
-use Prim.Native.Nat.{ℕ, zero, suc, _+_, _≤_, _<_}
+use Prim.Native.Nat.{ℕ, suc, _+_, _≤_, _<_}
 use mathlib.Core.Path.{_≡_, refl, sym, ap, _∙_, subst}
-use mathlib.Core.Bool.{Bool, true, false, false≢true}
+use mathlib.Core.Bool.{Bool, true, false}
 use mathlib.Core.Logic.{_⊎_, inl, inr}
 use mathlib.Core.List.{List, [], _∷_, _++_, nil≢cons}
 use native.Mathlib.Omega.{arith}
@@ -16,7 +16,7 @@ use Rattle.model.specs.Canonical.{Spot, rootSpot, spotParent, spotAt, ch
 use Rattle.model.proofs.ListLaws.{length-snoc}
 use Rattle.model.proofs.TreeLaws.{child-lt}
 use Rattle.model.proofs.Chains.{Way, end, step, way-bound, chain-way}
-use Rattle.model.proofs.Laid.{spotOwner, spotFilled, SpotChild, ChainChild}
+use Rattle.model.proofs.Laid.{spotOwner, spotFilled, ChainChild}
 use Rattle.model.proofs.Built.{Extends, extends-refl, extends-trans, extends-snoc}
 
 abbrev chainSpot : ℕ → ℕ → ℕ → Spot

@@ -1,10 +1,9 @@
 -- A canonical document's table read as a document: parents, labels and children are those of the table, and the map to the
 -- summary nodes is a homomorphism. Assumes nothing.
 use Prim.Native.Nat.{ℕ, zero, suc, _<_}
-use mathlib.Core.Path.{_≡_, refl, sym, ap, _∙_, subst}
-use mathlib.Core.List.{List, [], _∷_, map}
+use mathlib.Core.Path.{_≡_, sym, ap, _∙_, subst}
+use mathlib.Core.List.{List, map}
 use native.Mathlib.Omega.{arith}
-use native.Mathlib.Nat.{not-suc-le-zero, le-of-suc-le-suc}
 use lib.ListN.{length, getD, length-map}
 use Rattle.model.specs.Tree.{DocumentRecord, noDocumentRecord, Document, IsTree, parentOf, labelOf, Child, Hom}
 use Rattle.model.specs.Summary.{Summary, asDocument, summaryLabel}

@@ -2,11 +2,12 @@
 -- to the parent's, one map does so for all nodes, since parents come earlier. Assumes nothing.
 use Prim.Native.Nat.{ℕ, zero, suc, _≤_, _<_}
 use mathlib.Core.Path.{_≡_, refl, sym, _∙_, subst, subst₂}
-use mathlib.Core.Bool.{Bool, true, false}
+use mathlib.Core.Bool.{true, false}
 use mathlib.Core.Logic.{_⊎_, inl, inr}
 use native.Mathlib.Omega.{arith}
+use native.Mathlib.Nat.{le-of-suc-le-suc, eq-or-lt-of-le}
 use lib.Dec.{eqb}
-use borrow.Author.Tests.{eqb-true, eqb-false, eq-eqb, ne-eqb}
+use borrow.Author.Tests.{eq-eqb, ne-eqb}
 use Rattle.model.specs.Tree.{Rooted}
 
 -- a map on the first m nodes, by Good for a node and its image, and Link for a node, its parent's image and its own
@@ -28,13 +29,6 @@ put-before : (f : ℕ → ℕ) (m y i : ℕ) → i < m → put f m y i ≡ f i
 unfolding put
 put-before f m y i h = let ne : (i ≡ m) → ⊥ = λ (q : i ≡ m). omega arith in rw (ne-eqb i m ne, put) refl
 
-before-or-at : (i m : ℕ) → i < suc m → (i < m) ⊎ (i ≡ m)
-before-or-at i m h = go (eqb i m) refl
-  where
-    go : (b : Bool) → eqb i m ≡ b → (i < m) ⊎ (i ≡ m)
-    go true e = inr (eqb-true i m e)
-    go false e = let ne : (i ≡ m) → ⊥ = eqb-false i m e in inl (omega arith)
-
 module _ {parent : ℕ → ℕ} {Good : ℕ → ℕ → Type 0} {Link : ℕ → ℕ → ℕ → Type 0} where
   -- one node more
   choose-next : (m y : ℕ) → 0 < m → parent m < m → ((i : ℕ) → 0 < i → i < m → parent i < i) → (c : Chosen parent Good Link m)
@@ -43,22 +37,22 @@ module _ {parent : ℕ → ℕ} {Good : ℕ → ℕ → Type 0} {Link : ℕ → 
       record {
         image = f;
         root = put-before (c .image) m y 0 p ∙ c .root;
-        good = λ i h. good i (before-or-at i m h);
-        link = λ i q h. link i q (before-or-at i m h);
+        good = λ i h. good i (eq-or-lt-of-le (le-of-suc-le-suc h));
+        link = λ i q h. link i q (eq-or-lt-of-le (le-of-suc-le-suc h));
       }
     where
       f : ℕ → ℕ
       f = put (c .image) m y
 
-      good : (i : ℕ) → (i < m) ⊎ (i ≡ m) → Good i (f i)
-      good i (inl h) = subst (Good i) (sym (put-before (c .image) m y i h)) (c .good i h)
-      good i (inr e) = subst (λ (x : ℕ). Good x (f x)) (sym e) (subst (Good m) (sym (put-same (c .image) m y)) g)
+      good : (i : ℕ) → (i ≡ m) ⊎ (i < m) → Good i (f i)
+      good i (inr h) = subst (Good i) (sym (put-before (c .image) m y i h)) (c .good i h)
+      good i (inl e) = subst (λ (x : ℕ). Good x (f x)) (sym e) (subst (Good m) (sym (put-same (c .image) m y)) g)
 
-      link : (i : ℕ) → 0 < i → (i < m) ⊎ (i ≡ m) → Link i (f (parent i)) (f i)
-      link i q (inl h) =
+      link : (i : ℕ) → 0 < i → (i ≡ m) ⊎ (i < m) → Link i (f (parent i)) (f i)
+      link i q (inr h) =
           let e : parent i < i = earlier i q h in
           subst₂ (Link i) (sym (put-before (c .image) m y (parent i) (omega arith))) (sym (put-before (c .image) m y i h)) (c .link i q h)
-      link i q (inr e) =
+      link i q (inl e) =
           subst (λ (x : ℕ). Link x (f (parent x)) (f x)) (sym e) (subst₂ (Link m) (sym (put-before (c .image) m y (parent m) k)) (sym (put-same (c .image) m y)) l)
 
   choose-below : (n : ℕ) → Rooted n parent → Good 0 0

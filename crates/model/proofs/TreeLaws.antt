@@ -1,17 +1,17 @@
 -- Laws of children, descendants and homomorphisms: the tests say what the relations say, a descendant has the greater number,
 -- and an embedding followed by a homomorphism is an embedding. Assumes nothing.
-use Prim.Native.Nat.{ℕ, zero, suc, _+_, _≤_, _<_}
+use Prim.Native.Nat.{ℕ, zero, suc, _≤_, _<_}
 use mathlib.Core.Path.{_≡_, refl, sym, ap, _∙_, subst}
 use mathlib.Core.Bool.{Bool, true, false, _&&_, _||_, false≢true}
 use mathlib.Core.Logic.{_⊎_, inl, inr, _↔_}
 use mathlib.Core.List.{List, map, map-map}
 use native.Mathlib.Omega.{arith}
 use lib.Dec.{eqb, ltb}
-use lib.ListN.{length, getD, length-map, List·getD-eq-default}
+use lib.ListN.{length, length-map, List·getD-eq-default}
 use borrow.Author.Tests.{ltb-true, ltb-false, eqb-true, lt-ltb, eq-eqb}
-use Rattle.model.specs.Tree.{DocumentRecord, noDocumentRecord, Document, IsTree, parentOf, labelOf, Child, Below, once, down, Edge, Hom}
+use Rattle.model.specs.Tree.{DocumentRecord, noDocumentRecord, Document, IsTree, parentOf, Child, Below, once, down, Edge, Hom}
 use Rattle.model.specs.Summary.{Summary, withoutStrong, asDocument}
-use Rattle.model.specs.Pattern.{Pattern, PatternRecord, patternLabel, patternParent, descends, labelFits, returnNodes, Embeds, Result}
+use Rattle.model.specs.Pattern.{Pattern, patternLabel, patternParent, descends, labelFits, returnNodes, Embeds, Result}
 use Rattle.model.specs.Embeddings.{childTest, climbs, belowTest, edgeTest}
 use Rattle.model.proofs.ListLaws.{and-intro, and-left, and-right, or-cases, or-left, or-right}
 
