@@ -20,7 +20,7 @@ use Rattle.model.proofs.TreeLaws.{edge-below}
 use Rattle.model.proofs.Chains.{Way, step, below-way, chain-way, chain-self}
 use Rattle.model.proofs.Laid.{spotOwner, spotFilled, ChainChild}
 use Rattle.model.proofs.Built.{SpotFacts, ChainedTo, FirstOf, NodeFacts, Least, Built, Extends, at-kept, chain-child-kept, spot-kept, earlier-kept, node-kept, next-kept, own-at-kept, own-owner-kept, own-unfilled-kept, distinct-kept, least-kept}
-use Rattle.model.proofs.Segment.{Segment, Appended, append-chain, SegmentNode, segment-node, segment-rises}
+use Rattle.model.proofs.Segment.{Segment, Appended, append-chain, chain-spot-child, Hangs, SegmentNode, segment-node, segment-rises}
 
 -- ---- the root alone
 
@@ -109,10 +109,13 @@ module _ {S : Summary} {P : Pattern} {es : List ℕ} {m : ℕ} {spots : List Spo
   size = t .appended .size
 
   -- an old node, or one of the new chain
-  side : (i : ℕ) → i < length T → (i < length spots) ⊎ ((length spots ≤ i) × (i < length spots + length xs))
+  abbrev Side : ℕ → Type 0
+  Side i = (i < length spots) ⊎ ((length spots ≤ i) × (i < length spots + length xs))
+
+  side : (i : ℕ) → i < length T → Side i
   side i h = go (ltb i (length spots)) refl
     where
-      go : (b : Bool) → ltb i (length spots) ≡ b → (i < length spots) ⊎ ((length spots ≤ i) × (i < length spots + length xs))
+      go : (b : Bool) → ltb i (length spots) ≡ b → Side i
       go true e = inl (ltb-true i (length spots) e)
       go false e = let z = size in inr (ltb-false i (length spots) e, omega arith)
 
@@ -124,7 +127,11 @@ module _ {S : Summary} {P : Pattern} {es : List ℕ} {m : ℕ} {spots : List Spo
       at-kept ext v v-inside
       ∙ subst (λ (k : ℕ). spotAt spots k ≡ imageIn es (patternParent P m)) (t .hung) (t .built .ownAt (patternParent P m) parent-lt)
 
-  new : (i : ℕ) → length spots ≤ i → i < length spots + length xs → SegmentNode S T m (imageIn es m) v (length spots) (length xs) i
+  -- a node of the new chain
+  abbrev New : ℕ → Type 0
+  New i = SegmentNode S T m (imageIn es m) v (length spots) (length xs) i
+
+  new : (i : ℕ) → length spots ≤ i → i < length spots + length xs → New i
   new = segment-node S (t .tree) T m (imageIn es m) v (length spots) (t .way) v-at (t .appended .segment) (let z = size in omega arith)
 
   rises : (i j : ℕ) → length spots ≤ i → i < j → j < length spots + length xs → spotAt T i < spotAt T j
@@ -143,7 +150,7 @@ module _ {S : Summary} {P : Pattern} {es : List ℕ} {m : ℕ} {spots : List Spo
   last-upper : length T - 1 < length spots + length xs
   last-upper = let z = size in let k = t .nonempty in omega arith
 
-  last-node : SegmentNode S T m (imageIn es m) v (length spots) (length xs) (length T - 1)
+  last-node : New (length T - 1)
   last-node = new (length T - 1) last-lower last-upper
 
   old-owner : (i : ℕ) → i < length spots → spotOwner T i < m
@@ -158,7 +165,7 @@ module _ {S : Summary} {P : Pattern} {es : List ℕ} {m : ℕ} {spots : List Spo
         ownOnly = λ p a. f .ownOnly p a ∙ sym (own-old (s .owner) (f .owner));
       }
 
-  new-spot : (i : ℕ) → SegmentNode S T m (imageIn es m) v (length spots) (length xs) i → SpotFacts S es own′ (suc m) i (getD T i rootSpot)
+  new-spot : (i : ℕ) → New i → SpotFacts S es own′ (suc m) i (getD T i rootSpot)
   new-spot i n =
       let z : length T ≡ length spots + length xs = size in
       record {
@@ -173,7 +180,7 @@ module _ {S : Summary} {P : Pattern} {es : List ℕ} {m : ℕ} {spots : List Spo
   spot-of : (i : ℕ) (s : Spot) → i < length T → getD T i rootSpot ≡ s → SpotFacts S es own′ (suc m) i s
   spot-of i s h e = go (side i h)
     where
-      go : (i < length spots) ⊎ ((length spots ≤ i) × (i < length spots + length xs)) → SpotFacts S es own′ (suc m) i s
+      go : Side i → SpotFacts S es own′ (suc m) i s
       go (inl l) = old-spot (spot-kept ext (t .built) i s l e)
       go (inr r) = subst (λ (k : Spot). SpotFacts S es own′ (suc m) i k) e (new-spot i (new i (r .0) (r .1)))
 
@@ -181,11 +188,11 @@ module _ {S : Summary} {P : Pattern} {es : List ℕ} {m : ℕ} {spots : List Spo
   earlier-of : (i : ℕ) → 0 < i → i < length T → spotParent T i < i
   earlier-of i p h = go (side i h)
     where
-      hung-lt : length spots ≤ i → ((i ≡ length spots) × (spotParent T i ≡ v)) ⊎ ((length spots ≤ spotParent T i) × (suc (spotParent T i) ≡ i)) → spotParent T i < i
+      hung-lt : length spots ≤ i → Hangs T v (length spots) i → spotParent T i < i
       hung-lt l (inl k) = let a = k .0 in let b = k .1 in let c = v-inside in omega arith
       hung-lt l (inr k) = let b = k .1 in omega arith
 
-      go : (i < length spots) ⊎ ((length spots ≤ i) × (i < length spots + length xs)) → spotParent T i < i
+      go : Side i → spotParent T i < i
       go (inl l) = earlier-kept ext (t .built) i p l
       go (inr r) = hung-lt (r .0) (new i (r .0) (r .1) .hangs)
 
@@ -207,10 +214,10 @@ module _ {S : Summary} {P : Pattern} {es : List ℕ} {m : ℕ} {spots : List Spo
         chainUp = λ p. up (n .hangs);
       }
     where
-      n : SegmentNode S T m (imageIn es m) v (length spots) (length xs) i
+      n : New i
       n = new i l h
 
-      up : ((i ≡ length spots) × (spotParent T i ≡ v)) ⊎ ((length spots ≤ spotParent T i) × (suc (spotParent T i) ≡ i))
+      up : Hangs T v (length spots) i
           → ChainedTo S es (getD T i rootSpot) (getD T (spotParent T i) rootSpot) ⊎ FirstOf S P es own′ (getD T i rootSpot)
       up (inl k) =
           inr (record {
@@ -220,13 +227,13 @@ module _ {S : Summary} {P : Pattern} {es : List ℕ} {m : ℕ} {spots : List Spo
           })
       up (inr k) =
           let a = k .1 in
-          let p : SegmentNode S T m (imageIn es m) v (length spots) (length xs) (spotParent T i) = new (spotParent T i) (k .0) (omega arith) in
+          let p : New (spotParent T i) = new (spotParent T i) (k .0) (omega arith) in
           inl (record { owner = p .owner ∙ sym (n .owner); unfilled = p .unfilled; chained = rw (n .owner) (n .chained) })
 
   node-of : (i : ℕ) (s u : Spot) → 0 < i → i < length T → getD T i rootSpot ≡ s → getD T (s .parent) rootSpot ≡ u → NodeFacts S P es own′ s u
   node-of i s u p h e f = go (side i h)
     where
-      go : (i < length spots) ⊎ ((length spots ≤ i) × (i < length spots + length xs)) → NodeFacts S P es own′ s u
+      go : Side i → NodeFacts S P es own′ s u
       go (inl l) = old-node (spot-kept ext (t .built) i s l e .owner) (node-kept ext (t .built) i s u p l e f)
       go (inr r) =
           let g : getD T (spotParent T i) rootSpot ≡ u = ap (λ (z : Spot). getD T (z .parent) rootSpot) e ∙ f in
@@ -237,10 +244,10 @@ module _ {S : Summary} {P : Pattern} {es : List ℕ} {m : ℕ} {spots : List Spo
       → chain S (s .at) (imageIn es (s .owner)) ≡ y ∷ ys → ChainChild T i (s .owner) y
   next-of i s y ys h e f c = go (side i h)
     where
-      go : (i < length spots) ⊎ ((length spots ≤ i) × (i < length spots + length xs)) → ChainChild T i (s .owner) y
+      go : Side i → ChainChild T i (s .owner) y
       go (inl l) = next-kept ext (t .built) i s y ys l e f c
       go (inr r) =
-          let n : SegmentNode S T m (imageIn es m) v (length spots) (length xs) i = new i (r .0) (r .1) in
+          let n : New i = new i (r .0) (r .1) in
           let o : s .owner ≡ m = ap (λ (z : Spot). z .owner) (sym e) ∙ n .owner in
           let a : s .at ≡ spotAt T i = ap (λ (z : Spot). z .at) (sym e) in
           rw o (n .next y ys (rw (← a, ← o) c))
@@ -253,13 +260,7 @@ module _ {S : Summary} {P : Pattern} {es : List ℕ} {m : ℕ} {spots : List Spo
       let b = t .built .some in
       let p : xs ≡ y ∷ ys = sym (chain-way S (t .tree) (t .way)) ∙ c in
       let g : Segment T m v (length spots) (y ∷ ys) = subst (λ (l : List ℕ). Segment T m v (length spots) l) p (t .appended .segment) in
-      record {
-        node = length spots;
-        child = record { notRoot = b; inside = omega arith; isParent = ap (λ (s : Spot). s .parent) (g .0) };
-        owner = ap (λ (s : Spot). s .owner) (g .0);
-        unfilled = ap (λ (s : Spot). s .filled) (g .0);
-        on = ap (λ (s : Spot). s .at) (g .0);
-      }
+      chain-spot-child (length spots) (g .0) b (omega arith)
 
   first-of : (q y : ℕ) (ys : List ℕ) → 0 < q → q < suc m → chain S (imageIn es (patternParent P q)) (imageIn es q) ≡ y ∷ ys
       → ChainChild T (imageIn own′ (patternParent P q)) q y
@@ -304,9 +305,6 @@ module _ {S : Summary} {P : Pattern} {es : List ℕ} {m : ℕ} {spots : List Spo
   distinct-of : (i j : ℕ) → i < length T → j < length T → spotOwner T i ≡ spotOwner T j → spotAt T i ≡ spotAt T j → i ≡ j
   distinct-of i j h k o a = go (side i h) (side j k)
     where
-      Side : ℕ → Type 0
-      Side n = (n < length spots) ⊎ ((length spots ≤ n) × (n < length spots + length xs))
-
       go : Side i → Side j → i ≡ j
       go (inl p) (inl q) = distinct-kept ext (t .built) i j p q o a
       go (inl p) (inr q) = absurd (apart i j p (q .0) (q .1) o)
@@ -319,7 +317,7 @@ module _ {S : Summary} {P : Pattern} {es : List ℕ} {m : ℕ} {spots : List Spo
       first-least : i ≡ length spots → length spots ≤ i → Least T i
       first-least e l = record { least = λ j k o. at-j j o (side j k) }
         where
-          n : SegmentNode S T m (imageIn es m) v (length spots) (length xs) i
+          n : New i
           n = new i l (let z = t .nonempty in omega arith)
 
           below : (j : ℕ) → length spots ≤ j → j < length spots + length xs → (b : Bool) → ltb i j ≡ b → spotAt T i ≤ spotAt T j
@@ -329,16 +327,16 @@ module _ {S : Summary} {P : Pattern} {es : List ℕ} {m : ℕ} {spots : List Spo
               let same-number : i ≡ j = omega arith in
               rw same-number (omega arith)
 
-          at-j : (j : ℕ) → spotOwner T j ≡ spotOwner T i → (j < length spots) ⊎ ((length spots ≤ j) × (j < length spots + length xs)) → spotAt T i ≤ spotAt T j
+          at-j : (j : ℕ) → spotOwner T j ≡ spotOwner T i → Side j → spotAt T i ≤ spotAt T j
           at-j j o (inl q) = absurd (apart j i q l (let z = t .nonempty in omega arith) o)
           at-j j o (inr q) = below j (q .0) (q .1) (ltb i j) refl
 
-      chained : length spots ≤ i → i < length spots + length xs → ((i ≡ length spots) × (spotParent T i ≡ v)) ⊎ ((length spots ≤ spotParent T i) × (suc (spotParent T i) ≡ i))
+      chained : length spots ≤ i → i < length spots + length xs → Hangs T v (length spots) i
           → (spotOwner T (spotParent T i) ≡ spotOwner T i) ⊎ Least T i
       chained l b (inl k) = inr (first-least (k .0) l)
       chained l b (inr k) = let a = k .1 in inl (new (spotParent T i) (k .0) (omega arith) .owner ∙ sym (new i l b .owner))
 
-      go : (i < length spots) ⊎ ((length spots ≤ i) × (i < length spots + length xs)) → (spotOwner T (spotParent T i) ≡ spotOwner T i) ⊎ Least T i
+      go : Side i → (spotOwner T (spotParent T i) ≡ spotOwner T i) ⊎ Least T i
       go (inl l) = least-kept ext (t .built) i p l (λ f j a b o. absurd (apart i j l a (let z = size in omega arith) (sym o)))
       go (inr r) = chained (r .0) (r .1) (new i (r .0) (r .1) .hangs)
 

@@ -60,7 +60,11 @@ served-kept f s =
 
 -- ---- one node filled up
 
--- what is known when a child of v on path t is appended
+-- the child of v on path t that is appended
+abbrev addedSpot : List Spot → ℕ → ℕ → Spot
+addedSpot spots v t = record { parent = v; at = t; owner = getD spots v rootSpot .owner; filled = true }
+
+-- what is known when it is
 record Addition (S : Summary) (P : Pattern) (es : List ℕ) (m : ℕ) (spots : List Spot) (own : List ℕ) (v t : ℕ) : Type 0 where
   tree : IsTree (asDocument S)
   built : Built S P es m spots own
@@ -70,7 +74,7 @@ record Addition (S : Summary) (P : Pattern) (es : List ℕ) (m : ℕ) (spots : L
 
 module _ {S : Summary} {P : Pattern} {es : List ℕ} {m : ℕ} {spots : List Spot} {own : List ℕ} {v t : ℕ} (a : Addition S P es m spots own v t) where
   abbrev added : Spot
-  added = record { parent = v; at = t; owner = getD spots v rootSpot .owner; filled = true }
+  added = addedSpot spots v t
 
   abbrev T : List Spot
   T = spots ++ added ∷ []
@@ -253,7 +257,7 @@ module _ {S : Summary} {P : Pattern} {es : List ℕ} {m : ℕ} {own : List ℕ} 
   add-missing spots v t b h s = go (hasChildOn spots v t) refl
     where
       added-spots : List Spot
-      added-spots = spots ++ record { parent = v; at = t; owner = getD spots v rootSpot .owner; filled = true } ∷ []
+      added-spots = spots ++ addedSpot spots v t ∷ []
 
       addition : hasChildOn spots v t ≡ false → Addition S P es m spots own v t
       addition e = record { tree = tree; built = b; inside = h; strong = s; missing = λ k. true≢false (sym (served-test k) ∙ e) }

@@ -16,7 +16,7 @@ use Rattle.model.specs.Facts.{SummaryFacts}
 use Rattle.model.specs.Embeddings.{childTest}
 use Rattle.model.specs.Fitting.{parentRule, isRooted, strongChildren, pathMap, strongKept, fits}
 use Rattle.model.proofs.ListLaws.{and-intro, and-left, and-right, all-intro, all-elim, keep-intro, keep-elim, all-below, below-all, any-below, below-any, mem-upFrom, mem-at, at-mem}
-use Rattle.model.proofs.TreeLaws.{length-asDocument, test-child, child-test}
+use Rattle.model.proofs.TreeLaws.{length-asDocument, test-child-and, child-and-test}
 use Rattle.model.proofs.Ascending.{ascending-at, ascending-keep, ascending-upFrom}
 use Rattle.model.proofs.Paths.{pathIn, on-path-unique, hom-on-path, length-pathMap, inside-hom, path-hom, path-on}
 
@@ -60,17 +60,14 @@ strong-children-exact S s t = (forth, back)
 
     forth : List·Memᴰ t (keep test (upFrom 0 (length S))) → StrongEdge S s t
     forth m =
-        let e = keep-elim test t (upFrom 0 (length S)) m .1 in
-        record {
-          child = test-child (asDocument S) s t (and-left (childTest (asDocument S) s t) (eqb (getD S t noSummaryRecord .strong) 1) e);
-          strong = eqb-true (getD S t noSummaryRecord .strong) 1 (and-right (childTest (asDocument S) s t) (eqb (getD S t noSummaryRecord .strong) 1) e);
-        }
+        let r = test-child-and (asDocument S) s t (getD S t noSummaryRecord .strong) 1 (keep-elim test t (upFrom 0 (length S)) m .1) in
+        record { child = r .0; strong = r .1 }
 
     back : StrongEdge S s t → List·Memᴰ t (keep test (upFrom 0 (length S)))
     back g =
         let size : length (asDocument S) ≡ length S = length-asDocument S in
         let low : t < length (asDocument S) = g .child .inside in
-        keep-intro test t (upFrom 0 (length S)) (mem-upFrom 0 (length S) t (omega arith) (omega arith)) (and-intro (child-test (g .child)) (eq-eqb (getD S t noSummaryRecord .strong) 1 (g .strong)))
+        keep-intro test t (upFrom 0 (length S)) (mem-upFrom 0 (length S) t (omega arith) (omega arith)) (child-and-test (getD S t noSummaryRecord .strong) 1 (g .child) (g .strong))
 
 -- they are in outline order
 pub strong-children-ascend : (S : Summary) (s i j : ℕ) → i < j → j < length (strongChildren S s) → getD (strongChildren S s) i 0 < getD (strongChildren S s) j 0
@@ -110,7 +107,8 @@ strong-kept-exact S W i = (forth, back)
     forth e t g =
         let some = all-elim (λ t. anyOf (test t) (upFrom 0 (length W))) (strongChildren S (pathIn S W i)) e t (strong-children-exact S (pathIn S W i) t .1 g) in
         let r = any-below (test t) (length W) some in
-        (r .0, test-child W i (r .0) (and-left (childTest W i (r .0)) (eqb (pathIn S W (r .0)) t) (r .2)), eqb-true (pathIn S W (r .0)) t (and-right (childTest W i (r .0)) (eqb (pathIn S W (r .0)) t) (r .2)))
+        let c = test-child-and W i (r .0) (pathIn S W (r .0)) t (r .2) in
+        (r .0, c .0, c .1)
 
     back : ((t : ℕ) → StrongEdge S (pathIn S W i) t → (j : ℕ) × Child W i j × (pathIn S W j ≡ t)) → allOf (λ t. anyOf (test t) (upFrom 0 (length W))) (strongChildren S (pathIn S W i)) ≡ true
     back h = all-intro (λ t. anyOf (test t) (upFrom 0 (length W))) (strongChildren S (pathIn S W i)) each
@@ -118,7 +116,7 @@ strong-kept-exact S W i = (forth, back)
         each : (t : ℕ) → List·Memᴰ t (strongChildren S (pathIn S W i)) → anyOf (test t) (upFrom 0 (length W)) ≡ true
         each t m =
             let r = h t (strong-children-exact S (pathIn S W i) t .0 m) in
-            below-any (test t) (length W) (r .0) (r .1 .inside) (and-intro (child-test (r .1)) (eq-eqb (pathIn S W (r .0)) t (r .2)))
+            below-any (test t) (length W) (r .0) (r .1 .inside) (child-and-test (pathIn S W (r .0)) t (r .1) (r .2))
 
 -- what the three tests of fitting say together
 record Tested (S : Summary) (W : Document) : Type 0 where

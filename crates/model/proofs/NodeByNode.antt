@@ -12,6 +12,7 @@ use lib.Seq.{ext-getD}
 use Rattle.model.specs.Tree.{Document, labelOf, Edge}
 use Rattle.model.specs.Pattern.{Pattern, IsPatternTree, patternLabel, patternParent, descends, position, labelFits, arity, nodeAt, returnNodes, Embeds, Result}
 use Rattle.model.specs.Facts.{PatternFacts}
+use Rattle.model.proofs.TreeLaws.{rooted-lt}
 use Rattle.model.proofs.ReturnNodes.{length-returnNodes, returns-at}
 use Rattle.model.proofs.TreeChoice.{Chosen, choose}
 
@@ -22,9 +23,7 @@ pub record UnderOf (Q : Pattern) (p c : ℕ) : Type 0 where
   pub isParent : patternParent Q c ≡ p
 
 pub under-lt : {Q : Pattern} {p c : ℕ} → IsPatternTree Q → UnderOf Q p c → p < c
-under-lt {Q} {p} {c} t u =
-    let h : patternParent Q c < c = t .earlier c (u .notRoot) (u .inside) in
-    subst (λ (x : ℕ). x < c) (u .isParent) h
+under-lt t u = rooted-lt t (u .notRoot) (u .inside) (u .isParent)
 
 -- the part of the pattern from p down embeds at v, with a side condition on each node and its image
 pub data Can (Q : Pattern) (W : Document) (pin : ℕ → ℕ → Type 0) : ℕ → ℕ → Type 0 where

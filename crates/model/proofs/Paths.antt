@@ -17,8 +17,8 @@ use Rattle.model.specs.Summary.{Summary, asDocument, summaryParent, summ
 use Rattle.model.specs.Facts.{SummaryFacts}
 use Rattle.model.specs.Embeddings.{childTest}
 use Rattle.model.specs.Fitting.{childLabelled, nextPath, pathsFrom, pathMap}
-use Rattle.model.proofs.ListLaws.{and-intro, and-left, and-right, length-snoc, mem-upFrom, first-hit, first-or}
-use Rattle.model.proofs.TreeLaws.{length-asDocument, test-child, child-test}
+use Rattle.model.proofs.ListLaws.{length-snoc, mem-upFrom, first-hit, first-or}
+use Rattle.model.proofs.TreeLaws.{length-asDocument, test-child-and, child-and-test}
 
 -- a node's summary node by the path map
 abbrev pub pathIn : Summary → Document → ℕ → ℕ
@@ -102,11 +102,7 @@ pub record ChildLabelled (S : Summary) (s l t : ℕ) : Type 0 where
   pub label : summaryLabel S t ≡ l
 
 test-labelled : (S : Summary) (s l t : ℕ) → (childTest (asDocument S) s t && eqb (summaryLabel S t) l) ≡ true → ChildLabelled S s l t
-test-labelled S s l t e =
-    record {
-      child = test-child (asDocument S) s t (and-left (childTest (asDocument S) s t) (eqb (summaryLabel S t) l) e);
-      label = eqb-true (summaryLabel S t) l (and-right (childTest (asDocument S) s t) (eqb (summaryLabel S t) l) e);
-    }
+test-labelled S s l t e = let r = test-child-and (asDocument S) s t (summaryLabel S t) l e in record { child = r .0; label = r .1 }
 
 -- the search finds such a child, if there is one
 pub labelled-found : {S : Summary} {s l t : ℕ} → SummaryFacts S → ChildLabelled S s l t → childLabelled S s l ≡ t
@@ -114,7 +110,7 @@ unfolding childLabelled
 labelled-found {S} {s} {l} {t} f c =
     let size : length (asDocument S) ≡ length S = length-asDocument S in
     let low : t < length (asDocument S) = c .child .inside in
-    let hit = first-hit (λ x. childTest (asDocument S) s x && eqb (summaryLabel S x) l) (length S) (upFrom 0 (length S)) t (mem-upFrom 0 (length S) t (omega arith) (omega arith)) (and-intro (child-test (c .child)) (eq-eqb (summaryLabel S t) l (c .label))) in
+    let hit = first-hit (λ x. childTest (asDocument S) s x && eqb (summaryLabel S x) l) (length S) (upFrom 0 (length S)) t (mem-upFrom 0 (length S) t (omega arith) (omega arith)) (child-and-test (summaryLabel S t) l (c .child) (c .label)) in
     let r = test-labelled S s l (childLabelled S s l) (hit .1) in
     f .siblings s (childLabelled S s l) t (r .child) (c .child) (r .label ∙ sym (c .label))
 
