@@ -46,7 +46,6 @@ module _ (S : Summary) (P : Pattern) (es : List ℕ) (tree : IsTree (asDocument 
         rootParent = ap (λ (s : Spot). s .parent) (b .root);
         rootAt = ap (λ (s : Spot). s .at) (b .root);
         rootOwner = ap (λ (s : Spot). s .owner) (b .root);
-        rootUnfilled = ap (λ (s : Spot). s .filled) (b .root);
         earlier = b .earlier;
         edges = λ i p h. node i p h .edge;
         owners = λ i h. b .spot i (getD spots i rootSpot) h refl .owner;

@@ -24,61 +24,44 @@ use Rattle.model.proofs.Segment.{Segment, Appended, append-chain, chain
 
 -- ---- the root alone
 
+-- what holds of 0 holds of every number below 1
+below-one : (F : ℕ → Type 0) → F 0 → (i : ℕ) → i < 1 → F i
+below-one F z zero h = z
+below-one F z (suc i) h = absurd (omega arith)
+
 pub root-built : (S : Summary) (P : Pattern) (es : List ℕ) → imageIn es 0 ≡ 0 → Built S P es 1 (rootSpot ∷ []) (0 ∷ [])
 root-built S P es z =
     record {
       some = omega arith;
       root = refl;
-      spot = spot-at;
+      spot = λ i s h e. below-one (λ k. getD spots k rootSpot ≡ s → SpotFacts S es (0 ∷ []) 1 k s) (spot-zero s) i h e;
       earlier = λ i p h. absurd (omega arith);
       node = λ i s u p h e f. absurd (omega arith);
-      next = next-at;
+      next = λ i s x xs h e f c. below-one (λ k. getD spots k rootSpot ≡ s → ChainChild spots k (s .owner) x) (λ q. absurd (none s x xs q c)) i h e;
       first = λ q x xs p h e. absurd (omega arith);
       ownLength = refl;
       ownRoot = refl;
-      ownInside = own-inside;
-      ownAt = own-at;
-      ownOwner = own-owner;
-      ownUnfilled = own-unfilled;
+      ownInside = below-one (λ q. imageIn (0 ∷ []) q < 1) (omega arith);
+      ownAt = below-one (λ q. spotAt spots (imageIn (0 ∷ []) q) ≡ imageIn es q) (sym z);
+      ownOwner = below-one (λ q. spotOwner spots (imageIn (0 ∷ []) q) ≡ q) refl;
+      ownUnfilled = below-one (λ q. spotFilled spots (imageIn (0 ∷ []) q) ≡ false) refl;
       distinct = λ i j h k o a. omega arith;
       least = λ i p h. absurd (omega arith);
     }
   where
+    spots : List Spot
+    spots = rootSpot ∷ []
+
     spot-zero : (s : Spot) → rootSpot ≡ s → SpotFacts S es (0 ∷ []) 1 0 s
     spot-zero s e =
         subst (λ (k : Spot). SpotFacts S es (0 ∷ []) 1 0 k) e
         (record { owner = omega arith; chainEnd = λ f c. sym z; ownOnly = λ f a. refl })
-
-    spot-at : (i : ℕ) (s : Spot) → i < 1 → getD (rootSpot ∷ []) i rootSpot ≡ s → SpotFacts S es (0 ∷ []) 1 i s
-    spot-at zero s h e = spot-zero s e
-    spot-at (suc i) s h e = absurd (omega arith)
 
     -- the chain from the root down to the root is empty
     none : (s : Spot) (x : ℕ) (xs : List ℕ) → rootSpot ≡ s → chain S (s .at) (imageIn es (s .owner)) ≡ x ∷ xs → ⊥
     none s x xs e c =
         let c′ : chain S 0 (imageIn es 0) ≡ x ∷ xs = subst (λ (k : Spot). chain S (k .at) (imageIn es (k .owner)) ≡ x ∷ xs) (sym e) c in
         nil≢cons (sym (chain-self S 0) ∙ subst (λ (k : ℕ). chain S 0 k ≡ x ∷ xs) z c′)
-
-    next-at : (i : ℕ) (s : Spot) (x : ℕ) (xs : List ℕ) → i < 1 → getD (rootSpot ∷ []) i rootSpot ≡ s → s .filled ≡ false
-        → chain S (s .at) (imageIn es (s .owner)) ≡ x ∷ xs → ChainChild (rootSpot ∷ []) i (s .owner) x
-    next-at zero s x xs h e f c = absurd (none s x xs e c)
-    next-at (suc i) s x xs h e f c = absurd (omega arith)
-
-    own-inside : (q : ℕ) → q < 1 → imageIn (0 ∷ []) q < 1
-    own-inside zero h = omega arith
-    own-inside (suc q) h = absurd (omega arith)
-
-    own-at : (q : ℕ) → q < 1 → spotAt (rootSpot ∷ []) (imageIn (0 ∷ []) q) ≡ imageIn es q
-    own-at zero h = sym z
-    own-at (suc q) h = absurd (omega arith)
-
-    own-owner : (q : ℕ) → q < 1 → spotOwner (rootSpot ∷ []) (imageIn (0 ∷ []) q) ≡ q
-    own-owner zero h = refl
-    own-owner (suc q) h = absurd (omega arith)
-
-    own-unfilled : (q : ℕ) → q < 1 → spotFilled (rootSpot ∷ []) (imageIn (0 ∷ []) q) ≡ false
-    own-unfilled zero h = refl
-    own-unfilled (suc q) h = absurd (omega arith)
 
 -- ---- one more pattern node
 
