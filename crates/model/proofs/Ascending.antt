@@ -8,12 +8,7 @@ use mathlib.Core.List.{List, [], _∷_, _++_, flatMap, List·Memᴰ, List·Mem�
 use native.Mathlib.Nat.{not-suc-le-zero, le-of-suc-le-suc}
 use lib.ListN.{length, getD}
 use Rattle.model.specs.Lists.{upFrom, keep}
-use Rattle.model.proofs.ListLaws.{upFrom-mem, keep-elim, flat-elim}
-
-pub mem-at : {A : Type 0} (xs : List A) (i : ℕ) (d : A) → i < length xs → List·Memᴰ (getD xs i d) xs
-mem-at [] i d h = absurd (not-suc-le-zero h)
-mem-at (x ∷ xs) zero d h = List·Memᴰ·head refl
-mem-at (x ∷ xs) (suc i) d h = List·Memᴰ·tail (mem-at xs i d (le-of-suc-le-suc h))
+use Rattle.model.proofs.ListLaws.{mem-at, upFrom-mem, keep-elim, flat-elim}
 
 module _ {A : Type 0} (R : A → A → Type 0) where
   -- each element stands in the relation R to every later one

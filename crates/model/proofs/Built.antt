@@ -1,17 +1,19 @@
 -- The invariant of a canonical document while it is laid out, and what appending nodes keeps of it. Assumes nothing.
-use Prim.Native.Nat.{ℕ, zero, suc, _+_, _≤_, _<_}
+use Prim.Native.Nat.{ℕ, _≤_, _<_}
 use mathlib.Core.Path.{_≡_, refl, sym, ap, _∙_, subst}
-use mathlib.Core.Bool.{Bool, true, false, false≢true}
+use mathlib.Core.Bool.{Bool, true, false}
 use mathlib.Core.Logic.{_⊎_, inl, inr}
 use mathlib.Core.List.{List, [], _∷_, _++_}
 use native.Mathlib.Omega.{arith}
-use lib.ListN.{length, getD, length-append, List·getD-append}
-use lib.Seq.{getD-append-seam}
+use lib.Dec.{ltb}
+use lib.ListN.{length, getD, List·getD-append}
+use borrow.Author.Tests.{ltb-true, ltb-false}
 use Rattle.model.specs.Tree.{Child}
 use Rattle.model.specs.Summary.{Summary, asDocument, StrongEdge}
 use Rattle.model.specs.Pattern.{Pattern, patternParent}
 use Rattle.model.specs.Embeddings.{imageIn}
 use Rattle.model.specs.Canonical.{Spot, rootSpot, spotParent, spotAt, chain}
+use Rattle.model.proofs.ListLaws.{length-snoc}
 use Rattle.model.proofs.Laid.{spotOwner, spotFilled, SpotChild, ChainChild}
 
 -- what holds of node i, by its spot s alone, once m pattern nodes are laid out
@@ -81,31 +83,88 @@ extends-trans f g =
 pub extends-snoc : (spots : List Spot) (s : Spot) → Extends spots (spots ++ s ∷ [])
 extends-snoc spots s =
     record {
-      longer = omega (arith, length-append spots (s ∷ []));
+      longer = omega (arith, length-snoc spots s);
       same = λ i h. List·getD-append spots (s ∷ []) rootSpot i h;
     }
 
-pub length-snoc : (spots : List Spot) (s : Spot) → length (spots ++ s ∷ []) ≡ suc (length spots)
-length-snoc spots s = length-append spots (s ∷ []) ∙ omega arith
+-- ---- what a longer table keeps
 
-pub last-snoc : (spots : List Spot) (s : Spot) → getD (spots ++ s ∷ []) (length spots) rootSpot ≡ s
-last-snoc spots s = getD-append-seam spots s [] rootSpot
+module _ {spots later : List Spot} (f : Extends spots later) where
+  pub parent-kept : (i : ℕ) → i < length spots → spotParent later i ≡ spotParent spots i
+  parent-kept i h = ap (λ (s : Spot). s .parent) (f .same i h)
 
-pub child-kept : {spots later : List Spot} {i j : ℕ} → Extends spots later → SpotChild spots i j → SpotChild later i j
-child-kept {j = j} f c =
-    record {
-      notRoot = c .notRoot;
-      inside = let l = f .longer in let h = c .inside in omega arith;
-      isParent = ap (λ (s : Spot). s .parent) (f .same j (c .inside)) ∙ c .isParent;
-    }
+  pub at-kept : (i : ℕ) → i < length spots → spotAt later i ≡ spotAt spots i
+  at-kept i h = ap (λ (s : Spot). s .at) (f .same i h)
 
-pub chain-child-kept : {spots later : List Spot} {i q x : ℕ} → Extends spots later → ChainChild spots i q x → ChainChild later i q x
-chain-child-kept {spots} {later} f c =
-    let e : getD later (c .node) rootSpot ≡ getD spots (c .node) rootSpot = f .same (c .node) (c .child .inside) in
-    record {
-      node = c .node;
-      child = child-kept f (c .child);
-      owner = ap (λ (s : Spot). s .owner) e ∙ c .owner;
-      unfilled = ap (λ (s : Spot). s .filled) e ∙ c .unfilled;
-      on = ap (λ (s : Spot). s .at) e ∙ c .on;
-    }
+  pub owner-kept : (i : ℕ) → i < length spots → spotOwner later i ≡ spotOwner spots i
+  owner-kept i h = ap (λ (s : Spot). s .owner) (f .same i h)
+
+  pub filled-kept : (i : ℕ) → i < length spots → spotFilled later i ≡ spotFilled spots i
+  filled-kept i h = ap (λ (s : Spot). s .filled) (f .same i h)
+
+  pub child-kept : {i j : ℕ} → SpotChild spots i j → SpotChild later i j
+  child-kept {j = j} c =
+      record {
+        notRoot = c .notRoot;
+        inside = let l = f .longer in let h = c .inside in omega arith;
+        isParent = parent-kept j (c .inside) ∙ c .isParent;
+      }
+
+  pub chain-child-kept : {i q x : ℕ} → ChainChild spots i q x → ChainChild later i q x
+  chain-child-kept c =
+      record {
+        node = c .node;
+        child = child-kept (c .child);
+        owner = owner-kept (c .node) (c .child .inside) ∙ c .owner;
+        unfilled = filled-kept (c .node) (c .child .inside) ∙ c .unfilled;
+        on = at-kept (c .node) (c .child .inside) ∙ c .on;
+      }
+
+  -- what the invariant says of the nodes that were there
+  module _ {S : Summary} {P : Pattern} {es : List ℕ} {m : ℕ} {own : List ℕ} (b : Built S P es m spots own) where
+    pub spot-kept : (i : ℕ) (s : Spot) → i < length spots → getD later i rootSpot ≡ s → SpotFacts S es own m i s
+    spot-kept i s h e = b .spot i s h (sym (f .same i h) ∙ e)
+
+    pub earlier-kept : (i : ℕ) → 0 < i → i < length spots → spotParent later i < i
+    earlier-kept i p h = rw (parent-kept i h) (b .earlier i p h)
+
+    pub node-kept : (i : ℕ) (s u : Spot) → 0 < i → i < length spots → getD later i rootSpot ≡ s → getD later (s .parent) rootSpot ≡ u → NodeFacts S P es own s u
+    node-kept i s u p h e g =
+        let e′ : getD spots i rootSpot ≡ s = sym (f .same i h) ∙ e in
+        let k : spotParent spots i < i = b .earlier i p h in
+        let l : s .parent < length spots = subst (λ (z : Spot). z .parent < length spots) e′ (omega arith) in
+        b .node i s u p h e′ (sym (f .same (s .parent) l) ∙ g)
+
+    pub next-kept : (i : ℕ) (s : Spot) (x : ℕ) (xs : List ℕ) → i < length spots → getD later i rootSpot ≡ s → s .filled ≡ false
+        → chain S (s .at) (imageIn es (s .owner)) ≡ x ∷ xs → ChainChild later i (s .owner) x
+    next-kept i s x xs h e u c = chain-child-kept (b .next i s x xs h (sym (f .same i h) ∙ e) u c)
+
+    pub own-at-kept : (q : ℕ) → q < m → spotAt later (imageIn own q) ≡ imageIn es q
+    own-at-kept q h = at-kept (imageIn own q) (b .ownInside q h) ∙ b .ownAt q h
+
+    pub own-owner-kept : (q : ℕ) → q < m → spotOwner later (imageIn own q) ≡ q
+    own-owner-kept q h = owner-kept (imageIn own q) (b .ownInside q h) ∙ b .ownOwner q h
+
+    pub own-unfilled-kept : (q : ℕ) → q < m → spotFilled later (imageIn own q) ≡ false
+    own-unfilled-kept q h = filled-kept (imageIn own q) (b .ownInside q h) ∙ b .ownUnfilled q h
+
+    pub distinct-kept : (i j : ℕ) → i < length spots → j < length spots → spotOwner later i ≡ spotOwner later j → spotAt later i ≡ spotAt later j → i ≡ j
+    distinct-kept i j h k o a = b .distinct i j h k (sym (owner-kept i h) ∙ (o ∙ owner-kept j k)) (sym (at-kept i h) ∙ (a ∙ at-kept j k))
+
+    -- the least path of an owner's nodes stays the least, where it is so against the new nodes
+    pub least-kept : (i : ℕ) → 0 < i → i < length spots
+        → (Least spots i → (j : ℕ) → length spots ≤ j → j < length later → spotOwner later j ≡ spotOwner later i → spotAt later i ≤ spotAt later j)
+        → (spotOwner later (spotParent later i) ≡ spotOwner later i) ⊎ Least later i
+    least-kept i p h new = go (b .least i p h)
+      where
+        against : Least spots i → (j : ℕ) → j < length later → spotOwner later j ≡ spotOwner later i → (t : Bool) → ltb j (length spots) ≡ t → spotAt later i ≤ spotAt later j
+        against l j k o true e =
+            let n : j < length spots = ltb-true j (length spots) e in
+            rw (at-kept i h, at-kept j n) (l .least j n (sym (owner-kept j n) ∙ (o ∙ owner-kept i h)))
+        against l j k o false e = new l j (ltb-false j (length spots) e) k o
+
+        go : (spotOwner spots (spotParent spots i) ≡ spotOwner spots i) ⊎ Least spots i → (spotOwner later (spotParent later i) ≡ spotOwner later i) ⊎ Least later i
+        go (inl e) =
+            let k : spotParent spots i < i = b .earlier i p h in
+            inl (ap (spotOwner later) (parent-kept i h) ∙ (owner-kept (spotParent spots i) (omega arith) ∙ (e ∙ sym (owner-kept i h))))
+        go (inr l) = inr (record { least = λ j k o. against l j k o (ltb j (length spots)) refl })

@@ -4,12 +4,12 @@ use Prim.Native.Nat.{ℕ, zero, suc, _*_, _≤_}
 use mathlib.Core.Path.{_≡_, refl, ap, _∙_}
 use mathlib.Core.Bool.{Bool, true, false}
 use mathlib.Core.Logic.{_≢_}
-use mathlib.Core.List.{List, [], _∷_, map}
+use mathlib.Core.List.{List, _∷_, map}
 use native.Mathlib.Omega.{arith}
 use lib.Dec.{eqb}
 use lib.ListN.{length, replicate, length-map}
 use borrow.Author.Tests.{eq-eqb, ne-eqb}
-use Rattle.model.specs.Lists.{upFrom, keep}
+use Rattle.model.specs.Lists.{upFrom}
 use Rattle.model.specs.Limits.{minBuffer, minTable, maxPattern, maxDocument}
 use Rattle.model.specs.Tree.{Document}
 use Rattle.model.specs.Summary.{Summary}
@@ -21,7 +21,7 @@ use Rattle.model.specs.Verdict.{verdict}
 use Rattle.model.specs.Bytes.{caseOf, documentOf, listOf, encodeCounted}
 use Rattle.model.specs.Questions.{selected, verdictRefusal, fitsRefusal, resultRefusal, nodesRefusal, pathsRefusal, layoutRefusal}
 use Rattle.model.specs.Calls.{VerdictOutcome, shown, verdictAccepted, verdictRefused, verdictCall, TestAnswer, testAnswer, fitsCall, resultCall, NodesOutcome, nodesAccepted, nodesRefused, nodesCall, pathsAccepted, pathsRefused, pathsCall, LaidRecord, laidRecord, LayoutOutcome, layoutAccepted, layoutRefused, layoutCall}
-use Rattle.model.proofs.ListLaws.{length-upFrom}
+use Rattle.model.proofs.ListLaws.{length-upFrom, length-keep}
 use Rattle.model.proofs.Bytes.{length-bytes, front-length}
 use Rattle.model.proofs.Questions.{accepted-verdict, accepted-nodes, accepted-layout}
 
@@ -35,7 +35,7 @@ module _ {A : Type 0} (number : ℕ) (accepted refused : A) where
   chosen-refused f = ap (λ (t : Bool). elim t as (λ _. A) [ true ↦ accepted | false ↦ refused ]) (ne-eqb number 0 f)
 
 -- what holds of an acceptance and of a refusal holds
-by-number : {X : Type 0} (number : ℕ) → (number ≡ 0 → X) → (number ≢ 0 → X) → X
+pub by-number : {X : Type 0} (number : ℕ) → (number ≡ 0 → X) → (number ≢ 0 → X) → X
 by-number zero a r = a refl
 by-number (suc n) a r = r (omega arith)
 
@@ -143,15 +143,6 @@ verdict-length b L tally buffer fit =
     ap (λ (o : VerdictOutcome). length (o .buffer)) (verdict-accepted b L tally buffer e)
     ∙ front-length (shown (caseOf b .summary) (caseOf b .first) (verdict (caseOf b .summary) (caseOf b .first) (caseOf b .second) L)) buffer (omega arith))
     (λ f. ap (λ (o : VerdictOutcome). length (o .buffer)) (verdict-refused b L tally buffer f))
-
-length-keep : (test : ℕ → Bool) (xs : List ℕ) → length (keep test xs) ≤ length xs
-unfolding keep
-length-keep test [] = omega arith
-length-keep test (x ∷ xs) = go (test x) (length-keep test xs)
-  where
-    go : (t : Bool) → length (keep test xs) ≤ length xs → length {A = ℕ} (elim t as (λ _. List ℕ) [ true ↦ x ∷ keep test xs | false ↦ keep test xs ]) ≤ suc (length xs)
-    go true h = omega arith
-    go false h = omega arith
 
 length-nodes : (P : Pattern) (W : Document) (p : ℕ) → length (nodesAt P W p) ≤ length W
 unfolding nodesAt

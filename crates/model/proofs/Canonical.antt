@@ -1,25 +1,24 @@
 -- A canonical document is laid out as it should be: every fact of `Laid` holds of it, and it has at most 1 + |P| × (|S| - 1)
 -- nodes. Assumes nothing.
-use Prim.Native.Nat.{ℕ, zero, suc, _+_, _-_, _*_, _≤_, _<_}
-use mathlib.Core.Path.{_≡_, refl, sym, ap, _∙_, subst}
-use mathlib.Core.Bool.{Bool, true, false}
+use Prim.Native.Nat.{ℕ, _+_, _-_, _*_, _≤_, _<_}
+use mathlib.Core.Path.{_≡_, refl, ap}
 use mathlib.Core.Logic.{_⊎_, inl, inr}
-use mathlib.Core.List.{List, [], _∷_, map}
+use mathlib.Core.List.{List, _∷_}
 use native.Mathlib.Omega.{arith}
 use native.Mathlib.Nat.{mul-le-mul}
 use lib.ListN.{length, getD, length-map}
 use Rattle.model.specs.Limits.{maxSummary, maxPattern, maxCanonical}
 use Rattle.model.specs.Tree.{IsTree}
-use Rattle.model.specs.Summary.{Summary, asDocument, StrongEdge}
+use Rattle.model.specs.Summary.{Summary, asDocument}
 use Rattle.model.specs.Pattern.{Pattern, IsPatternTree, patternParent, descends, Placement}
 use Rattle.model.specs.Embeddings.{imageIn}
-use Rattle.model.specs.Canonical.{Spot, rootSpot, spotParent, spotAt, chain, chains, nodeBound, fillFrom, canonicalSpots, canonical, ownNodes, spotRecord}
+use Rattle.model.specs.Canonical.{Spot, rootSpot, spotParent, chain, chains, nodeBound, canonicalSpots, canonical, ownNodes, spotRecord}
 use Rattle.model.proofs.TreeLaws.{edge-below}
-use Rattle.model.proofs.Chains.{below-way, chain-way}
-use Rattle.model.proofs.Laid.{spotOwner, spotFilled, SpotChild, InChain, TopOfChain, Laid}
+use Rattle.model.proofs.Chains.{step, below-way, chain-way}
+use Rattle.model.proofs.Laid.{InChain, TopOfChain, Laid}
 use Rattle.model.proofs.Built.{ChainedTo, FirstOf, NodeFacts, Built}
 use Rattle.model.proofs.ChainPhase.{chains-built}
-use Rattle.model.proofs.FillPhase.{Served, Complete, Filled, fill-built, fill-complete, few-nodes}
+use Rattle.model.proofs.FillPhase.{Served, Complete, fill-built, fill-complete, few-nodes}
 
 module _ (S : Summary) (P : Pattern) (es : List ℕ) (tree : IsTree (asDocument S)) (ordered : IsPatternTree P) (placed : Placement S P (imageIn es)) where
   pub canonical-built : Built S P es (length P) (canonicalSpots S P es) (ownNodes S P es)
@@ -38,7 +37,7 @@ module _ (S : Summary) (P : Pattern) (es : List ℕ) (tree : IsTree (asDocument 
   chain-nonempty : (q : ℕ) → 0 < q → q < length P → (x : ℕ) × (xs : List ℕ) × (chain S (imageIn es (patternParent P q)) (imageIn es q) ≡ x ∷ xs)
   chain-nonempty q p h =
       let w = below-way (edge-below (descends P q) (asDocument S) (imageIn es (patternParent P q)) (imageIn es q) (placed .edges q p h)) in
-      (w .0, w .1, chain-way S tree (w .2))
+      (w .0, w .1, chain-way S tree (step (w .2) (w .3)))
 
   pub canonical-laid : Laid S P es (canonicalSpots S P es) (ownNodes S P es)
   canonical-laid =
@@ -47,7 +46,6 @@ module _ (S : Summary) (P : Pattern) (es : List ℕ) (tree : IsTree (asDocument 
         rootParent = ap (λ (s : Spot). s .parent) (b .root);
         rootAt = ap (λ (s : Spot). s .at) (b .root);
         rootOwner = ap (λ (s : Spot). s .owner) (b .root);
-        rootUnfilled = ap (λ (s : Spot). s .filled) (b .root);
         earlier = b .earlier;
         edges = λ i p h. node i p h .edge;
         owners = λ i h. b .spot i (getD spots i rootSpot) h refl .owner;

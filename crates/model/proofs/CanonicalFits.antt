@@ -16,7 +16,7 @@ use Rattle.model.specs.Facts.{SummaryFacts}
 use Rattle.model.proofs.TreeLaws.{length-asDocument}
 use Rattle.model.proofs.Laid.{Laid, SpotChild, ChainChild, InChain, TopOfChain, spotOwner, spotFilled}
 use Rattle.model.proofs.Paths.{on-path-unique, hom-on-path}
-use Rattle.model.proofs.ChainLaws.{AtOrBelow, child-below, chain-self, chain-step}
+use Rattle.model.proofs.Chains.{AtOrBelow, child-below, chain-self, chain-step}
 use Rattle.model.proofs.SpotLaws.{spotDocument, in-table, in-document, spot-label, spot-child, laid-tree, laid-summary}
 
 module _ {S : Summary} {P : Pattern} {es : List ℕ} {spots : List Spot} {own : List ℕ} where

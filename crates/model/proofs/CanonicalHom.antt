@@ -1,62 +1,38 @@
 -- An embedding of the pattern into a fitting document is carried there from a canonical document: the images' paths are a
 -- placement, and the canonical document of this placement maps homomorphically to the document, own nodes to images. Nodes of
 -- a chain go to the nodes on the way down to the image, filled-up nodes to the children that fitting gives. Assumes nothing.
-use Prim.Native.Nat.{ℕ, suc, _<_}
+use Prim.Native.Nat.{ℕ, _<_}
 use mathlib.Core.Path.{_≡_, refl, sym, ap, _∙_, subst}
 use mathlib.Core.Bool.{Bool, true, false, true≢false}
 use mathlib.Core.Logic.{_⊎_, inl, inr}
-use mathlib.Core.List.{List, [], _∷_, map, List·Memᴰ, List·Memᴰ·head, List·Memᴰ·tail}
+use mathlib.Core.List.{List, _∷_, map, map-map, nil≢cons}
 use native.Mathlib.Omega.{arith}
-use native.Mathlib.Nat.{zero-add}
-use lib.ListN.{length, length-map}
-use Rattle.model.specs.Lists.{upFrom}
-use Rattle.model.specs.Tree.{Document, IsTree, labelOf, Child, Below, Edge, Hom}
+use lib.ListN.{length}
+use Rattle.model.specs.Tree.{Document, IsTree, Child, Below, Hom}
 use Rattle.model.specs.Summary.{Summary, asDocument, summaryLabel, OnPath, Fits}
-use Rattle.model.specs.Pattern.{Pattern, IsPatternTree, patternParent, patternLabel, labelFits, descends, arity, nodeAt, returnNodes, Embeds, Placement}
+use Rattle.model.specs.Pattern.{Pattern, IsPatternTree, patternParent, descends, returnNodes, Embeds, Placement}
 use Rattle.model.specs.Embeddings.{imageIn}
 use Rattle.model.specs.Canonical.{Spot, spotParent, spotAt, chain}
 use Rattle.model.specs.Facts.{SummaryFacts, PatternFacts}
-use Rattle.model.proofs.ListLaws.{length-upFrom, getD-upFrom, upFrom-mem}
+use Rattle.model.proofs.ListLaws.{map-agree}
 use Rattle.model.proofs.TreeLaws.{length-asDocument, below-lt, edge-below, hom-below, hom-embeds}
 use Rattle.model.proofs.Laid.{Laid, SpotChild, InChain, TopOfChain, spotOwner, spotFilled}
 use Rattle.model.proofs.Paths.{pathIn, hom-on-path, path-hom, path-on}
-use Rattle.model.proofs.ChainLaws.{AtOrBelow, hom-at-or-below, first-step, chain-self, chain-step}
-use Rattle.model.proofs.SpotLaws.{getD-map-inside, spotDocument, in-table, spot-label, child-spot, laid-inside}
+use Rattle.model.proofs.Embeddings.{embeds-ext, imagesOf, image-imagesOf}
+use Rattle.model.proofs.ReturnNodes.{return-inside}
+use Rattle.model.proofs.Chains.{AtOrBelow, hom-at-or-below, first-step, chain-self, chain-step}
+use Rattle.model.proofs.SpotLaws.{spotDocument, in-table, spot-label, child-spot, laid-inside}
 use Rattle.model.proofs.CanonicalFits.{chain-down}
 use Rattle.model.proofs.TreeChoice.{Chosen, choose}
 
 -- ---- the placement
 
--- an embedding is one by the images of the pattern's nodes alone
-pub embeds-agree : {P : Pattern} {W : Document} {e g : ℕ → ℕ} → IsPatternTree P → ((q : ℕ) → q < length P → g q ≡ e q) → Embeds P W e → Embeds P W g
-embeds-agree {P} {W} {e} {g} t a m =
-    record {
-      inside = λ q h. subst (λ (x : ℕ). x < length W) (sym (a q h)) (m .inside q h);
-      root = a 0 (t .inhabited) ∙ m .root;
-      labels = λ q h. ap (λ (x : ℕ). labelFits (patternLabel P q) (labelOf W x)) (a q h) ∙ m .labels q h;
-      edges = edges;
-    }
-  where
-    edges : (q : ℕ) → 0 < q → q < length P → Edge (descends P q) W (g (patternParent P q)) (g q)
-    edges q p h =
-        let l : patternParent P q < q = t .earlier q p h in
-        subst (Edge (descends P q) W (g (patternParent P q))) (sym (a q h))
-        (subst (λ (x : ℕ). Edge (descends P q) W x (e q)) (sym (a (patternParent P q) (omega arith))) (m .edges q p h))
-
 -- the paths of the images, as a list
 abbrev pub pathsOf : Summary → Pattern → Document → (ℕ → ℕ) → List ℕ
-pathsOf S P W e = map (λ q. pathIn S W (e q)) (upFrom 0 (length P))
-
-pub length-paths : (S : Summary) (P : Pattern) (W : Document) (e : ℕ → ℕ) → length (pathsOf S P W e) ≡ length P
-length-paths S P W e = length-map (upFrom 0 (length P)) (λ q. pathIn S W (e q)) ∙ length-upFrom 0 (length P)
-
-pub paths-image : (S : Summary) (P : Pattern) (W : Document) (e : ℕ → ℕ) (q : ℕ) → q < length P → imageIn (pathsOf S P W e) q ≡ pathIn S W (e q)
-paths-image S P W e q h =
-    let l : q < length (upFrom 0 (length P)) = subst (λ (n : ℕ). q < n) (sym (length-upFrom 0 (length P))) h in
-    getD-map-inside (λ x. pathIn S W (e x)) (upFrom 0 (length P)) q 0 0 l ∙ ap (λ (x : ℕ). pathIn S W (e x)) (getD-upFrom 0 (length P) q 0 h ∙ zero-add q)
+pathsOf S P W e = imagesOf P (λ q. pathIn S W (e q))
 
 pub paths-placed : {S : Summary} {P : Pattern} {W : Document} {e : ℕ → ℕ} → SummaryFacts S → IsPatternTree P → Fits S W → Embeds P W e → Placement S P (imageIn (pathsOf S P W e))
-paths-placed {S} {P} {W} {e} f t w m = embeds-agree t (paths-image S P W e) (hom-embeds m (path-hom f w))
+paths-placed {S} {P} {W} {e} f t w m = embeds-ext (imageIn (pathsOf S P W e)) t (λ q h. sym (image-imagesOf P (λ x. pathIn S W (e x)) q h)) (hom-embeds m (path-hom f w))
 
 -- ---- the map
 
@@ -64,9 +40,6 @@ paths-placed {S} {P} {W} {e} f t w m = embeds-agree t (paths-image S P W e) (hom
 same-path : {W D : Document} {h : ℕ → ℕ} {a b : ℕ} → IsTree D → Hom W D h → AtOrBelow W a b → h a ≡ h b → a ≡ b
 same-path t m (inl p) e = p
 same-path {h = h} {a = a} {b = b} t m (inr d) e = let l : h a < h b = below-lt t (hom-below m d) in absurd (omega arith)
-
-no-nil : {x : ℕ} {xs : List ℕ} → [] ≡ x ∷ xs → ⊥
-no-nil {x} {xs} p = let z : 0 ≡ suc (length xs) = ap length p in omega arith
 
 -- what the image x of node i keeps: it is on the node's path, and where the node stands in a chain, the chain's end is to
 -- come from x on
@@ -141,7 +114,7 @@ module _ {S : Summary} {P : Pattern} {W : Document} {e : ℕ → ℕ} {es : List
 
       -- so the end is not reached
       not-end : x ≡ e q → ⊥
-      not-end s = no-nil (sym (chain-self S (pathIn S W (e q))) ∙ ap (λ (z : ℕ). chain S (pathIn S W z) (pathIn S W (e q))) (sym s) ∙ begins)
+      not-end s = nil≢cons (sym (chain-self S (pathIn S W (e q))) ∙ ap (λ (z : ℕ). chain S (pathIn S W z) (pathIn S W (e q))) (sym s) ∙ begins)
 
       -- and the next node down is on the node's path
       next-on : (y : ℕ) → Child W x y → AtOrBelow W y (e q) → pathIn S W y ≡ spotAt spots i
@@ -170,14 +143,14 @@ module _ {S : Summary} {P : Pattern} {W : Document} {e : ℕ → ℕ} {es : List
         toCome = λ u. inl (sym (ap e (d .rootOwner) ∙ m .root));
       }
 
-  over-all : Chosen (spotParent spots) (Over S W e spots) (Child W) (length spots)
+  over-all : Chosen (spotParent spots) (Over S W e spots) (λ i. Child W) (length spots)
   over-all = choose (length spots) (record { inhabited = d .some; root = d .rootParent; earlier = d .earlier }) over-root over-next
 
   -- the map that carries the own nodes to the images
   pub laid-hom : (h : ℕ → ℕ) × Hom (spotDocument S spots) W h × ((q : ℕ) → q < length P → h (imageIn own q) ≡ e q)
   laid-hom = go over-all
     where
-      go : Chosen (spotParent spots) (Over S W e spots) (Child W) (length spots) → (h : ℕ → ℕ) × Hom (spotDocument S spots) W h × ((q : ℕ) → q < length P → h (imageIn own q) ≡ e q)
+      go : Chosen (spotParent spots) (Over S W e spots) (λ i. Child W) (length spots) → (h : ℕ → ℕ) × Hom (spotDocument S spots) W h × ((q : ℕ) → q < length P → h (imageIn own q) ≡ e q)
       go c = (
         c .image,
         record {
@@ -199,8 +172,5 @@ module _ {S : Summary} {P : Pattern} {W : Document} {e : ℕ → ℕ} {es : List
 -- the nodes at positions 1 to k are the pattern's
 pub own-result-carried : {P : Pattern} (e h : ℕ → ℕ) (own : List ℕ) → PatternFacts P → ((q : ℕ) → q < length P → h (imageIn own q) ≡ e q)
     → map e (returnNodes P) ≡ map h (map (imageIn own) (returnNodes P))
-own-result-carried {P} e h own f a = go (upFrom 1 (arity P)) (λ p k. let r = upFrom-mem 1 (arity P) p k in f .holds p (r .0) (omega arith))
-  where
-    go : (ps : List ℕ) → ((p : ℕ) → List·Memᴰ p ps → nodeAt P p < length P) → map e (map (nodeAt P) ps) ≡ map h (map (imageIn own) (map (nodeAt P) ps))
-    go [] k = refl
-    go (p ∷ ps) k = cc (a (nodeAt P p) (k p (List·Memᴰ·head refl)), go ps (λ x l. k x (List·Memᴰ·tail l)))
+own-result-carried {P} e h own f a =
+    map-agree e (λ q. h (imageIn own q)) (returnNodes P) (λ q m. sym (a q (return-inside f q m))) ∙ sym (map-map h (imageIn own) (returnNodes P))

@@ -4,85 +4,64 @@ use Prim.Native.Nat.{ℕ, zero, suc, _+_, _-_, _≤_, _<_}
 use mathlib.Core.Path.{_≡_, refl, sym, ap, _∙_, subst, subst₂, ap₂}
 use mathlib.Core.Bool.{Bool, true, false, false≢true}
 use mathlib.Core.Logic.{_⊎_, inl, inr}
-use mathlib.Core.List.{List, [], _∷_, _++_, tail, nil≢cons, head-eq-of-cons-eq, tail-eq-of-cons-eq}
+use mathlib.Core.List.{List, [], _∷_, _++_, tail, nil≢cons}
 use native.Mathlib.Omega.{arith}
 use lib.Dec.{eqb, ltb}
-use lib.ListN.{length, getD, drop, length-append, length-drop, List·getD-append}
-use lib.Seq.{drop-cons, getD-append-seam}
+use lib.ListN.{length, getD, drop, length-drop, List·getD-append}
+use lib.Seq.{getD-append-seam}
 use borrow.Author.Tests.{eqb-true, eqb-false, ltb-true, ltb-false}
-use Rattle.model.specs.Tree.{IsTree, Child}
-use Rattle.model.specs.Summary.{Summary, asDocument, StrongEdge}
+use Rattle.model.specs.Tree.{IsTree}
+use Rattle.model.specs.Summary.{Summary, asDocument}
 use Rattle.model.specs.Pattern.{Pattern, PatternRecord, noPatternRecord, IsPatternTree, patternParent, Placement, descends}
 use Rattle.model.specs.Embeddings.{imageIn}
-use Rattle.model.specs.Canonical.{Spot, rootSpot, spotParent, spotAt, chainIn, chain, appendChain, Layout, layNode, layNodes, rootLayout, chains}
+use Rattle.model.specs.Canonical.{Spot, rootSpot, spotParent, spotAt, chain, appendChain, Layout, layNode, layNodes, rootLayout, chains}
+use Rattle.model.proofs.ListLaws.{length-snoc, drop-begins}
 use Rattle.model.proofs.TreeLaws.{edge-below}
-use Rattle.model.proofs.Chains.{Way, step, below-way, chain-way}
-use Rattle.model.proofs.Laid.{spotOwner, spotFilled, SpotChild, ChainChild}
-use Rattle.model.proofs.Built.{SpotFacts, ChainedTo, FirstOf, NodeFacts, Least, Built, Extends, chain-child-kept}
-use Rattle.model.proofs.Segment.{Segment, Appended, append-chain, SegmentNode, segment-node, segment-rises}
+use Rattle.model.proofs.Chains.{Way, step, below-way, chain-way, chain-self}
+use Rattle.model.proofs.Laid.{spotOwner, spotFilled, ChainChild}
+use Rattle.model.proofs.Built.{SpotFacts, ChainedTo, FirstOf, NodeFacts, Least, Built, Extends, at-kept, chain-child-kept, spot-kept, earlier-kept, node-kept, next-kept, own-at-kept, own-owner-kept, own-unfilled-kept, distinct-kept, least-kept}
+use Rattle.model.proofs.Segment.{Segment, Appended, append-chain, chain-spot-child, Hangs, SegmentNode, segment-node, segment-rises}
 
 -- ---- the root alone
 
--- no chain leads down to the root
-chain-root : (S : Summary) (a : ℕ) → chain S a 0 ≡ []
-unfolding chain chainIn
-chain-root S a = refl
+-- what holds of 0 holds of every number below 1
+below-one : (F : ℕ → Type 0) → F 0 → (i : ℕ) → i < 1 → F i
+below-one F z zero h = z
+below-one F z (suc i) h = absurd (omega arith)
 
 pub root-built : (S : Summary) (P : Pattern) (es : List ℕ) → imageIn es 0 ≡ 0 → Built S P es 1 (rootSpot ∷ []) (0 ∷ [])
 root-built S P es z =
     record {
       some = omega arith;
       root = refl;
-      spot = spot-at;
+      spot = λ i s h e. below-one (λ k. getD spots k rootSpot ≡ s → SpotFacts S es (0 ∷ []) 1 k s) (spot-zero s) i h e;
       earlier = λ i p h. absurd (omega arith);
       node = λ i s u p h e f. absurd (omega arith);
-      next = next-at;
+      next = λ i s x xs h e f c. below-one (λ k. getD spots k rootSpot ≡ s → ChainChild spots k (s .owner) x) (λ q. absurd (none s x xs q c)) i h e;
       first = λ q x xs p h e. absurd (omega arith);
       ownLength = refl;
       ownRoot = refl;
-      ownInside = own-inside;
-      ownAt = own-at;
-      ownOwner = own-owner;
-      ownUnfilled = own-unfilled;
+      ownInside = below-one (λ q. imageIn (0 ∷ []) q < 1) (omega arith);
+      ownAt = below-one (λ q. spotAt spots (imageIn (0 ∷ []) q) ≡ imageIn es q) (sym z);
+      ownOwner = below-one (λ q. spotOwner spots (imageIn (0 ∷ []) q) ≡ q) refl;
+      ownUnfilled = below-one (λ q. spotFilled spots (imageIn (0 ∷ []) q) ≡ false) refl;
       distinct = λ i j h k o a. omega arith;
       least = λ i p h. absurd (omega arith);
     }
   where
+    spots : List Spot
+    spots = rootSpot ∷ []
+
     spot-zero : (s : Spot) → rootSpot ≡ s → SpotFacts S es (0 ∷ []) 1 0 s
     spot-zero s e =
         subst (λ (k : Spot). SpotFacts S es (0 ∷ []) 1 0 k) e
         (record { owner = omega arith; chainEnd = λ f c. sym z; ownOnly = λ f a. refl })
 
-    spot-at : (i : ℕ) (s : Spot) → i < 1 → getD (rootSpot ∷ []) i rootSpot ≡ s → SpotFacts S es (0 ∷ []) 1 i s
-    spot-at zero s h e = spot-zero s e
-    spot-at (suc i) s h e = absurd (omega arith)
-
     -- the chain from the root down to the root is empty
     none : (s : Spot) (x : ℕ) (xs : List ℕ) → rootSpot ≡ s → chain S (s .at) (imageIn es (s .owner)) ≡ x ∷ xs → ⊥
     none s x xs e c =
         let c′ : chain S 0 (imageIn es 0) ≡ x ∷ xs = subst (λ (k : Spot). chain S (k .at) (imageIn es (k .owner)) ≡ x ∷ xs) (sym e) c in
-        nil≢cons (sym (chain-root S 0) ∙ subst (λ (k : ℕ). chain S 0 k ≡ x ∷ xs) z c′)
-
-    next-at : (i : ℕ) (s : Spot) (x : ℕ) (xs : List ℕ) → i < 1 → getD (rootSpot ∷ []) i rootSpot ≡ s → s .filled ≡ false
-        → chain S (s .at) (imageIn es (s .owner)) ≡ x ∷ xs → ChainChild (rootSpot ∷ []) i (s .owner) x
-    next-at zero s x xs h e f c = absurd (none s x xs e c)
-    next-at (suc i) s x xs h e f c = absurd (omega arith)
-
-    own-inside : (q : ℕ) → q < 1 → imageIn (0 ∷ []) q < 1
-    own-inside zero h = omega arith
-    own-inside (suc q) h = absurd (omega arith)
-
-    own-at : (q : ℕ) → q < 1 → spotAt (rootSpot ∷ []) (imageIn (0 ∷ []) q) ≡ imageIn es q
-    own-at zero h = sym z
-    own-at (suc q) h = absurd (omega arith)
-
-    own-owner : (q : ℕ) → q < 1 → spotOwner (rootSpot ∷ []) (imageIn (0 ∷ []) q) ≡ q
-    own-owner zero h = refl
-    own-owner (suc q) h = absurd (omega arith)
-
-    own-unfilled : (q : ℕ) → q < 1 → spotFilled (rootSpot ∷ []) (imageIn (0 ∷ []) q) ≡ false
-    own-unfilled zero h = refl
-    own-unfilled (suc q) h = absurd (omega arith)
+        nil≢cons (sym (chain-self S 0) ∙ subst (λ (k : ℕ). chain S 0 k ≡ x ∷ xs) z c′)
 
 -- ---- one more pattern node
 
@@ -113,31 +92,29 @@ module _ {S : Summary} {P : Pattern} {es : List ℕ} {m : ℕ} {spots : List Spo
   size = t .appended .size
 
   -- an old node, or one of the new chain
-  side : (i : ℕ) → i < length T → (i < length spots) ⊎ ((length spots ≤ i) × (i < length spots + length xs))
+  abbrev Side : ℕ → Type 0
+  Side i = (i < length spots) ⊎ ((length spots ≤ i) × (i < length spots + length xs))
+
+  side : (i : ℕ) → i < length T → Side i
   side i h = go (ltb i (length spots)) refl
     where
-      go : (b : Bool) → ltb i (length spots) ≡ b → (i < length spots) ⊎ ((length spots ≤ i) × (i < length spots + length xs))
+      go : (b : Bool) → ltb i (length spots) ≡ b → Side i
       go true e = inl (ltb-true i (length spots) e)
       go false e = let z = size in inr (ltb-false i (length spots) e, omega arith)
 
-  same : (i : ℕ) → i < length spots → getD T i rootSpot ≡ getD spots i rootSpot
-  same = t .appended .extends .same
-
-  same-parent : (i : ℕ) → i < length spots → spotParent T i ≡ spotParent spots i
-  same-parent i l = ap (λ (s : Spot). s .parent) (same i l)
-
-  same-at : (i : ℕ) → i < length spots → spotAt T i ≡ spotAt spots i
-  same-at i l = ap (λ (s : Spot). s .at) (same i l)
-
-  same-owner : (i : ℕ) → i < length spots → spotOwner T i ≡ spotOwner spots i
-  same-owner i l = ap (λ (s : Spot). s .owner) (same i l)
+  ext : Extends spots T
+  ext = t .appended .extends
 
   v-at : spotAt T v ≡ imageIn es (patternParent P m)
   v-at =
-      ap (λ (s : Spot). s .at) (same v v-inside)
+      at-kept ext v v-inside
       ∙ subst (λ (k : ℕ). spotAt spots k ≡ imageIn es (patternParent P m)) (t .hung) (t .built .ownAt (patternParent P m) parent-lt)
 
-  new : (i : ℕ) → length spots ≤ i → i < length spots + length xs → SegmentNode S T m (imageIn es m) v (length spots) (length xs) i
+  -- a node of the new chain
+  abbrev New : ℕ → Type 0
+  New i = SegmentNode S T m (imageIn es m) v (length spots) (length xs) i
+
+  new : (i : ℕ) → length spots ≤ i → i < length spots + length xs → New i
   new = segment-node S (t .tree) T m (imageIn es m) v (length spots) (t .way) v-at (t .appended .segment) (let z = size in omega arith)
 
   rises : (i j : ℕ) → length spots ≤ i → i < j → j < length spots + length xs → spotAt T i < spotAt T j
@@ -156,11 +133,11 @@ module _ {S : Summary} {P : Pattern} {es : List ℕ} {m : ℕ} {spots : List Spo
   last-upper : length T - 1 < length spots + length xs
   last-upper = let z = size in let k = t .nonempty in omega arith
 
-  last-node : SegmentNode S T m (imageIn es m) v (length spots) (length xs) (length T - 1)
+  last-node : New (length T - 1)
   last-node = new (length T - 1) last-lower last-upper
 
   old-owner : (i : ℕ) → i < length spots → spotOwner T i < m
-  old-owner i h = (t .built .spot i (getD T i rootSpot) h (sym (same i h))) .owner
+  old-owner i h = spot-kept ext (t .built) i (getD T i rootSpot) h refl .owner
 
   -- spots
   old-spot : {i : ℕ} {s : Spot} → SpotFacts S es own m i s → SpotFacts S es own′ (suc m) i s
@@ -171,7 +148,7 @@ module _ {S : Summary} {P : Pattern} {es : List ℕ} {m : ℕ} {spots : List Spo
         ownOnly = λ p a. f .ownOnly p a ∙ sym (own-old (s .owner) (f .owner));
       }
 
-  new-spot : (i : ℕ) → SegmentNode S T m (imageIn es m) v (length spots) (length xs) i → SpotFacts S es own′ (suc m) i (getD T i rootSpot)
+  new-spot : (i : ℕ) → New i → SpotFacts S es own′ (suc m) i (getD T i rootSpot)
   new-spot i n =
       let z : length T ≡ length spots + length xs = size in
       record {
@@ -186,20 +163,20 @@ module _ {S : Summary} {P : Pattern} {es : List ℕ} {m : ℕ} {spots : List Spo
   spot-of : (i : ℕ) (s : Spot) → i < length T → getD T i rootSpot ≡ s → SpotFacts S es own′ (suc m) i s
   spot-of i s h e = go (side i h)
     where
-      go : (i < length spots) ⊎ ((length spots ≤ i) × (i < length spots + length xs)) → SpotFacts S es own′ (suc m) i s
-      go (inl l) = old-spot (t .built .spot i s l (sym (same i l) ∙ e))
+      go : Side i → SpotFacts S es own′ (suc m) i s
+      go (inl l) = old-spot (spot-kept ext (t .built) i s l e)
       go (inr r) = subst (λ (k : Spot). SpotFacts S es own′ (suc m) i k) e (new-spot i (new i (r .0) (r .1)))
 
   -- parents
   earlier-of : (i : ℕ) → 0 < i → i < length T → spotParent T i < i
   earlier-of i p h = go (side i h)
     where
-      hung-lt : length spots ≤ i → ((i ≡ length spots) × (spotParent T i ≡ v)) ⊎ ((length spots ≤ spotParent T i) × (suc (spotParent T i) ≡ i)) → spotParent T i < i
+      hung-lt : length spots ≤ i → Hangs T v (length spots) i → spotParent T i < i
       hung-lt l (inl k) = let a = k .0 in let b = k .1 in let c = v-inside in omega arith
       hung-lt l (inr k) = let b = k .1 in omega arith
 
-      go : (i < length spots) ⊎ ((length spots ≤ i) × (i < length spots + length xs)) → spotParent T i < i
-      go (inl l) = rw (same-parent i l) (t .built .earlier i p l)
+      go : Side i → spotParent T i < i
+      go (inl l) = earlier-kept ext (t .built) i p l
       go (inr r) = hung-lt (r .0) (new i (r .0) (r .1) .hangs)
 
   -- nodes
@@ -220,10 +197,10 @@ module _ {S : Summary} {P : Pattern} {es : List ℕ} {m : ℕ} {spots : List Spo
         chainUp = λ p. up (n .hangs);
       }
     where
-      n : SegmentNode S T m (imageIn es m) v (length spots) (length xs) i
+      n : New i
       n = new i l h
 
-      up : ((i ≡ length spots) × (spotParent T i ≡ v)) ⊎ ((length spots ≤ spotParent T i) × (suc (spotParent T i) ≡ i))
+      up : Hangs T v (length spots) i
           → ChainedTo S es (getD T i rootSpot) (getD T (spotParent T i) rootSpot) ⊎ FirstOf S P es own′ (getD T i rootSpot)
       up (inl k) =
           inr (record {
@@ -233,21 +210,14 @@ module _ {S : Summary} {P : Pattern} {es : List ℕ} {m : ℕ} {spots : List Spo
           })
       up (inr k) =
           let a = k .1 in
-          let p : SegmentNode S T m (imageIn es m) v (length spots) (length xs) (spotParent T i) = new (spotParent T i) (k .0) (omega arith) in
+          let p : New (spotParent T i) = new (spotParent T i) (k .0) (omega arith) in
           inl (record { owner = p .owner ∙ sym (n .owner); unfilled = p .unfilled; chained = rw (n .owner) (n .chained) })
 
   node-of : (i : ℕ) (s u : Spot) → 0 < i → i < length T → getD T i rootSpot ≡ s → getD T (s .parent) rootSpot ≡ u → NodeFacts S P es own′ s u
   node-of i s u p h e f = go (side i h)
     where
-      old : i < length spots → NodeFacts S P es own′ s u
-      old l =
-          let e′ : getD spots i rootSpot ≡ s = sym (same i l) ∙ e in
-          let k : spotParent spots i < i = t .built .earlier i p l in
-          let k′ : s .parent < length spots = subst (λ (z : Spot). z .parent < length spots) e′ (omega arith) in
-          old-node (t .built .spot i s l e′ .owner) (t .built .node i s u p l e′ (sym (same (s .parent) k′) ∙ f))
-
-      go : (i < length spots) ⊎ ((length spots ≤ i) × (i < length spots + length xs)) → NodeFacts S P es own′ s u
-      go (inl l) = old l
+      go : Side i → NodeFacts S P es own′ s u
+      go (inl l) = old-node (spot-kept ext (t .built) i s l e .owner) (node-kept ext (t .built) i s u p l e f)
       go (inr r) =
           let g : getD T (spotParent T i) rootSpot ≡ u = ap (λ (z : Spot). getD T (z .parent) rootSpot) e ∙ f in
           subst₂ (λ (a b : Spot). NodeFacts S P es own′ a b) e g (new-node i (r .0) (r .1))
@@ -257,10 +227,10 @@ module _ {S : Summary} {P : Pattern} {es : List ℕ} {m : ℕ} {spots : List Spo
       → chain S (s .at) (imageIn es (s .owner)) ≡ y ∷ ys → ChainChild T i (s .owner) y
   next-of i s y ys h e f c = go (side i h)
     where
-      go : (i < length spots) ⊎ ((length spots ≤ i) × (i < length spots + length xs)) → ChainChild T i (s .owner) y
-      go (inl l) = chain-child-kept (t .appended .extends) (t .built .next i s y ys l (sym (same i l) ∙ e) f c)
+      go : Side i → ChainChild T i (s .owner) y
+      go (inl l) = next-kept ext (t .built) i s y ys l e f c
       go (inr r) =
-          let n : SegmentNode S T m (imageIn es m) v (length spots) (length xs) i = new i (r .0) (r .1) in
+          let n : New i = new i (r .0) (r .1) in
           let o : s .owner ≡ m = ap (λ (z : Spot). z .owner) (sym e) ∙ n .owner in
           let a : s .at ≡ spotAt T i = ap (λ (z : Spot). z .at) (sym e) in
           rw o (n .next y ys (rw (← a, ← o) c))
@@ -273,13 +243,7 @@ module _ {S : Summary} {P : Pattern} {es : List ℕ} {m : ℕ} {spots : List Spo
       let b = t .built .some in
       let p : xs ≡ y ∷ ys = sym (chain-way S (t .tree) (t .way)) ∙ c in
       let g : Segment T m v (length spots) (y ∷ ys) = subst (λ (l : List ℕ). Segment T m v (length spots) l) p (t .appended .segment) in
-      record {
-        node = length spots;
-        child = record { notRoot = b; inside = omega arith; isParent = ap (λ (s : Spot). s .parent) (g .0) };
-        owner = ap (λ (s : Spot). s .owner) (g .0);
-        unfilled = ap (λ (s : Spot). s .filled) (g .0);
-        on = ap (λ (s : Spot). s .at) (g .0);
-      }
+      chain-spot-child (length spots) (g .0) b (omega arith)
 
   first-of : (q y : ℕ) (ys : List ℕ) → 0 < q → q < suc m → chain S (imageIn es (patternParent P q)) (imageIn es q) ≡ y ∷ ys
       → ChainChild T (imageIn own′ (patternParent P q)) q y
@@ -292,7 +256,7 @@ module _ {S : Summary} {P : Pattern} {es : List ℕ} {m : ℕ} {spots : List Spo
       go false e =
           let ne : q ≡ m → ⊥ = eqb-false q m e in
           let k : patternParent P q < q = t .ordered .earlier q p (let i = t .inside in omega arith) in
-          rw (own-old (patternParent P q) (omega arith)) (chain-child-kept (t .appended .extends) (t .built .first q y ys p (omega arith) c))
+          rw (own-old (patternParent P q) (omega arith)) (chain-child-kept ext (t .built .first q y ys p (omega arith) c))
 
   -- own nodes
   own-of : (F : ℕ → ℕ → Type 0) → ((q : ℕ) → q < m → F q (imageIn own q)) → F m (length T - 1) → (q : ℕ) → q < suc m → F q (imageIn own′ q)
@@ -324,12 +288,8 @@ module _ {S : Summary} {P : Pattern} {es : List ℕ} {m : ℕ} {spots : List Spo
   distinct-of : (i j : ℕ) → i < length T → j < length T → spotOwner T i ≡ spotOwner T j → spotAt T i ≡ spotAt T j → i ≡ j
   distinct-of i j h k o a = go (side i h) (side j k)
     where
-      Side : ℕ → Type 0
-      Side n = (n < length spots) ⊎ ((length spots ≤ n) × (n < length spots + length xs))
-
       go : Side i → Side j → i ≡ j
-      go (inl p) (inl q) =
-          t .built .distinct i j p q (sym (same-owner i p) ∙ (o ∙ same-owner j q)) (sym (same-at i p) ∙ (a ∙ same-at j q))
+      go (inl p) (inl q) = distinct-kept ext (t .built) i j p q o a
       go (inl p) (inr q) = absurd (apart i j p (q .0) (q .1) o)
       go (inr p) (inl q) = absurd (apart j i q (p .0) (p .1) (sym o))
       go (inr p) (inr q) = new-distinct i j (p .0) (p .1) (q .0) (q .1) a
@@ -337,23 +297,10 @@ module _ {S : Summary} {P : Pattern} {es : List ℕ} {m : ℕ} {spots : List Spo
   least-of : (i : ℕ) → 0 < i → i < length T → (spotOwner T (spotParent T i) ≡ spotOwner T i) ⊎ Least T i
   least-of i p h = go (side i h)
     where
-      old-least : i < length spots → Least spots i → Least T i
-      old-least l f = record { least = λ j k o. at-j j o (side j k) }
-        where
-          at-j : (j : ℕ) → spotOwner T j ≡ spotOwner T i → (j < length spots) ⊎ ((length spots ≤ j) × (j < length spots + length xs)) → spotAt T i ≤ spotAt T j
-          at-j j o (inl q) = rw (same-at i l, same-at j q) (f .least j q (sym (same-owner j q) ∙ (o ∙ same-owner i l)))
-          at-j j o (inr q) = absurd (apart i j l (q .0) (q .1) (sym o))
-
-      old : i < length spots → (spotOwner spots (spotParent spots i) ≡ spotOwner spots i) ⊎ Least spots i → (spotOwner T (spotParent T i) ≡ spotOwner T i) ⊎ Least T i
-      old l (inl e) =
-          let k : spotParent spots i < i = t .built .earlier i p l in
-          inl (ap (spotOwner T) (same-parent i l) ∙ (same-owner (spotParent spots i) (omega arith) ∙ (e ∙ sym (same-owner i l))))
-      old l (inr f) = inr (old-least l f)
-
       first-least : i ≡ length spots → length spots ≤ i → Least T i
       first-least e l = record { least = λ j k o. at-j j o (side j k) }
         where
-          n : SegmentNode S T m (imageIn es m) v (length spots) (length xs) i
+          n : New i
           n = new i l (let z = t .nonempty in omega arith)
 
           below : (j : ℕ) → length spots ≤ j → j < length spots + length xs → (b : Bool) → ltb i j ≡ b → spotAt T i ≤ spotAt T j
@@ -363,18 +310,17 @@ module _ {S : Summary} {P : Pattern} {es : List ℕ} {m : ℕ} {spots : List Spo
               let same-number : i ≡ j = omega arith in
               rw same-number (omega arith)
 
-          at-j : (j : ℕ) → spotOwner T j ≡ spotOwner T i → (j < length spots) ⊎ ((length spots ≤ j) × (j < length spots + length xs)) → spotAt T i ≤ spotAt T j
+          at-j : (j : ℕ) → spotOwner T j ≡ spotOwner T i → Side j → spotAt T i ≤ spotAt T j
           at-j j o (inl q) = absurd (apart j i q l (let z = t .nonempty in omega arith) o)
           at-j j o (inr q) = below j (q .0) (q .1) (ltb i j) refl
 
-      chained : length spots ≤ i → i < length spots + length xs → ((i ≡ length spots) × (spotParent T i ≡ v)) ⊎ ((length spots ≤ spotParent T i) × (suc (spotParent T i) ≡ i))
+      chained : length spots ≤ i → i < length spots + length xs → Hangs T v (length spots) i
           → (spotOwner T (spotParent T i) ≡ spotOwner T i) ⊎ Least T i
       chained l b (inl k) = inr (first-least (k .0) l)
       chained l b (inr k) = let a = k .1 in inl (new (spotParent T i) (k .0) (omega arith) .owner ∙ sym (new i l b .owner))
 
-      go : (i < length spots) ⊎ ((length spots ≤ i) × (i < length spots + length xs)) → (spotOwner T (spotParent T i) ≡ spotOwner T i) ⊎ Least T i
-      go (inl l) =
-          old l (t .built .least i p l)
+      go : Side i → (spotOwner T (spotParent T i) ≡ spotOwner T i) ⊎ Least T i
+      go (inl l) = least-kept ext (t .built) i p l (λ f j a b o. absurd (apart i j l a (let z = size in omega arith) (sym o)))
       go (inr r) = chained (r .0) (r .1) (new i (r .0) (r .1) .hangs)
 
   turn-built : Built S P es (suc m) T own′
@@ -383,18 +329,18 @@ module _ {S : Summary} {P : Pattern} {es : List ℕ} {m : ℕ} {spots : List Spo
       let k = t .built .some in
       record {
         some = omega arith;
-        root = same 0 k ∙ t .built .root;
+        root = ext .same 0 k ∙ t .built .root;
         spot = spot-of;
         earlier = earlier-of;
         node = node-of;
         next = next-of;
         first = first-of;
-        ownLength = length-append own ((length T - 1) ∷ []) ∙ (let l = t .built .ownLength in omega arith);
+        ownLength = length-snoc own (length T - 1) ∙ ap suc (t .built .ownLength);
         ownRoot = own-old 0 (t .positive) ∙ t .built .ownRoot;
         ownInside = own-of (λ q i. i < length T) (λ q l. (let a = t .built .ownInside q l in omega arith)) (let a = last-upper in omega arith);
-        ownAt = own-of (λ q i. spotAt T i ≡ imageIn es q) (λ q l. ap (λ (s : Spot). s .at) (same (imageIn own q) (t .built .ownInside q l)) ∙ t .built .ownAt q l) (last-node .ends (let a = t .nonempty in omega arith));
-        ownOwner = own-of (λ q i. spotOwner T i ≡ q) (λ q l. ap (λ (s : Spot). s .owner) (same (imageIn own q) (t .built .ownInside q l)) ∙ t .built .ownOwner q l) (last-node .owner);
-        ownUnfilled = own-of (λ q i. spotFilled T i ≡ false) (λ q l. ap (λ (s : Spot). s .filled) (same (imageIn own q) (t .built .ownInside q l)) ∙ t .built .ownUnfilled q l) (last-node .unfilled);
+        ownAt = own-of (λ q i. spotAt T i ≡ imageIn es q) (own-at-kept ext (t .built)) (last-node .ends (let a = t .nonempty in omega arith));
+        ownOwner = own-of (λ q i. spotOwner T i ≡ q) (own-owner-kept ext (t .built)) (last-node .owner);
+        ownUnfilled = own-of (λ q i. spotFilled T i ≡ false) (own-unfilled-kept ext (t .built)) (last-node .unfilled);
         distinct = distinct-of;
         least = least-of;
       }
@@ -420,9 +366,9 @@ module _ (S : Summary) (P : Pattern) (es : List ℕ) (tree : IsTree (asDocument 
       → Built S P es (suc m) (laid S es l m (patternParent P m) .spots) (laid S es l m (patternParent P m) .own)
   lay-node l m b p h =
       let a : ℕ = imageIn es (patternParent P m) in
-      let w : (x : ℕ) × (xs : List ℕ) × Way (asDocument S) (imageIn es m) a (x ∷ xs) =
-      below-way (edge-below (descends P m) (asDocument S) a (imageIn es m) (placed .edges m p h)) in
-      let c : chain S a (imageIn es m) ≡ w .0 ∷ w .1 = chain-way S tree (w .2) in
+      let r = below-way (edge-below (descends P m) (asDocument S) a (imageIn es m) (placed .edges m p h)) in
+      let w : Way (asDocument S) (imageIn es m) a (r .0 ∷ r .1) = step (r .2) (r .3) in
+      let c : chain S a (imageIn es m) ≡ r .0 ∷ r .1 = chain-way S tree w in
       let v : ℕ = imageIn (l .own) (patternParent P m) in
       let T : List ℕ → List Spot = λ xs. appendChain m (l .spots) v xs in
       subst (λ (xs : List ℕ). Built S P es (suc m) (T xs) (l .own ++ (length (T xs) - 1) ∷ [])) (sym c)
@@ -434,9 +380,9 @@ module _ (S : Summary) (P : Pattern) (es : List ℕ) (tree : IsTree (asDocument 
         positive = p;
         inside = h;
         hung = refl;
-        way = w .2;
+        way = w;
         nonempty = omega arith;
-        appended = append-chain m (l .spots) v (w .0 ∷ w .1);
+        appended = append-chain m (l .spots) v (r .0 ∷ r .1);
       }))
 
   lay-nodes : (rs : List PatternRecord) (l : Layout) (m : ℕ) → drop m P ≡ rs → Built S P es m (l .spots) (l .own) → 0 < m → m ≤ length P
@@ -446,12 +392,10 @@ module _ (S : Summary) (P : Pattern) (es : List ℕ) (tree : IsTree (asDocument 
       let k : length P - m ≡ 0 = sym (length-drop m P) ∙ ap (λ (z : List PatternRecord). length z) d in
       subst (λ (n : ℕ). Built S P es n (l .spots) (l .own)) (omega arith) b
   lay-nodes (r ∷ rs) l m d b p h =
-      let k : length P - m ≡ suc (length rs) = sym (length-drop m P) ∙ ap (λ (z : List PatternRecord). length z) d in
-      let i : m < length P = omega arith in
-      let e : getD P m noPatternRecord ∷ drop (suc m) P ≡ r ∷ rs = sym (drop-cons P m noPatternRecord i) ∙ d in
-      let f : layNode es S l r ≡ laid S es l m (patternParent P m) = step-eq (b .ownLength) (ap (λ (z : PatternRecord). z .parent) (sym (head-eq-of-cons-eq e))) in
-      lay-nodes rs (layNode es S l r) (suc m) (tail-eq-of-cons-eq e)
-      (subst (λ (z : Layout). Built S P es (suc m) (z .spots) (z .own)) (sym f) (lay-node l m b p i)) (omega arith) i
+      let e = drop-begins P m r rs noPatternRecord d in
+      let f : layNode es S l r ≡ laid S es l m (patternParent P m) = step-eq (b .ownLength) (ap (λ (z : PatternRecord). z .parent) (sym (e .1))) in
+      lay-nodes rs (layNode es S l r) (suc m) (e .2)
+      (subst (λ (z : Layout). Built S P es (suc m) (z .spots) (z .own)) (sym f) (lay-node l m b p (e .0))) (omega arith) (e .0)
     where
       step-eq : length (l .own) ≡ m → r .parent ≡ patternParent P m → layNode es S l r ≡ laid S es l m (patternParent P m)
       step-eq x y = layNode-laid S es l r ∙ ap₂ (laid S es l) x y

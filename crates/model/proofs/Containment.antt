@@ -1,7 +1,6 @@
 -- Containment is decided by canonical documents: every result of the first pattern in a fitting document passes exactly when the
 -- own nodes of each placement's canonical document pass. A canonical document is a fitting one, and a result anywhere is
--- carried there from a canonical one. This for any way of passing that homomorphisms keep. The section's parameter `laid` is
--- that the layout has the facts of proofs/Laid.antt. Assumes nothing else.
+-- carried there from a canonical one. This for any way of passing that homomorphisms keep. Assumes nothing.
 use Prim.Native.Nat.{ℕ, _<_}
 use mathlib.Core.Path.{_≡_, sym, _∙_, subst}
 use mathlib.Core.Logic.{_↔_}
@@ -15,9 +14,12 @@ use Rattle.model.specs.Canonical.{canonicalSpots, canonical, ownNodes, o
 use Rattle.model.specs.Facts.{SummaryFacts, PatternFacts}
 use Rattle.model.proofs.TreeLaws.{hom-result}
 use Rattle.model.proofs.Laid.{Laid}
+use Rattle.model.proofs.Embeddings.{length-imagesOf, image-imagesOf}
+use Rattle.model.proofs.Paths.{pathIn}
+use Rattle.model.proofs.Canonical.{canonical-laid}
 use Rattle.model.proofs.SpotLaws.{spotDocument}
 use Rattle.model.proofs.CanonicalFits.{laid-fits, laid-result}
-use Rattle.model.proofs.CanonicalHom.{pathsOf, length-paths, paths-image, paths-placed, laid-hom, own-result-carried}
+use Rattle.model.proofs.CanonicalHom.{pathsOf, paths-placed, laid-hom, own-result-carried}
 
 -- what passes in a tree passes where a homomorphism carries it
 pub record KeptByHoms (Passes : Document → List ℕ → Type 0) : Type 0 where
@@ -33,21 +35,23 @@ some-result-kept Qs = record { keeps = λ W D h r t m p. record { pattern = p .p
 abbrev pub TrialsPass : Summary → Pattern → (Document → List ℕ → Type 0) → Type 0
 TrialsPass S P Passes = (es : List ℕ) → length es ≡ length P → Placement S P (imageIn es) → Passes (canonical S P es) (ownResult S P es)
 
-module _ {S : Summary} {P : Pattern} (f : SummaryFacts S) (g : PatternFacts P)
-    (laid : (es : List ℕ) → length es ≡ length P → Placement S P (imageIn es) → Laid S P es (canonicalSpots S P es) (ownNodes S P es)) where
+module _ {S : Summary} {P : Pattern} (f : SummaryFacts S) (g : PatternFacts P) where
+  laid : (es : List ℕ) → Placement S P (imageIn es) → Laid S P es (canonicalSpots S P es) (ownNodes S P es)
+  laid es m = canonical-laid S P es (f .tree) (g .tree) m
+
   pub canonical-fits : (es : List ℕ) → length es ≡ length P → Placement S P (imageIn es) → Fits S (canonical S P es)
   unfolding canonical
-  canonical-fits es l m = laid-fits f (laid es l m)
+  canonical-fits es l m = laid-fits f (laid es m)
 
   pub canonical-result : (es : List ℕ) → length es ≡ length P → Placement S P (imageIn es) → Result P (canonical S P es) (ownResult S P es)
   unfolding canonical ownResult
-  canonical-result es l m = laid-result (f .tree) (g .tree) m (laid es l m)
+  canonical-result es l m = laid-result (f .tree) (g .tree) m (laid es m)
 
   -- a result in a fitting document is carried there from the canonical document of its embedding's paths
   pub result-carried : (W : Document) (r : List ℕ) → Fits S W → (k : Result P W r)
       → (h : ℕ → ℕ) × Hom (canonical S P (pathsOf S P W (k .image))) W h × (map h (ownResult S P (pathsOf S P W (k .image))) ≡ r)
   unfolding canonical ownResult
-  result-carried W r w k = go (laid-hom f (g .tree) w (k .embeds) (paths-image S P W (k .image)) (laid es (length-paths S P W (k .image)) (paths-placed f (g .tree) w (k .embeds))))
+  result-carried W r w k = go (laid-hom f (g .tree) w (k .embeds) (image-imagesOf P (λ q. pathIn S W (k .image q))) (laid es (paths-placed f (g .tree) w (k .embeds))))
     where
       es : List ℕ
       es = pathsOf S P W (k .image)
@@ -66,7 +70,7 @@ module _ {S : Summary} {P : Pattern} (f : SummaryFacts S) (g : PatternFacts P)
       back : TrialsPass S P Passes → ContainedIn S P Passes
       back c W w r k =
           let es : List ℕ = pathsOf S P W (k .image) in
-          let l : length es ≡ length P = length-paths S P W (k .image) in
+          let l : length es ≡ length P = length-imagesOf P (λ q. pathIn S W (k .image q)) in
           let m : Placement S P (imageIn es) = paths-placed f (g .tree) w (k .embeds) in
           let b = result-carried W r w k in
           subst (Passes W) (b .2) (kept .keeps (canonical S P es) W (b .0) (ownResult S P es) (canonical-fits es l m .tree) (b .1) (c es l m))

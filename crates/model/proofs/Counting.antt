@@ -1,6 +1,6 @@
 -- Counting: no more numbers than places, and pairs of small numbers as one number. Assumes nothing.
 use Prim.Native.Nat.{ℕ, zero, suc, _+_, _*_, _≤_, _<_}
-use mathlib.Core.Path.{_≡_, refl, sym, ap, _∙_, subst}
+use mathlib.Core.Path.{_≡_, refl, sym, _∙_}
 use mathlib.Core.Bool.{Bool, true, false}
 use native.Mathlib.Omega.{arith}
 use native.Mathlib.Nat.{suc-mul, mul-le-mul-right}
@@ -47,19 +47,16 @@ pigeonhole (suc n) (suc m) f inside injective =
         (λ p. moved-cases f m (f n) j (λ y. f i ≡ y → i ≡ j) (λ q e. absurd (other i h e)) (λ q e. injective i j (omega arith) (omega arith) e))
 
 -- a pair (o, a) with a below k is told by o * k + a
-pair-lt : (k o p a : ℕ) → a < k → o < p → o * k + a < p * k
-pair-lt k o p a h l =
+pub pair-below : (k o p a : ℕ) → a < k → o < p → o * k + a < p * k
+pair-below k o p a h l =
     let r : suc o * k ≤ p * k = mul-le-mul-right k l in
     let s : suc o * k ≡ o * k + k = suc-mul o k in
     omega arith
-
-pub pair-below : (k o m a : ℕ) → a < k → o < m → o * k + a < m * k
-pair-below = pair-lt
 
 pub pair-first : (k o p a b : ℕ) → a < k → b < k → o * k + a ≡ p * k + b → o ≡ p
 pair-first k o p a b h l e = go (ltb o p) (ltb p o) refl refl
   where
     go : (s t : Bool) → ltb o p ≡ s → ltb p o ≡ t → o ≡ p
-    go true t x y = let r : o * k + a < p * k = pair-lt k o p a h (ltb-true o p x) in absurd (omega arith)
-    go false true x y = let r : p * k + b < o * k = pair-lt k p o b l (ltb-true p o y) in absurd (omega arith)
+    go true t x y = let r : o * k + a < p * k = pair-below k o p a h (ltb-true o p x) in absurd (omega arith)
+    go false true x y = let r : p * k + b < o * k = pair-below k p o b l (ltb-true p o y) in absurd (omega arith)
     go false false x y = let r = ltb-false o p x in let s = ltb-false p o y in omega arith

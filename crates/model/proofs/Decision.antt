@@ -19,7 +19,6 @@ use Rattle.model.specs.Demands.{SomeCounterExample, AllTrialsPass, SomeT
 use Rattle.model.proofs.ListLaws.{true-or-false, not-both, any-intro, any-elim, all-intro, all-elim, all-counter}
 use Rattle.model.proofs.Embeddings.{embeddings-exact}
 use Rattle.model.proofs.Results.{result-exact}
-use Rattle.model.proofs.Laid.{Laid}
 use Rattle.model.proofs.Canonical.{canonical-laid, canonical-small}
 use Rattle.model.proofs.Containment.{TrialsPass, canonical-fits, canonical-result, contained-in-one, contained-in-some}
 use Rattle.model.proofs.Quick.{quick-passes}
@@ -37,15 +36,12 @@ module _ {S : Summary} {P : Pattern} (s : SummaryFacts S) (p : PatternFacts P) w
   pub placed : {es : List ℕ} → List·Memᴰ es (placements S P) → (length es ≡ length P) × Placement S P (imageIn es)
   placed m = embeddings-exact (p .tree) (s .tree) .0 m
 
-  laid : (es : List ℕ) → length es ≡ length P → Placement S P (imageIn es) → Laid S P es (canonicalSpots S P es) (ownNodes S P es)
-  laid es l m = canonical-laid S P es (s .tree) (p .tree) m
-
   -- a trial volume fits, the first selection's own nodes are a result of it there, and it has at most 1,009 nodes
   pub trial-fits : {es : List ℕ} → List·Memᴰ es (placements S P) → Fits S (canonical S P es)
-  trial-fits {es} m = let k = placed m in canonical-fits s p laid es (k .0) (k .1)
+  trial-fits {es} m = let k = placed m in canonical-fits s p es (k .0) (k .1)
 
   pub trial-result : {es : List ℕ} → List·Memᴰ es (placements S P) → Result P (canonical S P es) (ownResult S P es)
-  trial-result {es} m = let k = placed m in canonical-result s p laid es (k .0) (k .1)
+  trial-result {es} m = let k = placed m in canonical-result s p es (k .0) (k .1)
 
   pub trial-small : {es : List ℕ} → List·Memᴰ es (placements S P) → length S ≤ maxSummary → length P ≤ maxPattern → length (canonical S P es) ≤ maxCanonical
   trial-small {es} m a b = canonical-small S P es (s .tree) (p .tree) (placed m .1) a b
@@ -59,9 +55,10 @@ module _ {S : Summary} {P : Pattern} (s : SummaryFacts S) (p : PatternFacts P) w
     -- included exactly when every trial passes
     pub contained-exact : Contained S P Q ↔ AllTrialsPass S P Q (placements S P)
     contained-exact =
-        let c = contained-in-one s p laid Q in
-        (λ k es m. passes-exact m .1 (let l = placed m in c .0 k es (l .0) (l .1))
-        , λ k. c .1 (λ es l m. (let n : List·Memᴰ es (placements S P) = embeddings-exact (p .tree) (s .tree) .1 (l, m) in passes-exact n .0 (k es n))))
+        let c = contained-in-one s p Q in (
+          λ k es m. passes-exact m .1 (let l = placed m in c .0 k es (l .0) (l .1)),
+          λ k. c .1 (λ es l m. (let n : List·Memᴰ es (placements S P) = embeddings-exact (p .tree) (s .tree) .1 (l, m) in passes-exact n .0 (k es n))),
+        )
 
     -- a trial that does not pass is a counter-example
     pub failing-trial : {es : List ℕ} → List·Memᴰ es (placements S P) → passes S P Q es ≡ false → CounterExample S P Q (canonical S P es) (ownResult S P es)
@@ -86,7 +83,7 @@ module _ {S : Summary} {P : Pattern} (s : SummaryFacts S) (p : PatternFacts P) w
 
     -- the quick test says whether the trial passes
     pub quick-exact : arity P ≡ arity Q → {es : List ℕ} → List·Memᴰ es (placements S P) → quick S P Q es ≡ passes S P Q es
-    quick-exact a {es} m = let l = placed m in quick-passes (laid es (l .0) (l .1)) s p q a (result-exact (ownResult S P es) q (trial-fits m .tree))
+    quick-exact a {es} m = quick-passes (canonical-laid S P es (s .tree) (p .tree) (placed m .1)) s p q a (result-exact (ownResult S P es) q (trial-fits m .tree))
 
   -- included in several selections together exactly when each placement is quick for one of them
   pub quick-contained : (Qs : List Pattern) → ((Q : Pattern) → List·Memᴰ Q Qs → PatternFacts Q × (arity P ≡ arity Q))
@@ -102,12 +99,12 @@ module _ {S : Summary} {P : Pattern} (s : SummaryFacts S) (p : PatternFacts P) w
       there : ContainedIn S P (ResultOfSome Qs) → (es : List ℕ) → List·Memᴰ es (placements S P) → anyOf (λ Q. quick S P Q es) Qs ≡ true
       there c es m =
           let l = placed m in
-          let k : ResultOfSome Qs (canonical S P es) (ownResult S P es) = contained-in-some s p laid Qs .0 c es (l .0) (l .1) in
+          let k : ResultOfSome Qs (canonical S P es) (ownResult S P es) = contained-in-some s p Qs .0 c es (l .0) (l .1) in
           any-intro (λ Q. quick S P Q es) (k .pattern) Qs (k .among) (says (k .pattern) (k .among) m .1 (k .result))
 
       back : ((es : List ℕ) → List·Memᴰ es (placements S P) → anyOf (λ Q. quick S P Q es) Qs ≡ true) → ContainedIn S P (ResultOfSome Qs)
       back c =
-          contained-in-some s p laid Qs .1
+          contained-in-some s p Qs .1
           (λ es l m. (let n : List·Memᴰ es (placements S P) = embeddings-exact (p .tree) (s .tree) .1 (l, m) in
           let k = any-elim (λ Q. quick S P Q es) Qs (c es n) in
           record { pattern = k .0; among = k .1; result = says (k .0) (k .1) n .0 (k .2) }))

@@ -6,6 +6,7 @@ use mathlib.Core.Bool.{Bool, true, false, true≢false}
 use mathlib.Core.Logic.{_⊎_, inl, inr, _↔_, Iff·trans, Iff·symm}
 use mathlib.Core.List.{List, [], _∷_, _++_, map, List·Memᴰ, List·Memᴰ·head, Memᴰ·append-right}
 use native.Mathlib.Omega.{arith}
+use native.Mathlib.Nat.{zero-add}
 use lib.Count.{ones}
 use lib.Dec.{eqb}
 use lib.ListN.{length, getD, take, length-map}
@@ -23,12 +24,11 @@ use Rattle.model.specs.Questions.{selected, verdictRefusal, fitsRefusal,
 use Rattle.model.specs.Calls.{VerdictOutcome, kindIncluded, kindNotIncluded, kindStopped, kindOf, shown, verdictAccepted, verdictCall, fitsCall, resultCall, NodesOutcome, nodesAccepted, nodesCall, PathsAnswer, pathsAccepted, pathsCall, LaidRecord, laidRecord, LayoutOutcome, layoutAccepted, layoutCall}
 use Rattle.model.specs.Facts.{SummaryFacts, PatternFacts, CaseFacts}
 use Rattle.model.specs.Demands.{SomeCounterExample, AllTrialsPass, SomeTrialFails, Shown, Demand3}
-use Rattle.model.proofs.ListLaws.{by-bool, length-upFrom, getD-upFrom}
+use Rattle.model.proofs.ListLaws.{by-bool, length-map-upFrom, getD-map-upFrom}
 use Rattle.model.proofs.Ascending.{Ascending}
 use Rattle.model.proofs.Masks.{has}
 use Rattle.model.proofs.Results.{result-exact, nodes-at-exact, nodes-at-ascending, path-mask-exact, path-mask-beyond, path-count-ones}
 use Rattle.model.proofs.Fitting.{fits-exact}
-use Rattle.model.proofs.SpotLaws.{getD-map-inside}
 use Rattle.model.proofs.Decision.{trial-fits, trial-result, trial-small, contained-exact, contained-or-counter, counter-exact, failing-trial}
 use Rattle.model.proofs.Verdict.{IsIncluded, IsNotIncluded, IsStopped, few-included, few-not-included, more-stopped, more-never-included, not-included-iff, stopped-iff, judge-not-included, verdict-judge, verdict-tried, take-mem}
 use Rattle.model.proofs.Questions.{VerdictFacts, accepted-verdict, accepted-fits, accepted-result, accepted-nodes, accepted-paths, accepted-layout, selected-facts}
@@ -71,11 +71,13 @@ nodes-told b s w p buffer e =
     let f = accepted-nodes b s w p (length buffer) e in
     let P : Pattern = selected (caseOf b) s in
     let q : nodesCall b s w p buffer ≡ nodesAccepted (nodesAt P (documentOf w) p) buffer = nodes-accepted b s w p buffer e in
-    record { nodes = nodesAt P (documentOf w) p
-           ; exact = λ v. nodes-at-exact p v (selected-facts (caseOf b) s (f .case .facts)) (f .document .tree) (f .positionLow) (f .positionHigh)
-           ; ascending = nodes-at-ascending P (documentOf w) p
-           ; count = ap (λ (o : NodesOutcome). o .answer .count) q
-           ; written = ap (λ (o : NodesOutcome). o .buffer) q }
+    record {
+      nodes = nodesAt P (documentOf w) p;
+      exact = λ v. nodes-at-exact p v (selected-facts (caseOf b) s (f .case .facts)) (f .document .tree) (f .positionLow) (f .positionHigh);
+      ascending = nodes-at-ascending P (documentOf w) p;
+      count = ap (λ (o : NodesOutcome). o .answer .count) q;
+      written = ap (λ (o : NodesOutcome). o .buffer) q;
+    }
 
 -- Paths of each node: bit i of a node's mask exactly when outline node i is one of its paths, and how many there are; entries
 -- past the last node are 0
@@ -85,21 +87,18 @@ pub record PathsTold (S : Summary) (P : Pattern) (o : PathsAnswer) : Type 0 wher
   pub past : (q : ℕ) → length P ≤ q → q < maxPattern → getD (o .masks) q 0 ≡ 0
   pub sizes : (length (o .masks) ≡ maxPattern) × (length (o .counts) ≡ maxPattern)
 
-sixteen : (f : ℕ → ℕ) → length (map f (upFrom 0 maxPattern)) ≡ maxPattern
-sixteen f = length-map (upFrom 0 maxPattern) f ∙ length-upFrom 0 maxPattern
-
 entry : (f : ℕ → ℕ) (q : ℕ) → q < maxPattern → getD (map f (upFrom 0 maxPattern)) q 0 ≡ f q
-entry f q h =
-    getD-map-inside f (upFrom 0 maxPattern) q 0 0 (let l = length-upFrom 0 maxPattern in omega arith)
-    ∙ ap f (getD-upFrom 0 maxPattern q 0 h ∙ omega arith)
+entry f q h = getD-map-upFrom f 0 maxPattern q 0 h ∙ ap f (zero-add q)
 
 paths-accepted-told : {S : Summary} {P : Pattern} → SummaryFacts S → PatternFacts P → PathsTold S P (pathsAccepted S P)
 unfolding pathsAccepted
 paths-accepted-told {S} {P} s p =
-    record { masks = λ q i l h. rw (entry (pathMask S P) q h) (path-mask-exact q i (p .tree) s l)
-           ; counts = λ q h. entry (pathCount S P) q h ∙ (path-count-ones S P q ∙ ap ones (sym (entry (pathMask S P) q h)))
-           ; past = λ q l h. entry (pathMask S P) q h ∙ path-mask-beyond S P q l
-           ; sizes = (sixteen (pathMask S P), sixteen (pathCount S P)) }
+    record {
+      masks = λ q i l h. rw (entry (pathMask S P) q h) (path-mask-exact q i (p .tree) s l);
+      counts = λ q h. entry (pathCount S P) q h ∙ (path-count-ones S P q ∙ ap ones (sym (entry (pathMask S P) q h)));
+      past = λ q l h. entry (pathMask S P) q h ∙ path-mask-beyond S P q l;
+      sizes = (length-map-upFrom (pathMask S P) 0 maxPattern, length-map-upFrom (pathCount S P) 0 maxPattern);
+    }
 
 pub paths-told : (b : List ℕ) (s : ℕ) → pathsRefusal b s ≡ 0 → PathsTold (caseOf b .summary) (selected (caseOf b) s) (pathsCall b s)
 paths-told b s e =
@@ -130,14 +129,16 @@ layout-told b s l table e =
     let g : PatternFacts P = selected-facts (caseOf b) s (f .case .facts) in
     let q : layoutCall b s l table ≡ layoutAccepted S P es table = layout-accepted b s l table e in
     let n : layoutCall b s l table .answer .count ≡ length (canonical S P es) =
-        ap (λ (o : LayoutOutcome). o .answer .count) q
-        ∙ (length-map (canonicalSpots S P es) (laidRecord S) ∙ sym (length-map (canonicalSpots S P es) (spotRecord S))) in
+    ap (λ (o : LayoutOutcome). o .answer .count) q
+    ∙ (length-map (canonicalSpots S P es) (laidRecord S) ∙ sym (length-map (canonicalSpots S P es) (spotRecord S))) in
     let k : length (canonical S P es) ≤ maxCanonical = trial-small (f .case .facts .summary) g (f .placement) (f .case .facts .summarySize) (selected-size (caseOf b) s (f .case .facts)) in
-    record { fitting = trial-fits (f .case .facts .summary) g (f .placement)
-           ; own = trial-result (f .case .facts .summary) g (f .placement)
-           ; small = subst (λ (x : ℕ). x ≤ maxCanonical) (sym n) k
-           ; count = n
-           ; written = ap (λ (o : LayoutOutcome). o .table) q }
+    record {
+      fitting = trial-fits (f .case .facts .summary) g (f .placement);
+      own = trial-result (f .case .facts .summary) g (f .placement);
+      small = subst (λ (x : ℕ). x ≤ maxCanonical) (sym n) k;
+      count = n;
+      written = ap (λ (o : LayoutOutcome). o .table) q;
+    }
 
 -- ---- Demand 3: the verdict is exact over fitting volumes of any size
 
@@ -221,27 +222,31 @@ module _ (c : Case) (f : CaseFacts c) (L : ℕ) where
       let k = kind-not-included (verdict S P Q L) .0 e in
       let es : List ℕ = k .1 in
       let s = shows (k .0) es (k .2) in
-      record { document = canonical S P es
-             ; result = ownResult S P es
-             ; counterExample = s .0
-             ; small = s .1
-             ; written = ap (λ (v : Verdict). writtenAtFront (shown S P v) buffer) (k .2) ∙ ap (λ (w : List ℕ). writtenAtFront w buffer) (shown-trial S P (k .0) es) }
+      record {
+        document = canonical S P es;
+        result = ownResult S P es;
+        counterExample = s .0;
+        small = s .1;
+        written = ap (λ (v : Verdict). writtenAtFront (shown S P v) buffer) (k .2) ∙ ap (λ (w : List ℕ). writtenAtFront w buffer) (shown-trial S P (k .0) es);
+      }
 
   accepted-demand : (tally : ℕ) (buffer : List ℕ) → Demand3 c L tally buffer (verdictAccepted c L tally buffer)
   unfolding verdictAccepted
   accepted-demand tally buffer =
       let v : Verdict = verdict S P Q L in
-      record { notIncluded = λ h. Iff·trans (kind-not-included v) (few-counter h)
-             ; included = λ h. Iff·trans (kind-included v) (Iff·trans (few-contained h) (contained-or-counter (f .summary) (f .first) (f .second)))
-             ; inclusion = λ h. Iff·trans (kind-included v) (few-contained h)
-             ; stopped = λ h. Iff·trans (kind-stopped v) (more-stops h)
-             ; failing = λ h. Iff·trans (kind-not-included v) more-fails
-             ; neverIncluded = λ h e. more-never h (kind-included v .0 e)
-             ; onlyStopped = λ e. stops-more (kind-stopped v .0 e)
-             ; shown = accepted-shows tally buffer
-             ; silent = λ h. ap (λ (w : List ℕ). writtenAtFront w buffer) (shown-nothing S P v h) ∙ front-none buffer
-             ; tallied = refl
-             ; limited = verdict-tried S P Q L }
+      record {
+        notIncluded = λ h. Iff·trans (kind-not-included v) (few-counter h);
+        included = λ h. Iff·trans (kind-included v) (Iff·trans (few-contained h) (contained-or-counter (f .summary) (f .first) (f .second)));
+        inclusion = λ h. Iff·trans (kind-included v) (few-contained h);
+        stopped = λ h. Iff·trans (kind-stopped v) (more-stops h);
+        failing = λ h. Iff·trans (kind-not-included v) more-fails;
+        neverIncluded = λ h e. more-never h (kind-included v .0 e);
+        onlyStopped = λ e. stops-more (kind-stopped v .0 e);
+        shown = accepted-shows tally buffer;
+        silent = λ h. ap (λ (w : List ℕ). writtenAtFront w buffer) (shown-nothing S P v h) ∙ front-none buffer;
+        tallied = refl;
+        limited = verdict-tried S P Q L;
+      }
 
 -- the verdict call keeps demand 3
 pub demand-3 : (b : List ℕ) (L tally : ℕ) (buffer : List ℕ) → verdictRefusal b L tally (length buffer) ≡ 0 → Demand3 (caseOf b) L tally buffer (verdictCall b L tally buffer)

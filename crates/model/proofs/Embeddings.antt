@@ -1,45 +1,23 @@
 -- The computed list holds exactly the embeddings, each once, in document 01's order of placements: how a pattern node may stand
 -- depends on its image and its parent's, and parents come earlier, so images can be chosen one by one. Assumes nothing.
-use Prim.Native.Nat.{ℕ, zero, suc, _-_, _≤_, _<_}
+use Prim.Native.Nat.{ℕ, suc, _-_, _≤_, _<_}
 use mathlib.Core.Path.{_≡_, refl, sym, ap, _∙_, subst}
 use mathlib.Core.Bool.{Bool, true, false}
 use mathlib.Core.Logic.{_⊎_, inl, inr, _↔_}
-use mathlib.Core.List.{List, [], _∷_, _++_, map, List·Memᴰ, List·Memᴰ·head, List·Memᴰ·not-nil, List·Memᴰ·eq-of-singleton, append-nil, append-assoc, nil≢cons, head-eq-of-cons-eq, tail-eq-of-cons-eq}
+use mathlib.Core.List.{List, [], _∷_, _++_, map, List·Memᴰ, List·Memᴰ·head, List·Memᴰ·not-nil, List·Memᴰ·eq-of-singleton, append-nil, append-assoc}
 use native.Mathlib.Omega.{arith}
-use native.Mathlib.Nat.{not-suc-le-zero, le-of-suc-le-suc, eq-zero-or-pos}
+use native.Mathlib.Nat.{not-suc-le-zero, eq-zero-or-pos, zero-add}
 use lib.Dec.{eqb, ltb}
-use lib.ListN.{length, getD, drop, length-append, length-map, length-drop, List·getD-append}
+use lib.ListN.{length, getD, drop, length-drop, List·getD-append}
+use lib.Seq.{getD-append-seam}
 use borrow.Author.Tests.{eqb-true, eq-eqb, ltb-true, ltb-false}
 use Rattle.model.specs.Lists.{upFrom, keep}
 use Rattle.model.specs.Tree.{Document, IsTree, labelOf, Edge}
 use Rattle.model.specs.Pattern.{PatternRecord, Pattern, noPatternRecord, patternParent, patternLabel, descends, IsPatternTree, labelFits, Embeds}
 use Rattle.model.specs.Embeddings.{edgeTest, reaches, candidate, extend, embeddings, Precedes, imageIn}
-use Rattle.model.proofs.ListLaws.{and-intro, and-left, and-right, length-upFrom, getD-upFrom, mem-upFrom, upFrom-mem, keep-intro, keep-elim, flat-intro, flat-elim}
+use Rattle.model.proofs.ListLaws.{and-intro, and-left, and-right, length-snoc, drop-begins, length-map-upFrom, getD-map-upFrom, mem-upFrom, upFrom-mem, keep-intro, keep-elim, flat-intro, flat-elim}
 use Rattle.model.proofs.TreeLaws.{test-edge, edge-test}
 use Rattle.model.proofs.Ascending.{Ascending, ascending-distinct, ascending-unique, ascending-keep, ascending-upFrom, ascending-flat}
-
--- ---- lists
-
-module _ {A : Type 0} where
-  -- where the rest of a list from place k on begins with r, r stands at place k
-  drop-cons : (xs : List A) (k : ℕ) (r : A) (rs : List A) (d : A) → drop k xs ≡ r ∷ rs → (k < length xs) × (getD xs k d ≡ r) × (drop (suc k) xs ≡ rs)
-  drop-cons [] zero r rs d e = absurd (nil≢cons e)
-  drop-cons [] (suc k) r rs d e = absurd (nil≢cons e)
-  drop-cons (x ∷ xs) zero r rs d e = (omega arith, head-eq-of-cons-eq e, tail-eq-of-cons-eq e)
-  drop-cons (x ∷ xs) (suc k) r rs d e = let h = drop-cons xs k r rs d e in (omega arith, h .1, h .2)
-
-  pub length-snoc : (xs : List A) (v : A) → length (xs ++ v ∷ []) ≡ suc (length xs)
-  length-snoc xs v = length-append xs (v ∷ []) ∙ omega arith
-
-  -- what is put behind a list stands at the place of the list's length
-  pub getD-after : (xs : List A) (v : A) (vs : List A) (d : A) → getD (xs ++ v ∷ vs) (length xs) d ≡ v
-  getD-after [] v vs d = refl
-  getD-after (x ∷ xs) v vs d = getD-after xs v vs d
-
-  pub getD-map : {B : Type 0} (f : A → B) (xs : List A) (i : ℕ) (d : A) (c : B) → i < length xs → getD (map f xs) i c ≡ f (getD xs i d)
-  getD-map f [] i d c h = absurd (not-suc-le-zero h)
-  getD-map f (x ∷ xs) zero d c h = refl
-  getD-map f (x ∷ xs) (suc i) d c h = getD-map f xs i d c (le-of-suc-le-suc h)
 
 -- ---- embeddings, node by node
 
@@ -140,7 +118,7 @@ module _ (P : Pattern) (W : Document) (t : IsPatternTree P) (u : IsTree W) where
   snoc-stands es v next before h c q l = go (ltb q (length es)) refl
     where
       last : imageIn (es ++ v ∷ []) (length es) ≡ v
-      last = getD-after es v [] 0
+      last = getD-append-seam es v [] 0
 
       here : Stands P W (imageIn (es ++ v ∷ [])) (length es)
       here =
@@ -168,7 +146,7 @@ module _ (P : Pattern) (W : Document) (t : IsPatternTree P) (u : IsTree W) where
       let x = flat-elim (λ v. extend W rs (es ++ v ∷ [])) (keep (candidate W es r) (upFrom 0 (length W))) fs m in
       let k = keep-elim (candidate W es r) (x .0) (upFrom 0 (length W)) (x .1) in
       let i = upFrom-mem 0 (length W) (x .0) (k .0) in
-      let d = drop-cons P (length es) r rs noPatternRecord rest in
+      let d = drop-begins P (length es) r rs noPatternRecord rest in
       let n : length (es ++ x .0 ∷ []) ≡ suc (length es) = length-snoc es (x .0) in
       extend-sound rs (es ++ x .0 ∷ []) fs (ap (λ (j : ℕ). drop j P) n ∙ d .2) (subst (λ (j : ℕ). j ≤ length P) (sym n) (d .0))
       (snoc-stands es (x .0) (d .0) before (omega arith) (ap (λ (y : PatternRecord). candidate W es y (x .0)) (d .1) ∙ k .1))
@@ -191,10 +169,10 @@ module _ (P : Pattern) (W : Document) (t : IsPatternTree P) (u : IsTree W) where
       shift = append-assoc es (v ∷ []) vs
 
       d : (length es < length P) × (getD P (length es) noPatternRecord ≡ r) × (drop (suc (length es)) P ≡ rs)
-      d = drop-cons P (length es) r rs noPatternRecord rest
+      d = drop-begins P (length es) r rs noPatternRecord rest
 
       here : imageIn (es ++ v ∷ vs) (length es) ≡ v
-      here = getD-after es v vs 0
+      here = getD-append-seam es v vs 0
 
       inside : v < length W
       inside = subst (λ (x : ℕ). x < length W) here (all (length es) (d .0) .inside)
@@ -225,12 +203,10 @@ abbrev pub imagesOf : Pattern → (ℕ → ℕ) → List ℕ
 imagesOf P e = map e (upFrom 0 (length P))
 
 pub length-imagesOf : (P : Pattern) (e : ℕ → ℕ) → length (imagesOf P e) ≡ length P
-length-imagesOf P e = length-map (upFrom 0 (length P)) e ∙ length-upFrom 0 (length P)
+length-imagesOf P e = length-map-upFrom e 0 (length P)
 
 pub image-imagesOf : (P : Pattern) (e : ℕ → ℕ) (q : ℕ) → q < length P → imageIn (imagesOf P e) q ≡ e q
-image-imagesOf P e q h =
-    let l : length (upFrom 0 (length P)) ≡ length P = length-upFrom 0 (length P) in
-    getD-map e (upFrom 0 (length P)) q 0 0 (omega arith) ∙ ap e (getD-upFrom 0 (length P) q 0 h ∙ omega arith)
+image-imagesOf P e q h = getD-map-upFrom e 0 (length P) q 0 h ∙ ap e (zero-add q)
 
 -- and every embedding is listed, by its images
 pub embeddings-complete : {P : Pattern} {W : Document} {e : ℕ → ℕ} → IsPatternTree P → IsTree W → Embeds P W e → List·Memᴰ (imagesOf P e) (embeddings P W)

@@ -2,7 +2,7 @@
 use mathlib.Core.Path.{_≡_, refl}
 use mathlib.Core.Bool.{true}
 use mathlib.Core.List.{flatMap}
-use lib.ListN.{length, replicate}
+use lib.ListN.{replicate}
 use Rattle.model.specs.Lists.{upFrom, keep, anyOf, allOf, countOf, firstOf, sameList, maskBelow, countBelow}
 use Rattle.model.specs.Pattern.{labelFits}
 use Rattle.model.specs.Embeddings.{childTest, climbs, belowTest, edgeTest, reaches, candidate, extend, embeddings, isResult, isAt, nodesAt, isPath, pathMask, pathCount}

@@ -2,26 +2,26 @@
 -- each node has its own pair of owner and path, so there are few enough of them for the visits allowed. Assumes nothing.
 use Prim.Native.Nat.{ℕ, zero, suc, _+_, _-_, _*_, _≤_, _<_}
 use mathlib.Core.Path.{_≡_, refl, sym, ap, _∙_, subst, subst₂}
-use mathlib.Core.Bool.{Bool, true, false, _&&_, true≢false, false≢true}
+use mathlib.Core.Bool.{Bool, true, false, _&&_, true≢false}
 use mathlib.Core.Logic.{_⊎_, inl, inr}
 use mathlib.Core.List.{List, [], _∷_, _++_, List·Memᴰ, List·Memᴰ·head, List·Memᴰ·tail, List·Memᴰ·not-nil, List·Memᴰ·cases-cons}
 use native.Mathlib.Omega.{arith}
 use lib.Dec.{eqb, ltb}
 use lib.ListN.{length, getD}
+use lib.Seq.{getD-append-seam}
 use borrow.Author.Tests.{eqb-true, eqb-false, ltb-true, ltb-false, lt-ltb, eq-eqb}
-use Rattle.model.specs.Lists.{upFrom}
 use Rattle.model.specs.Tree.{IsTree, Child}
 use Rattle.model.specs.Summary.{Summary, asDocument, summaryParent, StrongEdge}
 use Rattle.model.specs.Pattern.{Pattern}
 use Rattle.model.specs.Embeddings.{imageIn}
 use Rattle.model.specs.Fitting.{strongChildren}
 use Rattle.model.specs.Canonical.{Spot, rootSpot, spotParent, spotAt, chain, hasChildOn, addMissing, addAll, fillNode, fillFrom}
-use Rattle.model.proofs.ListLaws.{and-intro, and-left, and-right, any-below, below-any}
+use Rattle.model.proofs.ListLaws.{length-snoc, and-intro, and-left, and-right, any-below, below-any}
 use Rattle.model.proofs.TreeLaws.{child-lt, length-asDocument}
 use Rattle.model.proofs.Fitting.{strong-children-exact}
 use Rattle.model.proofs.Counting.{pigeonhole, pair-below, pair-first}
-use Rattle.model.proofs.Laid.{spotOwner, spotFilled, SpotChild, ChainChild}
-use Rattle.model.proofs.Built.{SpotFacts, NodeFacts, Least, Built, Extends, extends-refl, extends-trans, extends-snoc, length-snoc, last-snoc, child-kept, chain-child-kept}
+use Rattle.model.proofs.Laid.{spotOwner, SpotChild, ChainChild}
+use Rattle.model.proofs.Built.{SpotFacts, NodeFacts, Least, Built, Extends, extends-refl, extends-trans, extends-snoc, at-kept, owner-kept, child-kept, chain-child-kept, spot-kept, earlier-kept, node-kept, next-kept, own-at-kept, own-owner-kept, own-unfilled-kept, distinct-kept, least-kept}
 
 -- ---- children on a path
 
@@ -56,11 +56,15 @@ served-test {spots} {v} {t} s =
 
 served-kept : {spots later : List Spot} {v t : ℕ} → Extends spots later → Served spots v t → Served later v t
 served-kept f s =
-    record { node = s .node; child = child-kept f (s .child); on = ap (λ (k : Spot). k .at) (f .same (s .node) (s .child .inside)) ∙ s .on }
+    record { node = s .node; child = child-kept f (s .child); on = at-kept f (s .node) (s .child .inside) ∙ s .on }
 
 -- ---- one node filled up
 
--- what is known when a child of v on path t is appended
+-- the child of v on path t that is appended
+abbrev addedSpot : List Spot → ℕ → ℕ → Spot
+addedSpot spots v t = record { parent = v; at = t; owner = getD spots v rootSpot .owner; filled = true }
+
+-- what is known when it is
 record Addition (S : Summary) (P : Pattern) (es : List ℕ) (m : ℕ) (spots : List Spot) (own : List ℕ) (v t : ℕ) : Type 0 where
   tree : IsTree (asDocument S)
   built : Built S P es m spots own
@@ -70,7 +74,7 @@ record Addition (S : Summary) (P : Pattern) (es : List ℕ) (m : ℕ) (spots : L
 
 module _ {S : Summary} {P : Pattern} {es : List ℕ} {m : ℕ} {spots : List Spot} {own : List ℕ} {v t : ℕ} (a : Addition S P es m spots own v t) where
   abbrev added : Spot
-  added = record { parent = v; at = t; owner = getD spots v rootSpot .owner; filled = true }
+  added = addedSpot spots v t
 
   abbrev T : List Spot
   T = spots ++ added ∷ []
@@ -82,19 +86,7 @@ module _ {S : Summary} {P : Pattern} {es : List ℕ} {m : ℕ} {spots : List Spo
   size = length-snoc spots added
 
   last : getD T (length spots) rootSpot ≡ added
-  last = last-snoc spots added
-
-  same : (i : ℕ) → i < length spots → getD T i rootSpot ≡ getD spots i rootSpot
-  same = ext .same
-
-  same-at : (i : ℕ) → i < length spots → spotAt T i ≡ spotAt spots i
-  same-at i l = ap (λ (s : Spot). s .at) (same i l)
-
-  same-owner : (i : ℕ) → i < length spots → spotOwner T i ≡ spotOwner spots i
-  same-owner i l = ap (λ (s : Spot). s .owner) (same i l)
-
-  same-parent : (i : ℕ) → i < length spots → spotParent T i ≡ spotParent spots i
-  same-parent i l = ap (λ (s : Spot). s .parent) (same i l)
+  last = getD-append-seam spots added [] rootSpot
 
   -- an old node or the added one
   by-side : (F : ℕ → Type 0) → ((i : ℕ) → i < length spots → F i) → F (length spots) → (i : ℕ) → i < length T → F i
@@ -149,35 +141,29 @@ module _ {S : Summary} {P : Pattern} {es : List ℕ} {m : ℕ} {spots : List Spo
 
   spot-of : (i : ℕ) → i < length T → (s : Spot) → getD T i rootSpot ≡ s → SpotFacts S es own m i s
   spot-of =
-      by-side (λ i. (s : Spot) → getD T i rootSpot ≡ s → SpotFacts S es own m i s) (λ i l s e. a .built .spot i s l (sym (same i l) ∙ e))
+      by-side (λ i. (s : Spot) → getD T i rootSpot ≡ s → SpotFacts S es own m i s) (λ i l s e. spot-kept ext (a .built) i s l e)
       (λ s e. subst (λ (k : Spot). SpotFacts S es own m (length spots) k) (sym last ∙ e) spot-new)
 
   earlier-of : (i : ℕ) → i < length T → 0 < i → spotParent T i < i
   earlier-of =
-      by-side (λ i. 0 < i → spotParent T i < i) (λ i l p. rw (same-parent i l) (a .built .earlier i p l))
+      by-side (λ i. 0 < i → spotParent T i < i) (λ i l p. earlier-kept ext (a .built) i p l)
       (λ p. subst (λ (s : Spot). s .parent < length spots) (sym last) (a .inside))
 
   node-new : NodeFacts S P es own added (getD spots v rootSpot)
   node-new = record { edge = a .strong .child; filledUp = λ p. a .strong; chainUp = λ p. absurd (true≢false p) }
 
-  node-old : (i : ℕ) → i < length spots → 0 < i → (s u : Spot) → getD T i rootSpot ≡ s → getD T (s .parent) rootSpot ≡ u → NodeFacts S P es own s u
-  node-old i l p s u e f =
-      let e′ : getD spots i rootSpot ≡ s = sym (same i l) ∙ e in
-      let k : spotParent spots i < i = a .built .earlier i p l in
-      let k′ : s .parent < length spots = subst (λ (z : Spot). z .parent < length spots) e′ (omega arith) in
-      a .built .node i s u p l e′ (sym (same (s .parent) k′) ∙ f)
-
   node-of : (i : ℕ) → i < length T → 0 < i → (s u : Spot) → getD T i rootSpot ≡ s → getD T (s .parent) rootSpot ≡ u → NodeFacts S P es own s u
   node-of =
-      by-side (λ i. 0 < i → (s u : Spot) → getD T i rootSpot ≡ s → getD T (s .parent) rootSpot ≡ u → NodeFacts S P es own s u) node-old
+      by-side (λ i. 0 < i → (s u : Spot) → getD T i rootSpot ≡ s → getD T (s .parent) rootSpot ≡ u → NodeFacts S P es own s u)
+      (λ i l p s u e f. node-kept ext (a .built) i s u p l e f)
       (λ p s u e f. subst₂ (λ (x y : Spot). NodeFacts S P es own x y) (sym last ∙ e)
-      (sym (same v (a .inside)) ∙ (ap (λ (z : Spot). getD T (z .parent) rootSpot) (sym last ∙ e) ∙ f)) node-new)
+      (sym (ext .same v (a .inside)) ∙ (ap (λ (z : Spot). getD T (z .parent) rootSpot) (sym last ∙ e) ∙ f)) node-new)
 
   next-of : (i : ℕ) → i < length T → (s : Spot) (y : ℕ) (ys : List ℕ) → getD T i rootSpot ≡ s → s .filled ≡ false
       → chain S (s .at) (imageIn es (s .owner)) ≡ y ∷ ys → ChainChild T i (s .owner) y
   next-of =
       by-side (λ i. (s : Spot) (y : ℕ) (ys : List ℕ) → getD T i rootSpot ≡ s → s .filled ≡ false → chain S (s .at) (imageIn es (s .owner)) ≡ y ∷ ys → ChainChild T i (s .owner) y)
-      (λ i l s y ys e f c. chain-child-kept ext (a .built .next i s y ys l (sym (same i l) ∙ e) f c))
+      (λ i l s y ys e f c. next-kept ext (a .built) i s y ys l e f c)
       (λ s y ys e f c. absurd (true≢false (ap (λ (k : Spot). k .filled) (sym last ∙ e) ∙ f)))
 
   new-owner : spotOwner T (length spots) ≡ spotOwner spots v
@@ -190,38 +176,27 @@ module _ {S : Summary} {P : Pattern} {es : List ℕ} {m : ℕ} {spots : List Spo
   distinct-of =
       by-side (λ i. (j : ℕ) → j < length T → spotOwner T i ≡ spotOwner T j → spotAt T i ≡ spotAt T j → i ≡ j)
       (λ i l. by-side (λ j. spotOwner T i ≡ spotOwner T j → spotAt T i ≡ spotAt T j → i ≡ j)
-      (λ j k o e. a .built .distinct i j l k (sym (same-owner i l) ∙ (o ∙ same-owner j k)) (sym (same-at i l) ∙ (e ∙ same-at j k)))
-      (λ o e. absurd (clash i l (sym (same-owner i l) ∙ (o ∙ new-owner)) (sym (same-at i l) ∙ (e ∙ new-at)))))
+      (λ j k o e. distinct-kept ext (a .built) i j l k o e)
+      (λ o e. absurd (clash i l (sym (owner-kept ext i l) ∙ (o ∙ new-owner)) (sym (at-kept ext i l) ∙ (e ∙ new-at)))))
       (by-side (λ j. spotOwner T (length spots) ≡ spotOwner T j → spotAt T (length spots) ≡ spotAt T j → length spots ≡ j)
-      (λ j k o e. absurd (clash j k (sym (same-owner j k) ∙ (sym o ∙ new-owner)) (sym (same-at j k) ∙ (sym e ∙ new-at)))) (λ o e. refl))
+      (λ j k o e. absurd (clash j k (sym (owner-kept ext j k) ∙ (sym o ∙ new-owner)) (sym (at-kept ext j k) ∙ (sym e ∙ new-at)))) (λ o e. refl))
 
-  least-kept : (i : ℕ) → i < length spots → Least spots i → Least T i
-  least-kept i l f =
-      record {
-        least =
-            by-side (λ j. spotOwner T j ≡ spotOwner T i → spotAt T i ≤ spotAt T j)
-            (λ j k o. rw (same-at i l, same-at j k) (f .least j k (sym (same-owner j k) ∙ (o ∙ same-owner i l)))) (λ o. new-above o);
-      }
+  -- the added node's path is greater than its parent's, so no least path of an owner
+  added-above : (i : ℕ) → i < length spots → Least spots i → (j : ℕ) → length spots ≤ j → j < length T → spotOwner T j ≡ spotOwner T i → spotAt T i ≤ spotAt T j
+  added-above i l f j k h = let z = size in subst (λ (x : ℕ). spotOwner T x ≡ spotOwner T i → spotAt T i ≤ spotAt T x) (omega arith) new
     where
-      new-above : spotOwner T (length spots) ≡ spotOwner T i → spotAt T i ≤ spotAt T (length spots)
-      new-above o =
-          let k : spotAt spots i ≤ spotAt spots v = f .least v (a .inside) (sym new-owner ∙ (o ∙ same-owner i l)) in
-          let p : spotAt T i ≡ spotAt spots i = same-at i l in
+      new : spotOwner T (length spots) ≡ spotOwner T i → spotAt T i ≤ spotAt T (length spots)
+      new o =
+          let n : spotAt spots i ≤ spotAt spots v = f .least v (a .inside) (sym new-owner ∙ (o ∙ owner-kept ext i l)) in
+          let p : spotAt T i ≡ spotAt spots i = at-kept ext i l in
           let q = new-at in
           let r = lower in
           omega arith
 
   least-of : (i : ℕ) → i < length T → 0 < i → (spotOwner T (spotParent T i) ≡ spotOwner T i) ⊎ Least T i
   least-of =
-      by-side (λ i. 0 < i → (spotOwner T (spotParent T i) ≡ spotOwner T i) ⊎ Least T i) (λ i l p. old i l p (a .built .least i p l))
-      (λ p. inl (ap (λ (s : Spot). spotOwner T (s .parent)) last ∙ (same-owner v (a .inside) ∙ sym new-owner)))
-    where
-      old : (i : ℕ) → i < length spots → 0 < i → (spotOwner spots (spotParent spots i) ≡ spotOwner spots i) ⊎ Least spots i
-          → (spotOwner T (spotParent T i) ≡ spotOwner T i) ⊎ Least T i
-      old i l p (inl e) =
-          let k : spotParent spots i < i = a .built .earlier i p l in
-          inl (ap (spotOwner T) (same-parent i l) ∙ (same-owner (spotParent spots i) (omega arith) ∙ (e ∙ sym (same-owner i l))))
-      old i l p (inr f) = inr (least-kept i l f)
+      by-side (λ i. 0 < i → (spotOwner T (spotParent T i) ≡ spotOwner T i) ⊎ Least T i) (λ i l p. least-kept ext (a .built) i p l (added-above i l))
+      (λ p. inl (ap (λ (s : Spot). spotOwner T (s .parent)) last ∙ (owner-kept ext v (a .inside) ∙ sym new-owner)))
 
   -- the invariant holds with one more node
   added-built : Built S P es m T own
@@ -229,7 +204,7 @@ module _ {S : Summary} {P : Pattern} {es : List ℕ} {m : ℕ} {spots : List Spo
       let z = size in
       record {
         some = omega arith;
-        root = same 0 (a .built .some) ∙ a .built .root;
+        root = ext .same 0 (a .built .some) ∙ a .built .root;
         spot = λ i s h e. spot-of i h s e;
         earlier = λ i p h. earlier-of i h p;
         node = λ i s u p h e f. node-of i h p s u e f;
@@ -238,9 +213,9 @@ module _ {S : Summary} {P : Pattern} {es : List ℕ} {m : ℕ} {spots : List Spo
         ownLength = a .built .ownLength;
         ownRoot = a .built .ownRoot;
         ownInside = λ q l. (let k = a .built .ownInside q l in omega arith);
-        ownAt = λ q l. same-at (imageIn own q) (a .built .ownInside q l) ∙ a .built .ownAt q l;
-        ownOwner = λ q l. same-owner (imageIn own q) (a .built .ownInside q l) ∙ a .built .ownOwner q l;
-        ownUnfilled = λ q l. ap (λ (s : Spot). s .filled) (same (imageIn own q) (a .built .ownInside q l)) ∙ a .built .ownUnfilled q l;
+        ownAt = own-at-kept ext (a .built);
+        ownOwner = own-owner-kept ext (a .built);
+        ownUnfilled = own-unfilled-kept ext (a .built);
         distinct = λ i j h k o e. distinct-of i h j k o e;
         least = λ i p h. least-of i h p;
       }
@@ -267,7 +242,7 @@ Complete S spots i = (t : ℕ) → StrongEdge S (spotAt spots i) t → Served sp
 
 complete-kept : (S : Summary) {spots later : List Spot} {i : ℕ} → Extends spots later → i < length spots → Complete S spots i → Complete S later i
 complete-kept S {i = i} f h c t s =
-    served-kept f (c t (subst (λ (k : ℕ). StrongEdge S k t) (ap (λ (z : Spot). z .at) (f .same i h)) s))
+    served-kept f (c t (subst (λ (k : ℕ). StrongEdge S k t) (at-kept f i h) s))
 
 module _ {S : Summary} {P : Pattern} {es : List ℕ} {m : ℕ} {own : List ℕ} (tree : IsTree (asDocument S)) where
   filled-then : {a b c : List Spot} → Filled S P es m a own b → Filled S P es m b own c → Filled S P es m a own c
@@ -282,7 +257,7 @@ module _ {S : Summary} {P : Pattern} {es : List ℕ} {m : ℕ} {own : List ℕ} 
   add-missing spots v t b h s = go (hasChildOn spots v t) refl
     where
       added-spots : List Spot
-      added-spots = spots ++ record { parent = v; at = t; owner = getD spots v rootSpot .owner; filled = true } ∷ []
+      added-spots = spots ++ addedSpot spots v t ∷ []
 
       addition : hasChildOn spots v t ≡ false → Addition S P es m spots own v t
       addition e = record { tree = tree; built = b; inside = h; strong = s; missing = λ k. true≢false (sym (served-test k) ∙ e) }
@@ -304,7 +279,7 @@ module _ {S : Summary} {P : Pattern} {es : List ℕ} {m : ℕ} {own : List ℕ} 
       add-missing spots v t b h (subst (λ (k : ℕ). StrongEdge S k t) (sym e) (strong t (List·Memᴰ·head refl))) in
       let h′ : v < length next = (let l = f .0 .extends .longer in omega arith) in
       let g : Filled S P es m next own (addAll next v ts) × ((u : ℕ) → List·Memᴰ u ts → Served (addAll next v ts) v u) =
-      add-all ts next v s (f .0 .built) h′ (ap (λ (k : Spot). k .at) (f .0 .extends .same v h) ∙ e) (λ u n. strong u (List·Memᴰ·tail n)) in
+      add-all ts next v s (f .0 .built) h′ (at-kept (f .0 .extends) v h ∙ e) (λ u n. strong u (List·Memᴰ·tail n)) in
       (filled-then (f .0) (g .0), λ u n. pick u (List·Memᴰ·cases-cons n) (served-kept (g .0 .extends) (f .1)) (g .1 u))
     where
       pick : (u : ℕ) → (u ≡ t) ⊎ List·Memᴰ u ts → Served (addAll (addMissing spots v t) v ts) v t
@@ -319,7 +294,7 @@ module _ {S : Summary} {P : Pattern} {es : List ℕ} {m : ℕ} {own : List ℕ} 
       let s : ℕ = spotAt spots v in
       let r = add-all (strongChildren S s) spots v s b h refl (λ t n. strong-children-exact S s t .0 n) in (
         r .0,
-        λ t k. r .1 t (strong-children-exact S s t .1 (subst (λ (z : ℕ). StrongEdge S z t) (ap (λ (z : Spot). z .at) (r .0 .extends .same v h)) k)),
+        λ t k. r .1 t (strong-children-exact S s t .1 (subst (λ (z : ℕ). StrongEdge S z t) (at-kept (r .0 .extends) v h) k)),
       )
 
   -- ---- all visits

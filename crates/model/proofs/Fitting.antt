@@ -1,10 +1,10 @@
 -- The test of fitting says exactly `Fits`: a path map that stays inside the summary is a homomorphism, which gives each node
 -- its path, and the rest is test by test what the definition asks. Assumes nothing.
 use Prim.Native.Nat.{ℕ, zero, suc, _<_}
-use mathlib.Core.Path.{_≡_, refl, sym, ap, _∙_, subst}
-use mathlib.Core.Bool.{Bool, true, false, _&&_}
-use mathlib.Core.Logic.{_⊎_, inl, inr, _↔_}
-use mathlib.Core.List.{List, [], _∷_, List·Memᴰ, List·Memᴰ·head, List·Memᴰ·tail, List·Memᴰ·not-nil, List·Memᴰ·cases-cons}
+use mathlib.Core.Path.{_≡_, sym, ap, _∙_, subst}
+use mathlib.Core.Bool.{Bool, true, _&&_}
+use mathlib.Core.Logic.{_↔_}
+use mathlib.Core.List.{List·Memᴰ}
 use native.Mathlib.Omega.{arith}
 use lib.Dec.{eqb, ltb}
 use lib.ListN.{length, getD}
@@ -15,11 +15,21 @@ use Rattle.model.specs.Summary.{Summary, asDocument, noSummaryRecord, St
 use Rattle.model.specs.Facts.{SummaryFacts}
 use Rattle.model.specs.Embeddings.{childTest}
 use Rattle.model.specs.Fitting.{parentRule, isRooted, strongChildren, pathMap, strongKept, fits}
-use Rattle.model.proofs.ListLaws.{and-intro, and-left, and-right, all-intro, all-elim, keep-intro, keep-elim, all-below, below-all, any-below, below-any, mem-upFrom, upFrom-mem}
-use Rattle.model.proofs.TreeLaws.{length-asDocument, test-child, child-test}
+use Rattle.model.proofs.ListLaws.{and-intro, and-left, and-right, all-intro, all-elim, keep-intro, keep-elim, all-below, below-all, any-below, below-any, mem-upFrom, mem-at, at-mem}
+use Rattle.model.proofs.TreeLaws.{length-asDocument, test-child-and, child-and-test}
+use Rattle.model.proofs.Ascending.{ascending-at, ascending-keep, ascending-upFrom}
 use Rattle.model.proofs.Paths.{pathIn, on-path-unique, hom-on-path, length-pathMap, inside-hom, path-hom, path-on}
 
 -- ---- trees
+
+-- a table whose parents keep the rule is a tree
+pub rooted : (n : ℕ) (parent : ℕ → ℕ) → 0 < n → ((i : ℕ) → i < n → parentRule i (parent i) ≡ true) → Rooted n parent
+unfolding parentRule
+rooted n parent some each = record { inhabited = some; root = eqb-true (parent 0) 0 (each 0 some); earlier = earlier }
+  where
+    earlier : (i : ℕ) → 0 < i → i < n → parent i < i
+    earlier zero p l = absurd (omega arith)
+    earlier (suc i) p l = ltb-true (parent (suc i)) (suc i) (each (suc i) l)
 
 -- the test of a table says exactly that it is a rooted tree
 pub rooted-exact : (n : ℕ) (parent : ℕ → ℕ) → (isRooted n parent ≡ true) ↔ Rooted n parent
@@ -28,17 +38,8 @@ rooted-exact n parent = (forth, back)
   where
     forth : (ltb 0 n && allOf (λ i. parentRule i (parent i)) (upFrom 0 n)) ≡ true → Rooted n parent
     forth e =
-        let some = ltb-true 0 n (and-left (ltb 0 n) (allOf (λ i. parentRule i (parent i)) (upFrom 0 n)) e) in
-        let each = all-below (λ i. parentRule i (parent i)) n (and-right (ltb 0 n) (allOf (λ i. parentRule i (parent i)) (upFrom 0 n)) e) in
-        record {
-          inhabited = some;
-          root = eqb-true (parent 0) 0 (each 0 some);
-          earlier = earlier each;
-        }
-      where
-        earlier : ((i : ℕ) → i < n → parentRule i (parent i) ≡ true) → (i : ℕ) → 0 < i → i < n → parent i < i
-        earlier each zero p l = absurd (omega arith)
-        earlier each (suc i) p l = ltb-true (parent (suc i)) (suc i) (each (suc i) l)
+        rooted n parent (ltb-true 0 n (and-left (ltb 0 n) (allOf (λ i. parentRule i (parent i)) (upFrom 0 n)) e))
+        (all-below (λ i. parentRule i (parent i)) n (and-right (ltb 0 n) (allOf (λ i. parentRule i (parent i)) (upFrom 0 n)) e))
 
     rule : Rooted n parent → (i : ℕ) → i < n → parentRule i (parent i) ≡ true
     rule r zero l = eq-eqb (parent 0) 0 (r .root)
@@ -46,45 +47,6 @@ rooted-exact n parent = (forth, back)
 
     back : Rooted n parent → (ltb 0 n && allOf (λ i. parentRule i (parent i)) (upFrom 0 n)) ≡ true
     back r = and-intro (lt-ltb 0 n (r .inhabited)) (below-all (λ i. parentRule i (parent i)) n (rule r))
-
--- ---- entries of a list by their numbers
-
-module _ {A : Type 0} where
-  pub getD-mem : (xs : List A) (i : ℕ) (d : A) → i < length xs → List·Memᴰ (getD xs i d) xs
-  getD-mem [] i d l = absurd (omega arith)
-  getD-mem (x ∷ xs) zero d l = List·Memᴰ·head refl
-  getD-mem (x ∷ xs) (suc i) d l = List·Memᴰ·tail (getD-mem xs i d (omega arith))
-
-  pub mem-getD : (xs : List A) (x d : A) → List·Memᴰ x xs → (i : ℕ) × (i < length xs) × (getD xs i d ≡ x)
-  mem-getD [] x d m = absurd (List·Memᴰ·not-nil m)
-  mem-getD (y ∷ ys) x d m = go (List·Memᴰ·cases-cons m) (λ p. mem-getD ys x d p)
-    where
-      go : (x ≡ y) ⊎ List·Memᴰ x ys → (List·Memᴰ x ys → (i : ℕ) × (i < length ys) × (getD ys i d ≡ x)) → (i : ℕ) × (i < length (y ∷ ys)) × (getD (y ∷ ys) i d ≡ x)
-      go (inl p) rest = (0, omega arith, sym p)
-      go (inr p) rest = let r = rest p in (suc (r .0), (let l : r .0 < length ys = r .1 in omega arith), r .2)
-
--- what is kept of a range ascends
-pub keep-range-ascends : (test : ℕ → Bool) (a n i j : ℕ) → i < j → j < length (keep test (upFrom a n)) → getD (keep test (upFrom a n)) i 0 < getD (keep test (upFrom a n)) j 0
-unfolding keep upFrom
-keep-range-ascends test a zero i j h l = absurd (omega arith)
-keep-range-ascends test a (suc n) i j h l = go (test a) i j h l (keep-range-ascends test (suc a) n)
-  where
-    rest : List ℕ
-    rest = keep test (upFrom (suc a) n)
-
-    after : (k : ℕ) → k < length rest → a < getD rest k 0
-    after k p =
-        let m = keep-elim test (getD rest k 0) (upFrom (suc a) n) (getD-mem rest k 0 p) .0 in
-        upFrom-mem (suc a) n (getD rest k 0) m .0
-
-    kept : Bool → List ℕ
-    kept t = elim t [ true ↦ a ∷ rest | false ↦ rest ]
-
-    go : (t : Bool) (i j : ℕ) → i < j → j < length (kept t) → ((i j : ℕ) → i < j → j < length rest → getD rest i 0 < getD rest j 0) → getD (kept t) i 0 < getD (kept t) j 0
-    go false i j h l up = up i j h l
-    go true i zero h l up = absurd (omega arith)
-    go true zero (suc j) h l up = after j (omega arith)
-    go true (suc i) (suc j) h l up = up i j (omega arith) (omega arith)
 
 -- ---- strong edges
 
@@ -98,22 +60,19 @@ strong-children-exact S s t = (forth, back)
 
     forth : List·Memᴰ t (keep test (upFrom 0 (length S))) → StrongEdge S s t
     forth m =
-        let e = keep-elim test t (upFrom 0 (length S)) m .1 in
-        record {
-          child = test-child (asDocument S) s t (and-left (childTest (asDocument S) s t) (eqb (getD S t noSummaryRecord .strong) 1) e);
-          strong = eqb-true (getD S t noSummaryRecord .strong) 1 (and-right (childTest (asDocument S) s t) (eqb (getD S t noSummaryRecord .strong) 1) e);
-        }
+        let r = test-child-and (asDocument S) s t (getD S t noSummaryRecord .strong) 1 (keep-elim test t (upFrom 0 (length S)) m .1) in
+        record { child = r .0; strong = r .1 }
 
     back : StrongEdge S s t → List·Memᴰ t (keep test (upFrom 0 (length S)))
     back g =
         let size : length (asDocument S) ≡ length S = length-asDocument S in
         let low : t < length (asDocument S) = g .child .inside in
-        keep-intro test t (upFrom 0 (length S)) (mem-upFrom 0 (length S) t (omega arith) (omega arith)) (and-intro (child-test (g .child)) (eq-eqb (getD S t noSummaryRecord .strong) 1 (g .strong)))
+        keep-intro test t (upFrom 0 (length S)) (mem-upFrom 0 (length S) t (omega arith) (omega arith)) (child-and-test (getD S t noSummaryRecord .strong) 1 (g .child) (g .strong))
 
 -- they are in outline order
 pub strong-children-ascend : (S : Summary) (s i j : ℕ) → i < j → j < length (strongChildren S s) → getD (strongChildren S s) i 0 < getD (strongChildren S s) j 0
 unfolding strongChildren
-strong-children-ascend S s i j h l = keep-range-ascends (λ t. childTest (asDocument S) s t && eqb (getD S t noSummaryRecord .strong) 1) 0 (length S) i j h l
+strong-children-ascend S s i j = ascending-at _<_ (strongChildren S s) (ascending-keep _<_ _ (upFrom 0 (length S)) (ascending-upFrom 0 (length S))) i j 0
 
 -- ---- fitting
 
@@ -125,14 +84,14 @@ paths-inside-exact S W = (forth, back)
     size = length-pathMap S W
 
     forth : allOf (λ m. ltb m (length S)) (pathMap S W) ≡ true → (i : ℕ) → i < length W → pathIn S W i < length S
-    forth e i l = ltb-true (pathIn S W i) (length S) (all-elim (λ m. ltb m (length S)) (pathMap S W) e (pathIn S W i) (getD-mem (pathMap S W) i 0 (omega (arith, size))))
+    forth e i l = ltb-true (pathIn S W i) (length S) (all-elim (λ m. ltb m (length S)) (pathMap S W) e (pathIn S W i) (mem-at (pathMap S W) i 0 (omega (arith, size))))
 
     back : ((i : ℕ) → i < length W → pathIn S W i < length S) → allOf (λ m. ltb m (length S)) (pathMap S W) ≡ true
     back h = all-intro (λ m. ltb m (length S)) (pathMap S W) each
       where
         each : (m : ℕ) → List·Memᴰ m (pathMap S W) → ltb m (length S) ≡ true
         each m k =
-            let r = mem-getD (pathMap S W) m 0 k in
+            let r = at-mem (pathMap S W) m 0 k in
             let l : r .0 < length (pathMap S W) = r .1 in
             lt-ltb m (length S) (subst (λ (x : ℕ). x < length S) (r .2) (h (r .0) (omega (arith, size))))
 
@@ -148,7 +107,8 @@ strong-kept-exact S W i = (forth, back)
     forth e t g =
         let some = all-elim (λ t. anyOf (test t) (upFrom 0 (length W))) (strongChildren S (pathIn S W i)) e t (strong-children-exact S (pathIn S W i) t .1 g) in
         let r = any-below (test t) (length W) some in
-        (r .0, test-child W i (r .0) (and-left (childTest W i (r .0)) (eqb (pathIn S W (r .0)) t) (r .2)), eqb-true (pathIn S W (r .0)) t (and-right (childTest W i (r .0)) (eqb (pathIn S W (r .0)) t) (r .2)))
+        let c = test-child-and W i (r .0) (pathIn S W (r .0)) t (r .2) in
+        (r .0, c .0, c .1)
 
     back : ((t : ℕ) → StrongEdge S (pathIn S W i) t → (j : ℕ) × Child W i j × (pathIn S W j ≡ t)) → allOf (λ t. anyOf (test t) (upFrom 0 (length W))) (strongChildren S (pathIn S W i)) ≡ true
     back h = all-intro (λ t. anyOf (test t) (upFrom 0 (length W))) (strongChildren S (pathIn S W i)) each
@@ -156,7 +116,7 @@ strong-kept-exact S W i = (forth, back)
         each : (t : ℕ) → List·Memᴰ t (strongChildren S (pathIn S W i)) → anyOf (test t) (upFrom 0 (length W)) ≡ true
         each t m =
             let r = h t (strong-children-exact S (pathIn S W i) t .0 m) in
-            below-any (test t) (length W) (r .0) (r .1 .inside) (and-intro (child-test (r .1)) (eq-eqb (pathIn S W (r .0)) t (r .2)))
+            below-any (test t) (length W) (r .0) (r .1 .inside) (child-and-test (pathIn S W (r .0)) t (r .1) (r .2))
 
 -- what the three tests of fitting say together
 record Tested (S : Summary) (W : Document) : Type 0 where

@@ -51,7 +51,6 @@ pub record Laid (S : Summary) (P : Pattern) (es : List ℕ) (spots : List Spot) 
   pub rootParent : spotParent spots 0 ≡ 0
   pub rootAt : spotAt spots 0 ≡ 0
   pub rootOwner : spotOwner spots 0 ≡ 0
-  pub rootUnfilled : spotFilled spots 0 ≡ false
   pub earlier : (i : ℕ) → 0 < i → i < length spots → spotParent spots i < i
   pub edges : (i : ℕ) → 0 < i → i < length spots → Child (asDocument S) (spotAt spots (spotParent spots i)) (spotAt spots i)
   pub owners : (i : ℕ) → i < length spots → spotOwner spots i < length P

@@ -1,16 +1,16 @@
--- Laws of Boolean tests and of the list functions of specs/Lists.antt. Assumes nothing.
-use Prim.Native.Nat.{ℕ, zero, suc, _+_, _≤_, _<_}
+-- Laws of Boolean tests, of lists by place and by member, and of the list functions of specs/Lists.antt. Assumes nothing.
+use Prim.Native.Nat.{ℕ, zero, suc, _+_, _-_, _≤_, _<_}
 use mathlib.Core.Path.{_≡_, refl, sym, ap, _∙_, subst}
-use mathlib.Core.Bool.{Bool, true, false, _&&_, _||_, not, true≢false, false≢true}
-use mathlib.Core.Logic.{_⊎_, inl, inr, _↔_}
-use mathlib.Core.List.{List, [], _∷_, _++_, map, flatMap, List·Memᴰ, List·Memᴰ·head, List·Memᴰ·tail, List·Memᴰ·not-nil, List·Memᴰ·cases-cons, List·Memᴰ·append-cases, Memᴰ·append-left, Memᴰ·append-right}
+use mathlib.Core.Bool.{Bool, true, false, _&&_, _||_, true≢false, false≢true}
+use mathlib.Core.Logic.{_⊎_, inl, inr}
+use mathlib.Core.List.{List, [], _∷_, _++_, map, flatMap, List·Memᴰ, List·Memᴰ·head, List·Memᴰ·tail, List·Memᴰ·not-nil, List·Memᴰ·cases-cons, List·Memᴰ·append-cases, Memᴰ·append-left, Memᴰ·append-right, head-eq-of-cons-eq, tail-eq-of-cons-eq}
 use native.Mathlib.Omega.{arith}
-use native.Mathlib.Numerals.{add-one}
-use native.Mathlib.Nat.{not-suc-le-zero, le-of-suc-le-suc, add-zero, add-suc, suc-add, zero-add}
-use lib.Dec.{eqb, ltb, leb}
-use lib.ListN.{length, getD}
+use native.Mathlib.Nat.{not-suc-le-zero, le-of-suc-le-suc, add-zero}
+use lib.Dec.{eqb}
+use lib.ListN.{length, getD, drop, length-append, length-drop, length-map}
+use lib.Seq.{drop-cons}
 use borrow.Author.Tests.{eqb-true, eq-eqb}
-use Rattle.model.specs.Lists.{upFrom, keep, anyOf, allOf, countOf, firstOf, sameList}
+use Rattle.model.specs.Lists.{upFrom, keep, anyOf, allOf, firstOf, sameList}
 
 -- ---- Booleans
 
@@ -55,6 +55,47 @@ bool-ext true b f g = sym (f refl)
 bool-ext false true f g = g refl
 bool-ext false false f g = refl
 
+-- ---- lists by place
+
+module _ {A : Type 0} where
+  pub length-snoc : (xs : List A) (x : A) → length (xs ++ x ∷ []) ≡ suc (length xs)
+  length-snoc xs x = length-append xs (x ∷ []) ∙ omega arith
+
+  -- what stands at a place is a member
+  pub mem-at : (xs : List A) (i : ℕ) (d : A) → i < length xs → List·Memᴰ (getD xs i d) xs
+  mem-at [] i d h = absurd (not-suc-le-zero h)
+  mem-at (x ∷ xs) zero d h = List·Memᴰ·head refl
+  mem-at (x ∷ xs) (suc i) d h = List·Memᴰ·tail (mem-at xs i d (le-of-suc-le-suc h))
+
+  -- and a member stands at some place
+  pub at-mem : (xs : List A) (x d : A) → List·Memᴰ x xs → (i : ℕ) × (i < length xs) × (getD xs i d ≡ x)
+  at-mem [] x d m = absurd (List·Memᴰ·not-nil m)
+  at-mem (y ∷ ys) x d m = go (List·Memᴰ·cases-cons m) (λ p. at-mem ys x d p)
+    where
+      go : (x ≡ y) ⊎ List·Memᴰ x ys → (List·Memᴰ x ys → (i : ℕ) × (i < length ys) × (getD ys i d ≡ x)) → (i : ℕ) × (i < length (y ∷ ys)) × (getD (y ∷ ys) i d ≡ x)
+      go (inl p) rest = (0, omega arith, sym p)
+      go (inr p) rest = let r = rest p in (suc (r .0), (let l : r .0 < length ys = r .1 in omega arith), r .2)
+
+  -- where the rest of a list from place k on begins with r, r stands at place k
+  pub drop-begins : (xs : List A) (k : ℕ) (r : A) (rs : List A) (d : A) → drop k xs ≡ r ∷ rs → (k < length xs) × (getD xs k d ≡ r) × (drop (suc k) xs ≡ rs)
+  drop-begins xs k r rs d e =
+      let n : length xs - k ≡ suc (length rs) = sym (length-drop k xs) ∙ ap length e in
+      let h : k < length xs = omega arith in
+      let c : getD xs k d ∷ drop (suc k) xs ≡ r ∷ rs = sym (drop-cons xs k d h) ∙ e in
+      (h, head-eq-of-cons-eq c, tail-eq-of-cons-eq c)
+
+module _ {A B : Type 0} where
+  -- an element of a mapped list, whatever the two lists read as past their ends
+  pub getD-map : (f : A → B) (xs : List A) (i : ℕ) (d : A) (c : B) → i < length xs → getD (map f xs) i c ≡ f (getD xs i d)
+  getD-map f [] i d c h = absurd (not-suc-le-zero h)
+  getD-map f (x ∷ xs) zero d c h = refl
+  getD-map f (x ∷ xs) (suc i) d c h = getD-map f xs i d c (le-of-suc-le-suc h)
+
+  -- functions that agree on a list's members map it to the same list
+  pub map-agree : (f g : A → B) (xs : List A) → ((x : A) → List·Memᴰ x xs → f x ≡ g x) → map f xs ≡ map g xs
+  map-agree f g [] h = refl
+  map-agree f g (x ∷ xs) h = cc (h x (List·Memᴰ·head refl), map-agree f g xs (λ y m. h y (List·Memᴰ·tail m)))
+
 -- ---- ranges
 
 pub length-upFrom : (a n : ℕ) → length (upFrom a n) ≡ n
@@ -85,6 +126,16 @@ upFrom-mem a (suc n) x m = go (List·Memᴰ·cases-cons m) (λ p. upFrom-mem (su
     go : (x ≡ a) ⊎ List·Memᴰ x (upFrom (suc a) n) → (List·Memᴰ x (upFrom (suc a) n) → (suc a ≤ x) × (x < suc a + n)) → (a ≤ x) × (x < a + suc n)
     go (inl e) rest = omega arith
     go (inr p) rest = let k : (suc a ≤ x) × (x < suc a + n) = rest p in omega arith
+
+-- a mapped range
+module _ {A : Type 0} (f : ℕ → A) (a n : ℕ) where
+  pub length-map-upFrom : length (map f (upFrom a n)) ≡ n
+  length-map-upFrom = length-map (upFrom a n) f ∙ length-upFrom a n
+
+  pub getD-map-upFrom : (i : ℕ) (c : A) → i < n → getD (map f (upFrom a n)) i c ≡ f (a + i)
+  getD-map-upFrom i c h =
+      let l : length (upFrom a n) ≡ n = length-upFrom a n in
+      getD-map f (upFrom a n) i 0 c (omega arith) ∙ ap f (getD-upFrom a n i 0 h)
 
 -- ---- tests over lists
 
@@ -169,6 +220,15 @@ module _ {A : Type 0} where
       go true q m′ rest = at q (List·Memᴰ·cases-cons m′) rest
       go false q m′ rest = add (rest m′)
 
+  pub length-keep : (test : A → Bool) (xs : List A) → length (keep test xs) ≤ length xs
+  unfolding keep
+  length-keep test [] = omega arith
+  length-keep test (x ∷ xs) = go (test x) (length-keep test xs)
+    where
+      go : (t : Bool) → length (keep test xs) ≤ length xs → length {A = A} (elim t as (λ _. List A) [ true ↦ x ∷ keep test xs | false ↦ keep test xs ]) ≤ suc (length xs)
+      go true h = omega arith
+      go false h = omega arith
+
 -- the tests over a range, by numbers
 pub all-below : (test : ℕ → Bool) (n : ℕ) → allOf test (upFrom 0 n) ≡ true → (i : ℕ) → i < n → test i ≡ true
 all-below test n e i h = all-elim test (upFrom 0 n) e i (mem-upFrom 0 n i (omega arith) (omega arith))
@@ -221,7 +281,18 @@ unfolding firstOf
 first-miss test d [] h = refl
 first-miss test d (y ∷ ys) h = rw (h y (List·Memᴰ·head refl), firstOf) (first-miss test d ys (λ x m. h x (List·Memᴰ·tail m)))
 
--- ---- membership in map and flatMap
+-- what is found passes, or is what stands for none
+pub first-or : (test : ℕ → Bool) (d : ℕ) (xs : List ℕ) → (test (firstOf test d xs) ≡ true) ⊎ (firstOf test d xs ≡ d)
+unfolding firstOf
+first-or test d [] = inr refl
+first-or test d (x ∷ xs) = go (test x) refl (first-or test d xs)
+  where
+    go : (b : Bool) → test x ≡ b → (test (firstOf test d xs) ≡ true) ⊎ (firstOf test d xs ≡ d)
+        → (test (elim b as (λ _. ℕ) [ true ↦ x | false ↦ firstOf test d xs ]) ≡ true) ⊎ ((elim b as (λ _. ℕ) [ true ↦ x | false ↦ firstOf test d xs ]) ≡ d)
+    go true q rest = inl q
+    go false q rest = rest
+
+-- ---- membership in flatMap
 
 module _ {A B : Type 0} where
   pub flat-intro : (f : A → List B) (x : A) (xs : List A) (y : B) → List·Memᴰ x xs → List·Memᴰ y (f x) → List·Memᴰ y (flatMap f xs)

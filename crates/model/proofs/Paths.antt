@@ -8,17 +8,17 @@ use mathlib.Core.List.{List, [], _∷_, _++_}
 use native.Mathlib.Omega.{arith}
 use native.Mathlib.Nat.{add-zero}
 use lib.Dec.{eqb}
-use lib.ListN.{length, getD, length-append, List·getD-append}
+use lib.ListN.{length, getD, List·getD-append}
 use lib.Seq.{getD-append-seam}
 use borrow.Author.Tests.{eqb-true, eq-eqb}
-use Rattle.model.specs.Lists.{upFrom, firstOf}
+use Rattle.model.specs.Lists.{upFrom}
 use Rattle.model.specs.Tree.{DocumentRecord, noDocumentRecord, Document, IsTree, parentOf, labelOf, Child, LabelPath, Hom}
 use Rattle.model.specs.Summary.{Summary, asDocument, summaryParent, summaryLabel, OnPath, Fits}
 use Rattle.model.specs.Facts.{SummaryFacts}
 use Rattle.model.specs.Embeddings.{childTest}
 use Rattle.model.specs.Fitting.{childLabelled, nextPath, pathsFrom, pathMap}
-use Rattle.model.proofs.ListLaws.{and-intro, and-left, and-right, mem-upFrom, first-hit}
-use Rattle.model.proofs.TreeLaws.{length-asDocument, test-child, child-test}
+use Rattle.model.proofs.ListLaws.{length-snoc, mem-upFrom, first-hit, first-or}
+use Rattle.model.proofs.TreeLaws.{length-asDocument, test-child-and, child-and-test}
 
 -- a node's summary node by the path map
 abbrev pub pathIn : Summary → Document → ℕ → ℕ
@@ -96,27 +96,13 @@ hom-on-path {S} {W} {h} t m i l =
 
 -- ---- the child with a label
 
-first-or : (test : ℕ → Bool) (d : ℕ) (xs : List ℕ) → (test (firstOf test d xs) ≡ true) ⊎ (firstOf test d xs ≡ d)
-unfolding firstOf
-first-or test d [] = inr refl
-first-or test d (x ∷ xs) = go (test x) refl (first-or test d xs)
-  where
-    go : (b : Bool) → test x ≡ b → (test (firstOf test d xs) ≡ true) ⊎ (firstOf test d xs ≡ d)
-        → (test (elim b as (λ _. ℕ) [ true ↦ x | false ↦ firstOf test d xs ]) ≡ true) ⊎ ((elim b as (λ _. ℕ) [ true ↦ x | false ↦ firstOf test d xs ]) ≡ d)
-    go true q rest = inl q
-    go false q rest = rest
-
 -- s has the child t with label l
 pub record ChildLabelled (S : Summary) (s l t : ℕ) : Type 0 where
   pub child : Child (asDocument S) s t
   pub label : summaryLabel S t ≡ l
 
 test-labelled : (S : Summary) (s l t : ℕ) → (childTest (asDocument S) s t && eqb (summaryLabel S t) l) ≡ true → ChildLabelled S s l t
-test-labelled S s l t e =
-    record {
-      child = test-child (asDocument S) s t (and-left (childTest (asDocument S) s t) (eqb (summaryLabel S t) l) e);
-      label = eqb-true (summaryLabel S t) l (and-right (childTest (asDocument S) s t) (eqb (summaryLabel S t) l) e);
-    }
+test-labelled S s l t e = let r = test-child-and (asDocument S) s t (summaryLabel S t) l e in record { child = r .0; label = r .1 }
 
 -- the search finds such a child, if there is one
 pub labelled-found : {S : Summary} {s l t : ℕ} → SummaryFacts S → ChildLabelled S s l t → childLabelled S s l ≡ t
@@ -124,7 +110,7 @@ unfolding childLabelled
 labelled-found {S} {s} {l} {t} f c =
     let size : length (asDocument S) ≡ length S = length-asDocument S in
     let low : t < length (asDocument S) = c .child .inside in
-    let hit = first-hit (λ x. childTest (asDocument S) s x && eqb (summaryLabel S x) l) (length S) (upFrom 0 (length S)) t (mem-upFrom 0 (length S) t (omega arith) (omega arith)) (and-intro (child-test (c .child)) (eq-eqb (summaryLabel S t) l (c .label))) in
+    let hit = first-hit (λ x. childTest (asDocument S) s x && eqb (summaryLabel S x) l) (length S) (upFrom 0 (length S)) t (mem-upFrom 0 (length S) t (omega arith) (omega arith)) (child-and-test (summaryLabel S t) l (c .child) (c .label)) in
     let r = test-labelled S s l (childLabelled S s l) (hit .1) in
     f .siblings s (childLabelled S s l) t (r .child) (c .child) (r .label ∙ sym (c .label))
 
@@ -144,7 +130,7 @@ unfolding pathsFrom
 length-pathsFrom S [] ms = sym (add-zero (length ms))
 length-pathsFrom S (r ∷ rs) ms =
     let rest = length-pathsFrom S rs (ms ++ nextPath S ms r ∷ []) in
-    let one = length-append ms (nextPath S ms r ∷ []) in
+    let one = length-snoc ms (nextPath S ms r) in
     omega arith
 
 pub length-pathMap : (S : Summary) (W : Document) → length (pathMap S W) ≡ length W
@@ -155,7 +141,7 @@ paths-before : (S : Summary) (rs : Document) (ms : List ℕ) (i : ℕ) → i < l
 unfolding pathsFrom
 paths-before S [] ms i l = refl
 paths-before S (r ∷ rs) ms i l =
-    let one = length-append ms (nextPath S ms r ∷ []) in
+    let one = length-snoc ms (nextPath S ms r) in
     paths-before S rs (ms ++ nextPath S ms r ∷ []) i (omega arith) ∙ List·getD-append ms (nextPath S ms r ∷ []) 0 i l
 
 -- entry i of the list of summary nodes comes by the rule from those before it, ns
@@ -169,7 +155,7 @@ paths-step : (S : Summary) (rs : Document) (ms : List ℕ) (i : ℕ) → i < len
 unfolding pathsFrom
 paths-step S [] ms i l = absurd (omega arith)
 paths-step S (r ∷ rs) ms zero l =
-    let one = length-append ms (nextPath S ms r ∷ []) in
+    let one = length-snoc ms (nextPath S ms r) in
     record {
       ns = ms;
       size = sym (add-zero (length ms));
@@ -177,7 +163,7 @@ paths-step S (r ∷ rs) ms zero l =
       here = ap (λ (k : ℕ). getD (pathsFrom S rs (ms ++ nextPath S ms r ∷ [])) k 0) (add-zero (length ms)) ∙ paths-before S rs (ms ++ nextPath S ms r ∷ []) (length ms) (omega arith) ∙ getD-append-seam ms (nextPath S ms r) [] 0;
     }
 paths-step S (r ∷ rs) ms (suc i) l =
-    let one = length-append ms (nextPath S ms r ∷ []) in
+    let one = length-snoc ms (nextPath S ms r) in
     let e : length (ms ++ nextPath S ms r ∷ []) + i ≡ length ms + suc i = omega arith in
     subst (λ (k : ℕ). Step S (pathsFrom S rs (ms ++ nextPath S ms r ∷ [])) k (getD rs i noDocumentRecord)) e (paths-step S rs (ms ++ nextPath S ms r ∷ []) i (omega arith))
 

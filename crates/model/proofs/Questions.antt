@@ -9,11 +9,11 @@ use mathlib.Core.List.{List, [], _∷_, _++_, List·Memᴰ, List·Memᴰ·not-ni
 use native.Mathlib.Omega.{arith}
 use native.Mathlib.Nat.{not-suc-le-zero, le-of-suc-le-suc, le-refl, add-zero, zero-add}
 use lib.Dec.{eqb, leb, ltb}
-use lib.ListN.{length, getD, length-map, List·getD-map}
+use lib.ListN.{length, getD, List·getD-map}
 use borrow.Author.Tests.{eqb-true, eqb-false, leb-true, ltb-true, ltb-false, eq-eqb, ne-eqb, lt-ltb, le-ltb, not-true}
 use Rattle.model.specs.Lists.{upFrom, allOf, countOf, sameList}
 use Rattle.model.specs.Limits.{maxLimit, maxTally, minBuffer, minTable, maxSummary, maxPattern, maxDocument, maxPosition}
-use Rattle.model.specs.Tree.{Rooted, DocumentRecord, IsTree, parentOf, labelOf, Child}
+use Rattle.model.specs.Tree.{DocumentRecord, IsTree, parentOf, labelOf, Child}
 use Rattle.model.specs.Summary.{Summary, noSummaryRecord, withoutStrong, asDocument, summaryParent, summaryLabel}
 use Rattle.model.specs.Pattern.{PatternRecord, Pattern, noPatternRecord, IsPatternTree, patternParent, position, arity, nodeAt}
 use Rattle.model.specs.Embeddings.{placements}
@@ -22,6 +22,8 @@ use Rattle.model.specs.Bytes.{Case, caseOf, documentOf, listOf, WholeCas
 use Rattle.model.specs.Questions.{between, limitInRange, bufferLargeEnough, tableLargeEnough, caseWhole, countsInRange, summaryRecordKept, summaryKept, alike, siblingsDiffer, patternRecordKept, patternKept, patternsKept, positionsOnce, positionsKept, tallyInRange, documentRecordKept, documentKept, listInRange, selectionGiven, selected, positionGiven, isPlacement, Question, ask, refusal, caseQuestions, verdictRefusal, fitsRefusal, resultRefusal, nodesRefusal, pathsRefusal, layoutRefusal}
 use Rattle.model.specs.Facts.{SummaryFacts, PatternFacts, CaseFacts}
 use Rattle.model.proofs.ListLaws.{by-bool, and-intro, and-left, and-right, not-both, true-or-false, all-elim, all-below, any-elim, mem-upFrom, upFrom-mem, same-eq, first-hit}
+use Rattle.model.proofs.TreeLaws.{length-asDocument}
+use Rattle.model.proofs.Fitting.{rooted}
 use Rattle.model.proofs.Bytes.{whole-case}
 
 -- ---- refusals
@@ -193,17 +195,6 @@ module _ {A : Type 0} (of : A → ℕ) where
       let same : countOf (λ x. ltb (suc a + n) (of x)) xs ≡ countOf (λ x. ltb (a + suc n) (of x)) xs = ap (λ (m : ℕ). countOf (λ x. ltb m (of x)) xs) place in
       omega arith
 
--- ---- trees
-
--- a table whose parents keep the rule is a tree
-pub rooted : (n : ℕ) (parent : ℕ → ℕ) → 1 ≤ n → ((i : ℕ) → i < n → parentRule i (parent i) ≡ true) → Rooted n parent
-unfolding parentRule
-rooted n parent some h = record { inhabited = some; root = eqb-true (parent 0) 0 (h 0 some); earlier = after }
-  where
-    after : (i : ℕ) → 0 < i → i < n → parent i < i
-    after zero p k = absurd (not-suc-le-zero p)
-    after (suc i) p k = ltb-true (parent (suc i)) (suc i) (h (suc i) k)
-
 -- ---- the outline
 
 module _ (S : Summary) where
@@ -212,18 +203,18 @@ module _ (S : Summary) where
 
   summary-tree : 1 ≤ length S → summaryKept S ≡ true → IsTree (asDocument S)
   unfolding summaryKept summaryRecordKept
-  summary-tree some kept = rooted (length (asDocument S)) (summaryParent S) (let e = length-map S withoutStrong in omega arith) rule
+  summary-tree some kept = rooted (length (asDocument S)) (summaryParent S) (let e = length-asDocument S in omega arith) rule
     where
       rule : (i : ℕ) → i < length (asDocument S) → parentRule i (summaryParent S i) ≡ true
       rule i h =
-          let k : summaryRecordKept S i ≡ true = all-below (summaryRecordKept S) (length S) kept i (let e = length-map S withoutStrong in omega arith) in
+          let k : summaryRecordKept S i ≡ true = all-below (summaryRecordKept S) (length S) kept i (let e = length-asDocument S in omega arith) in
           ap (parentRule i) (parent-asDocument i) ∙ and-left _ _ (and-left _ _ (and-left _ _ k))
 
   -- two siblings with one label, the first before the second: there are none
   no-alike : siblingsDiffer S ≡ true → (s t u : ℕ) → Child (asDocument S) s t → Child (asDocument S) s u → summaryLabel S t ≡ summaryLabel S u → t < u → ⊥
   unfolding siblingsDiffer alike
   no-alike differ s t u ct cu same h =
-      let inside : u < length S = let e = length-map S withoutStrong in let k = cu .inside in omega arith in
+      let inside : u < length S = let e = length-asDocument S in let k = cu .inside in omega arith in
       let outer = all-below (λ j. allOf (λ i. not (alike S i j)) (upFrom 0 j)) (length S) differ u inside in
       let inner : not (alike S t u) ≡ true = all-below (λ i. not (alike S i u)) u outer t h in
       not-both (alike S t u)

@@ -7,19 +7,23 @@ use mathlib.Core.Bool.{Bool, true, false, false≢true}
 use mathlib.Core.Logic.{_⊎_, inl, inr, _↔_, ⊎-elim}
 use mathlib.Core.List.{List, [], _∷_, map}
 use native.Mathlib.Omega.{arith}
+use native.Mathlib.Nat.{eq-zero-or-pos}
 use lib.ListN.{length, getD, length-map}
-use Rattle.model.specs.Tree.{Document, DocumentRecord, noDocumentRecord, IsTree, parentOf, labelOf, Child, Below, once, down, Edge}
-use Rattle.model.specs.Summary.{Summary, asDocument, summaryLabel}
+use Rattle.model.specs.Tree.{Document, IsTree, Child, Below, once, down, Edge}
+use Rattle.model.specs.Summary.{Summary, asDocument}
 use Rattle.model.specs.Pattern.{Pattern, patternParent, patternLabel, descends, position, labelFits, arity, nodeAt, returnNodes, Result}
 use Rattle.model.specs.Embeddings.{imageIn, isResult}
-use Rattle.model.specs.Canonical.{Spot, rootSpot, spotParent, spotAt, chain, spotRecord, canonicalSpots, canonical, ownNodes, ownResult, passes}
+use Rattle.model.specs.Canonical.{Spot, spotParent, spotAt, chain, canonicalSpots, canonical, ownNodes, ownResult, passes}
 use Rattle.model.specs.Facts.{SummaryFacts, PatternFacts}
 use Rattle.model.specs.Quick.{meets, offers, closed, union, hang, given, quick}
 use Rattle.model.proofs.ListLaws.{or-cases, or-left, or-right, bool-ext, true-or-false}
 use Rattle.model.proofs.TreeLaws.{below-trans}
 use Rattle.model.proofs.Laid.{Laid, SpotChild, ChainChild, InChain, TopOfChain, spotOwner, spotFilled}
-use Rattle.model.proofs.NodeByNode.{UnderOf, under-lt, Can, can, Pinned, getD-map-inside, getD-returns, returns-at, length-returnNodes, result-can}
-use Rattle.model.proofs.QuickLaws.{Within, Meets, meets-says, says-meets, offers-cases, offers-met, offers-on, offers-more, hold, hang-nil, hang-cons, closed-elim, closed-intro, given-elim, given-intro, chain-same}
+use Rattle.model.proofs.Chains.{chain-self}
+use Rattle.model.proofs.SpotLaws.{spotDocument, in-table, in-document, spot-label, spot-child, child-spot}
+use Rattle.model.proofs.NodeByNode.{UnderOf, under-lt, Can, can, Pinned, result-can}
+use Rattle.model.proofs.ReturnNodes.{length-returnNodes, return-at, returns-at}
+use Rattle.model.proofs.QuickLaws.{Within, Meets, meets-says, says-meets, offers-cases, offers-met, offers-on, offers-more, hold, hang-nil, hang-cons, closed-elim, closed-intro, given-elim, given-intro}
 
 -- ---- edges
 
@@ -32,35 +36,6 @@ edge-child false c = c
 edge-higher : (b : Bool) {W : Document} {v w : ℕ} (y : ℕ) → b ≡ true → Child W v w → Edge b W w y → Edge b W v y
 edge-higher true y d c m = below-trans (once c) m
 edge-higher false y d c m = absurd (false≢true d)
-
--- ---- the table as a document
-
-module _ (S : Summary) (spots : List Spot) where
-  abbrev pub tableOf : Document
-  tableOf = map (spotRecord S) spots
-
-  pub table-record : (i : ℕ) → i < length spots → getD tableOf i noDocumentRecord ≡ spotRecord S (getD spots i rootSpot)
-  table-record i h = getD-map-inside (spotRecord S) spots i rootSpot noDocumentRecord h
-
-  pub table-inside : (i : ℕ) → i < length tableOf → i < length spots
-  table-inside i h = subst (λ (x : ℕ). i < x) (length-map spots (spotRecord S)) h
-
-  pub inside-table : (i : ℕ) → i < length spots → i < length tableOf
-  inside-table i h = subst (λ (x : ℕ). i < x) (sym (length-map spots (spotRecord S))) h
-
-  pub table-label : (i : ℕ) → i < length spots → labelOf tableOf i ≡ summaryLabel S (spotAt spots i)
-  table-label i h = ap (λ (r : DocumentRecord). r .label) (table-record i h)
-
-  pub table-parent : (i : ℕ) → i < length spots → parentOf tableOf i ≡ spotParent spots i
-  table-parent i h = ap (λ (r : DocumentRecord). r .parent) (table-record i h)
-
-  pub child-spot : {a b : ℕ} → Child tableOf a b → SpotChild spots a b
-  child-spot {a} {b} c =
-      let i : b < length spots = table-inside b (c .inside) in
-      record { notRoot = c .notRoot; inside = i; isParent = sym (table-parent b i) ∙ c .isParent }
-
-  pub spot-child : {a b : ℕ} → SpotChild spots a b → Child tableOf a b
-  spot-child {a} {b} c = record { notRoot = c .notRoot; inside = inside-table b (c .inside); isParent = table-parent b (c .inside) ∙ c .isParent }
 
 -- ---- what each node of the table holds, is offered, meets and offers
 
@@ -92,7 +67,7 @@ module _ (S : Summary) (P Q : Pattern) (es : List ℕ) (spots : List Spot) where
 
   -- p meets at a node below v that p's edge allows
   abbrev MetBelow : ℕ → ℕ → Type 0
-  MetBelow v p = (w : ℕ) × Edge (descends Q p) (tableOf S spots) v w × (w < length spots) × (meetsAt w p ≡ true)
+  MetBelow v p = (w : ℕ) × Edge (descends Q p) (spotDocument S spots) v w × (w < length spots) × (meetsAt w p ≡ true)
 
   held-filled : (v : ℕ) → spotFilled spots v ≡ true → held v ≡ 0
   unfolding held
@@ -122,7 +97,7 @@ module _ (S : Summary) (P Q : Pattern) (es : List ℕ) (spots : List Spot) where
 
     -- the own node of pattern node j has no rest, holds j's position and is offered what j's children give
     own-rest : (j : ℕ) → j < length P → rest (imageIn own j) ≡ []
-    own-rest j h = rw (L .ownAt j h, L .ownOwner j h) (chain-same S (imageIn es j))
+    own-rest j h = rw (L .ownAt j h, L .ownOwner j h) (chain-self S (imageIn es j))
 
     own-held : (j : ℕ) → j < length P → held (imageIn own j) ≡ position P j
     own-held j h = held-unfilled (imageIn own j) (L .ownUnfilled j h) ∙ rw (own-rest j h, L .ownOwner j h) refl
@@ -278,20 +253,16 @@ module _ (S : Summary) (P Q : Pattern) (es : List ℕ) (spots : List Spot) where
     -- where v is the first pattern's own node at the position of p, v holds that position
     pin-held : (p v : ℕ) → p < length Q → Pinned Q returned p v → (position Q p ≡ 0) ⊎ (position Q p ≡ held v)
     pin-held p v h (inl k) = inl k
-    pin-held p v h (inr k) = go (position Q p) refl
+    pin-held p v h (inr k) = go (eq-zero-or-pos (position Q p))
       where
-        at : (i : ℕ) → position Q p ≡ suc i → position Q p ≡ held v
-        at i e =
+        go : (position Q p ≡ 0) ⊎ (0 < position Q p) → (position Q p ≡ 0) ⊎ (position Q p ≡ held v)
+        go (inl z) = inl z
+        go (inr z) =
             let b : position Q p ≤ arity Q = G .range p h in
-            let l : i < arity P = omega arith in
-            let s : position Q p - 1 ≡ i = omega arith in
-            let j : ℕ = nodeAt P (suc i) in
-            let o : v ≡ imageIn own j = k ∙ ap (λ (x : ℕ). getD returned x 0) s ∙ getD-returns P (imageIn own) i l in
-            e ∙ sym (ap held o ∙ own-held j (F .holds (suc i) (omega arith) l) ∙ F .held (suc i) (omega arith) l)
-
-        go : (n : ℕ) → position Q p ≡ n → (position Q p ≡ 0) ⊎ (position Q p ≡ held v)
-        go zero e = inl e
-        go (suc i) e = inr (at i e)
+            let l : position Q p ≤ arity P = omega arith in
+            let j : ℕ = nodeAt P (position Q p) in
+            let o : v ≡ imageIn own j = k ∙ return-at P (imageIn own) (position Q p) z l in
+            inr (sym (ap held o ∙ own-held j (F .holds (position Q p) z l) ∙ F .held (position Q p) z l))
 
     -- a node that holds a position is the own node at that position
     held-own : (v : ℕ) → v < length spots → 0 < held v → v ≡ getD returned (held v - 1) 0
@@ -319,20 +290,20 @@ module _ (S : Summary) (P Q : Pattern) (es : List ℕ) (spots : List Spot) where
     -- ---- the second pattern's parts
 
     -- what hangs by a descendant edge is offered all the way up
-    climb : (v w c : ℕ) → descends Q c ≡ true → Below (tableOf S spots) v w → offersAt w c ≡ true → accAt v c ≡ true
-    climb v w c d (once k) e = step-up v w c (child-spot S spots k) e
-    climb v w c d (down {b = b} m k) e = climb v b c d m (offers-on S Q (spotAt spots b) (held b) (accAt b) c d (step-up b w c (child-spot S spots k) e))
+    climb : (v w c : ℕ) → descends Q c ≡ true → Below (spotDocument S spots) v w → offersAt w c ≡ true → accAt v c ≡ true
+    climb v w c d (once k) e = step-up v w c (child-spot S spots v w k) e
+    climb v w c d (down {b = b} m k) e = climb v b c d m (offers-on S Q (spotAt spots b) (held b) (accAt b) c d (step-up b w c (child-spot S spots b w k) e))
 
-    edge-up : (b : Bool) (v w c : ℕ) → descends Q c ≡ b → Edge b (tableOf S spots) v w → offersAt w c ≡ true → accAt v c ≡ true
+    edge-up : (b : Bool) (v w c : ℕ) → descends Q c ≡ b → Edge b (spotDocument S spots) v w → offersAt w c ≡ true → accAt v c ≡ true
     edge-up true v w c d m e = climb v w c d m e
-    edge-up false v w c d k e = step-up v w c (child-spot S spots k) e
+    edge-up false v w c d k e = step-up v w c (child-spot S spots v w k) e
 
     -- where the part from p down embeds, p meets
-    can-meets : (p v : ℕ) → p < length Q → Can Q (tableOf S spots) (Pinned Q returned) p v → meetsAt v p ≡ true
+    can-meets : (p v : ℕ) → p < length Q → Can Q (spotDocument S spots) (Pinned Q returned) p v → meetsAt v p ≡ true
     can-meets p v h (can i l k f ds cs) =
         says-meets
         (record {
-          label = subst (λ (x : ℕ). labelFits (patternLabel Q p) x ≡ true) (table-label S spots v (table-inside S spots v i)) l;
+          label = subst (λ (x : ℕ). labelFits (patternLabel Q p) x ≡ true) (spot-label S spots v (in-table S spots v i)) l;
           holds = pin-held p v h k;
           children = λ c u.
               edge-up (descends Q c) v (f c u) c refl (ds c u)
@@ -350,17 +321,17 @@ module _ (S : Summary) (P Q : Pattern) (es : List ℕ) (spots : List Spot) where
         go w (r .1) (λ k. descend n w p (omega arith) (r .1 .inside) k) (offers-cases S Q (spotAt spots w) (held w) (accAt w) p (r .2))
       where
         go : (w : ℕ) → SpotChild spots v w → (accAt w p ≡ true → MetBelow w p) → (meetsAt w p ≡ true) ⊎ ((descends Q p ≡ true) × (accAt w p ≡ true)) → MetBelow v p
-        go w c on (inl m) = (w, edge-child (descends Q p) (spot-child S spots c), c .inside, m)
+        go w c on (inl m) = (w, edge-child (descends Q p) (spot-child S spots v w c), c .inside, m)
         go w c on (inr k) =
             let r = on (k .1) in
-            (r .0, edge-higher (descends Q p) (r .0) (k .0) (spot-child S spots c) (r .1), r .2, r .3)
+            (r .0, edge-higher (descends Q p) (r .0) (k .0) (spot-child S spots v w c) (r .1), r .2, r .3)
 
     -- where p meets, the part from p down embeds
     meets-can : (n p v : ℕ) → length Q ≤ n + p → p < length Q → v < length spots → meetsAt v p ≡ true
-        → Can Q (tableOf S spots) (Pinned Q returned) p v
+        → Can Q (spotDocument S spots) (Pinned Q returned) p v
     meets-can zero p v b h i e = absurd (omega arith)
     meets-can (suc n) p v b h i e =
-        can (inside-table S spots v i) (subst (λ (x : ℕ). labelFits (patternLabel Q p) x ≡ true) (sym (table-label S spots v i)) (m .label)) (held-pin p v i (m .holds))
+        can (in-document S spots v i) (subst (λ (x : ℕ). labelFits (patternLabel Q p) x ≡ true) (sym (spot-label S spots v i)) (m .label)) (held-pin p v i (m .holds))
         (λ c u. found c u .0) (λ c u. found c u .1)
         (λ c u. let l : p < c = under-lt (G .tree) u in meets-can n c (found c u .0) (omega arith) (u .inside) (found c u .2) (found c u .3))
       where
@@ -380,7 +351,7 @@ module _ (S : Summary) (P Q : Pattern) (es : List ℕ) (spots : List Spot) where
 
 -- the quick test says whether the own nodes form a result of the second pattern in the laid-out table
 pub quick-laid : {S : Summary} {P Q : Pattern} {es own : List ℕ} {spots : List Spot} → Laid S P es spots own → SummaryFacts S → PatternFacts P → PatternFacts Q → arity P ≡ arity Q
-    → (quick S P Q es ≡ true) ↔ Result Q (map (spotRecord S) spots) (map (imageIn own) (returnNodes P))
+    → (quick S P Q es ≡ true) ↔ Result Q (spotDocument S spots) (map (imageIn own) (returnNodes P))
 quick-laid {S} {P} {Q} {es} {own} {spots} L F₀ F G same = (there, back)
   where
     r : List ℕ
@@ -392,12 +363,12 @@ quick-laid {S} {P} {Q} {es} {own} {spots} L F₀ F G same = (there, back)
     root : quick S P Q es ≡ meetsAt S P Q es spots 0 0
     root = quick-root S P Q es spots own L (F₀ .tree) F G same
 
-    there : quick S P Q es ≡ true → Result Q (map (spotRecord S) spots) r
+    there : quick S P Q es ≡ true → Result Q (spotDocument S spots) r
     there e =
         result-can G size .1
         (meets-can S P Q es spots own L (F₀ .tree) F G same (length Q) 0 0 (omega arith) (G .tree .inhabited) (L .some) (sym root ∙ e))
 
-    back : Result Q (map (spotRecord S) spots) r → quick S P Q es ≡ true
+    back : Result Q (spotDocument S spots) r → quick S P Q es ≡ true
     back m = root ∙ can-meets S P Q es spots own L (F₀ .tree) F G same 0 0 (G .tree .inhabited) (result-can G size .0 m)
 
 -- the quick test of a placement equals "the trial passes"

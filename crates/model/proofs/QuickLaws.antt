@@ -5,21 +5,22 @@ use Prim.Native.Nat.{ℕ, zero, suc, _+_, _≤_, _<_}
 use mathlib.Core.Path.{_≡_, refl, sym, ap, _∙_, subst}
 use mathlib.Core.Bool.{Bool, true, false, _&&_, _||_, not, false≢true}
 use mathlib.Core.Logic.{_⊎_, inl, inr, ⊎-elim}
-use mathlib.Core.List.{List, [], _∷_, List·Memᴰ}
+use mathlib.Core.List.{List, [], _∷_}
 use native.Mathlib.Omega.{arith}
 use lib.Dec.{eqb, ltb}
-use lib.ListN.{length, getD}
+use lib.ListN.{length}
 use borrow.Author.Tests.{ltb-true, lt-ltb, eqb-true, eq-eqb}
 use Rattle.model.specs.Lists.{upFrom, anyOf, allOf}
-use Rattle.model.specs.Tree.{Document, IsTree}
-use Rattle.model.specs.Summary.{Summary, asDocument, summaryLabel, noSummaryRecord, StrongEdge}
+use Rattle.model.specs.Tree.{IsTree}
+use Rattle.model.specs.Summary.{Summary, asDocument, summaryLabel, StrongEdge}
 use Rattle.model.specs.Pattern.{Pattern, IsPatternTree, patternParent, patternLabel, descends, position, labelFits}
-use Rattle.model.specs.Embeddings.{childTest, imageIn}
+use Rattle.model.specs.Embeddings.{imageIn}
 use Rattle.model.specs.Fitting.{strongChildren}
-use Rattle.model.specs.Canonical.{chainIn, chain}
+use Rattle.model.specs.Canonical.{chain}
 use Rattle.model.specs.Quick.{hangsFrom, meets, offers, closedIn, closed, union, hang, givenIn, given}
-use Rattle.model.proofs.ListLaws.{bool-ext, and-intro, and-left, and-right, or-cases, or-left, or-right, all-below, below-all, any-below, below-any, any-intro, any-elim, keep-intro, keep-elim, mem-upFrom}
-use Rattle.model.proofs.TreeLaws.{test-child, child-test, child-lt, length-asDocument}
+use Rattle.model.proofs.ListLaws.{bool-ext, and-intro, and-left, and-right, or-cases, or-left, or-right, all-below, below-all, any-below, below-any, any-intro, any-elim}
+use Rattle.model.proofs.TreeLaws.{child-lt, length-asDocument}
+use Rattle.model.proofs.Fitting.{strong-children-exact}
 use Rattle.model.proofs.NodeByNode.{UnderOf, under-lt}
 
 -- every element of the first set is in the second
@@ -144,24 +145,6 @@ hang-more S Q n g g′ (x ∷ xs) w =
     rw (hang-cons S Q n g x xs, hang-cons S Q n g′ x xs)
     (offers-more S Q x (hold n xs) (hold n xs) (union (closed S Q x) (hang S Q n g xs)) (union (closed S Q x) (hang S Q n g′ xs)) (inr refl) (union-more (closed S Q x) (hang S Q n g xs) (hang S Q n g′ xs) (hang-more S Q n g g′ xs w)))
 
--- ---- strong children
-
-pub strong-edge : (S : Summary) (s t : ℕ) → List·Memᴰ t (strongChildren S s) → StrongEdge S s t
-unfolding strongChildren
-strong-edge S s t m =
-    let e = keep-elim (λ t. childTest (asDocument S) s t && eqb (getD S t noSummaryRecord .strong) 1) t (upFrom 0 (length S)) m .1 in
-    record {
-      child = test-child (asDocument S) s t (and-left (childTest (asDocument S) s t) (eqb (getD S t noSummaryRecord .strong) 1) e);
-      strong = eqb-true (getD S t noSummaryRecord .strong) 1 (and-right (childTest (asDocument S) s t) (eqb (getD S t noSummaryRecord .strong) 1) e);
-    }
-
-pub edge-strong : {S : Summary} {s t : ℕ} → StrongEdge S s t → List·Memᴰ t (strongChildren S s)
-unfolding strongChildren
-edge-strong {S} {s} {t} d =
-    let i : t < length S = subst (λ (x : ℕ). t < x) (length-asDocument S) (d .child .inside) in
-    keep-intro (λ t. childTest (asDocument S) s t && eqb (getD S t noSummaryRecord .strong) 1) t (upFrom 0 (length S)) (mem-upFrom 0 (length S) t (omega arith) (omega arith))
-    (and-intro (child-test (d .child)) (eq-eqb (getD S t noSummaryRecord .strong) 1 (d .strong)))
-
 -- ---- what the filled-up children offer, without the bound
 
 -- one level
@@ -169,11 +152,11 @@ closedIn-elim : (n : ℕ) (S : Summary) (Q : Pattern) (x p : ℕ) → closedIn (
 unfolding closedIn
 closedIn-elim n S Q x p e =
     let r = any-elim (λ t. offers S Q t 0 (closedIn n S Q t) p) (strongChildren S x) e in
-    (r .0, strong-edge S x (r .0) (r .1), r .2)
+    (r .0, strong-children-exact S x (r .0) .0 (r .1), r .2)
 
 closedIn-intro : (n : ℕ) (S : Summary) (Q : Pattern) (x t p : ℕ) → StrongEdge S x t → offers S Q t 0 (closedIn n S Q t) p ≡ true → closedIn (suc n) S Q x p ≡ true
 unfolding closedIn
-closedIn-intro n S Q x t p d e = any-intro (λ t. offers S Q t 0 (closedIn n S Q t) p) t (strongChildren S x) (edge-strong d) e
+closedIn-intro n S Q x t p d e = any-intro (λ t. offers S Q t 0 (closedIn n S Q t) p) t (strongChildren S x) (strong-children-exact S x t .1 d) e
 
 strong-below : {S : Summary} {s t : ℕ} → IsTree (asDocument S) → StrongEdge S s t → (s < t) × (t < length S)
 strong-below {S} {s} {t} T d = (child-lt T (d .child), subst (λ (x : ℕ). t < x) (length-asDocument S) (d .child .inside))
@@ -205,8 +188,8 @@ closed-intro S Q x t p T d e = closed-enough (suc (length S)) (length S) S Q x T
 pub closed-equation : (S : Summary) (Q : Pattern) (x p : ℕ) → IsTree (asDocument S) → closed S Q x p ≡ anyOf (λ t. offers S Q t 0 (closed S Q t) p) (strongChildren S x)
 closed-equation S Q x p T =
     bool-ext (closed S Q x p) (anyOf (λ t. offers S Q t 0 (closed S Q t) p) (strongChildren S x))
-    (λ e. let r = closed-elim S Q x p T e in any-intro (λ t. offers S Q t 0 (closed S Q t) p) (r .0) (strongChildren S x) (edge-strong (r .1)) (r .2))
-    (λ e. let r = any-elim (λ t. offers S Q t 0 (closed S Q t) p) (strongChildren S x) e in closed-intro S Q x (r .0) p T (strong-edge S x (r .0) (r .1)) (r .2))
+    (λ e. let r = closed-elim S Q x p T e in any-intro (λ t. offers S Q t 0 (closed S Q t) p) (r .0) (strongChildren S x) (strong-children-exact S x (r .0) .1 (r .1)) (r .2))
+    (λ e. let r = any-elim (λ t. offers S Q t 0 (closed S Q t) p) (strongChildren S x) e in closed-intro S Q x (r .0) p T (strong-children-exact S x (r .0) .0 (r .1)) (r .2))
 
 -- ---- what the chains that hang from a pattern node offer, without the bound
 
@@ -269,14 +252,3 @@ module _ (S : Summary) (P Q : Pattern) (es : List ℕ) where
           let r = any-below test (length P) e in
           let c : ℕ = r .0 in
           given-intro j c p T (hangs-under P j c (r .1) (and-left (hangsFrom P j c) (chainOf (given S P Q es) j c p) (r .2))) (and-right (hangsFrom P j c) (chainOf (given S P Q es) j c p) (r .2))
-
--- ---- the chain from a node to itself
-
-chainIn-same : (n : ℕ) (D : Document) (a : ℕ) → chainIn n D a a ≡ []
-unfolding chainIn
-chainIn-same zero D a = refl
-chainIn-same (suc n) D a = rw (eq-eqb a a refl, chainIn)
-
-pub chain-same : (S : Summary) (a : ℕ) → chain S a a ≡ []
-unfolding chain
-chain-same S a = chainIn-same a (asDocument S) a

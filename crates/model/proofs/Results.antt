@@ -3,11 +3,11 @@
 use Prim.Native.Nat.{ℕ, _-_, _^_, _≤_, _<_}
 use mathlib.Core.Path.{_≡_, refl, sym, ap, _∙_, subst}
 use mathlib.Core.Bool.{Bool, true, false}
-use mathlib.Core.Logic.{_⊎_, inl, inr, _↔_}
-use mathlib.Core.List.{List, [], _∷_, map, List·Memᴰ, List·Memᴰ·head, List·Memᴰ·tail, List·Memᴰ·not-nil, List·Memᴰ·cases-cons}
+use mathlib.Core.Logic.{_↔_}
+use mathlib.Core.List.{List, [], map, List·Memᴰ}
 use native.Mathlib.Omega.{arith}
 use lib.Dec.{eqb, ltb}
-use lib.ListN.{length, getD, length-map}
+use lib.ListN.{length, getD}
 use native.Mathlib.Nat.{le-trans}
 use lib.Pow.{pow-pos, pow-mono}
 use lib.Count.{ones, trailingZeros}
@@ -18,44 +18,14 @@ use Rattle.model.specs.Summary.{Summary, asDocument}
 use Rattle.model.specs.Pattern.{Pattern, IsPatternTree, arity, nodeAt, returnNodes, Embeds, Result, PathOf, AtPosition}
 use Rattle.model.specs.Embeddings.{embeddings, placements, imageIn, isResult, isAt, nodesAt, isPath, pathMask, pathCount}
 use Rattle.model.specs.Facts.{SummaryFacts, PatternFacts}
-use Rattle.model.proofs.ListLaws.{not-both, length-upFrom, getD-upFrom, upFrom-mem, mem-upFrom, any-intro, any-elim, keep-intro, keep-elim, same-eq, eq-same}
+use Rattle.model.proofs.ListLaws.{not-both, map-agree, upFrom-mem, mem-upFrom, any-intro, any-elim, keep-intro, keep-elim, same-eq, eq-same}
 use Rattle.model.proofs.TreeLaws.{length-asDocument}
 use Rattle.model.proofs.Ascending.{Ascending, ascending-unique, ascending-keep, ascending-upFrom}
-use Rattle.model.proofs.Embeddings.{getD-map, embeddings-sound, imagesOf, image-imagesOf, embeddings-complete}
+use Rattle.model.proofs.Embeddings.{embeddings-sound, imagesOf, image-imagesOf, embeddings-complete}
+use Rattle.model.proofs.ReturnNodes.{return-inside, return-at}
 use Rattle.model.proofs.Masks.{has, has-past, mask-lt, mask-below, mask-none, ones-mask, Least, mask-least}
 
--- ---- map
-
-module _ {A B : Type 0} where
-  pub map-elim : (f : A → B) (xs : List A) (y : B) → List·Memᴰ y (map f xs) → (x : A) × List·Memᴰ x xs × (y ≡ f x)
-  map-elim f [] y m = absurd (List·Memᴰ·not-nil m)
-  map-elim f (x ∷ xs) y m = go (List·Memᴰ·cases-cons m) (λ n. map-elim f xs y n)
-    where
-      go : (y ≡ f x) ⊎ List·Memᴰ y (map f xs) → (List·Memᴰ y (map f xs) → (z : A) × List·Memᴰ z xs × (y ≡ f z)) → (z : A) × List·Memᴰ z (x ∷ xs) × (y ≡ f z)
-      go (inl e) rest = (x, List·Memᴰ·head refl, e)
-      go (inr n) rest = let r = rest n in (r .0, List·Memᴰ·tail (r .1), r .2)
-
-  pub map-agree : (f g : A → B) (xs : List A) → ((x : A) → List·Memᴰ x xs → f x ≡ g x) → map f xs ≡ map g xs
-  map-agree f g [] h = refl
-  map-agree f g (x ∷ xs) h = cc (h x (List·Memᴰ·head refl), map-agree f g xs (λ y m. h y (List·Memᴰ·tail m)))
-
 -- ---- results
-
--- the return nodes are nodes of the pattern
-pub return-inside : {P : Pattern} → PatternFacts P → (q : ℕ) → List·Memᴰ q (returnNodes P) → q < length P
-return-inside {P} f q m =
-    let r = map-elim (nodeAt P) (upFrom 1 (arity P)) q m in
-    let k = upFrom-mem 1 (arity P) (r .0) (r .1) in
-    subst (λ (x : ℕ). x < length P) (sym (r .2)) (f .holds (r .0) (k .0) (omega arith))
-
--- at place p - 1 stands the node that holds position p
-pub return-at : (P : Pattern) (p : ℕ) → 1 ≤ p → p ≤ arity P → getD (returnNodes P) (p - 1) 0 ≡ nodeAt P p
-return-at P p h k =
-    let l : length (upFrom 1 (arity P)) ≡ arity P = length-upFrom 1 (arity P) in
-    getD-map (nodeAt P) (upFrom 1 (arity P)) (p - 1) 0 0 (omega arith) ∙ ap (nodeAt P) (getD-upFrom 1 (arity P) (p - 1) 0 (omega arith) ∙ omega arith)
-
-pub length-returnNodes : (P : Pattern) → length (returnNodes P) ≡ arity P
-length-returnNodes P = length-map (upFrom 1 (arity P)) (nodeAt P) ∙ length-upFrom 1 (arity P)
 
 -- the test says whether the list is a result, as one list
 pub result-exact : {P : Pattern} {W : Document} (r : List ℕ) → PatternFacts P → IsTree W → (isResult P W r ≡ true) ↔ Result P W r
@@ -116,14 +86,13 @@ module _ {P : Pattern} {W : Document} (p v : ℕ) (f : PatternFacts P) (u : IsTr
 -- to be at position p is to stand at place p - 1 of some result
 pub at-position-result : {P : Pattern} {W : Document} (p v : ℕ) → 1 ≤ p → p ≤ arity P → AtPosition P W p v ↔ ((r : List ℕ) × Result P W r × (getD r (p - 1) 0 ≡ v))
 at-position-result {P} {W} p v h k = (
-  λ m. (map (m .image) (returnNodes P), record { image = m .image; embeds = m .embeds; returns = refl }, place (m .image) ∙ m .takes),
-  λ m. record { image = m .1 .image; embeds = m .1 .embeds; takes = sym (place (m .1 .image)) ∙ ap (λ (r : List ℕ). getD r (p - 1) 0) (sym (m .1 .returns)) ∙ m .2 },
+  λ m. (map (m .image) (returnNodes P), record { image = m .image; embeds = m .embeds; returns = refl }, return-at P (m .image) p h k ∙ m .takes),
+  λ m. record {
+    image = m .1 .image;
+    embeds = m .1 .embeds;
+    takes = sym (return-at P (m .1 .image) p h k) ∙ ap (λ (r : List ℕ). getD r (p - 1) 0) (sym (m .1 .returns)) ∙ m .2;
+  },
 )
-  where
-    place : (e : ℕ → ℕ) → getD (map e (returnNodes P)) (p - 1) 0 ≡ e (nodeAt P p)
-    place e =
-        let l : length (returnNodes P) ≡ arity P = length-returnNodes P in
-        getD-map e (returnNodes P) (p - 1) 0 0 (omega arith) ∙ ap e (return-at P p h k)
 
 -- the nodes at a position are written ascending, and are nodes of the document
 pub nodes-at-ascending : (P : Pattern) (W : Document) (p : ℕ) → Ascending _<_ (nodesAt P W p)

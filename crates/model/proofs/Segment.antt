@@ -1,29 +1,43 @@
 -- One chain of new nodes, hung from a node and led down to the image of its pattern node: what each of its nodes is.
 -- Assumes nothing.
-use Prim.Native.Nat.{ℕ, zero, suc, _+_, _≤_, _<_}
+use Prim.Native.Nat.{ℕ, suc, _+_, _≤_, _<_}
 use mathlib.Core.Path.{_≡_, refl, sym, ap, _∙_, subst}
-use mathlib.Core.Bool.{Bool, true, false, false≢true}
+use mathlib.Core.Bool.{Bool, true, false}
 use mathlib.Core.Logic.{_⊎_, inl, inr}
 use mathlib.Core.List.{List, [], _∷_, _++_, nil≢cons}
 use native.Mathlib.Omega.{arith}
 use lib.Dec.{eqb}
 use lib.ListN.{length, getD}
+use lib.Seq.{getD-append-seam}
 use borrow.Author.Tests.{eqb-true, eqb-false}
 use Rattle.model.specs.Tree.{IsTree, Child}
 use Rattle.model.specs.Summary.{Summary, asDocument}
 use Rattle.model.specs.Canonical.{Spot, rootSpot, spotParent, spotAt, chain, appendChain}
+use Rattle.model.proofs.ListLaws.{length-snoc}
 use Rattle.model.proofs.TreeLaws.{child-lt}
 use Rattle.model.proofs.Chains.{Way, end, step, way-bound, chain-way}
-use Rattle.model.proofs.Laid.{spotOwner, spotFilled, SpotChild, ChainChild}
-use Rattle.model.proofs.Built.{Extends, extends-refl, extends-trans, extends-snoc, length-snoc, last-snoc}
+use Rattle.model.proofs.Laid.{spotOwner, spotFilled, ChainChild}
+use Rattle.model.proofs.Built.{Extends, extends-refl, extends-trans, extends-snoc}
 
-abbrev chainSpot : ℕ → ℕ → ℕ → Spot
+-- a node of pattern node q's chain, under v and on x
+abbrev pub chainSpot : ℕ → ℕ → ℕ → Spot
 chainSpot q v x = record { parent = v; at = x; owner = q; filled = false }
+
+-- such a node is the chain's child of v
+pub chain-spot-child : {T : List Spot} {q v x : ℕ} (n : ℕ) → getD T n rootSpot ≡ chainSpot q v x → 0 < n → n < length T → ChainChild T v q x
+chain-spot-child n s p h =
+    record {
+      node = n;
+      child = record { notRoot = p; inside = h; isParent = ap (λ (k : Spot). k .parent) s };
+      owner = ap (λ (k : Spot). k .owner) s;
+      unfilled = ap (λ (k : Spot). k .filled) s;
+      on = ap (λ (k : Spot). k .at) s;
+    }
 
 -- the nodes from number n on are the chain xs of pattern node q, hung from v
 abbrev pub Segment : List Spot → ℕ → ℕ → ℕ → List ℕ → Type 0
 Segment T q v n [] = Unit {0}
-Segment T q v n (x ∷ xs) = (getD T n rootSpot ≡ record { parent = v; at = x; owner = q; filled = false }) × Segment T q n (suc n) xs
+Segment T q v n (x ∷ xs) = (getD T n rootSpot ≡ chainSpot q v x) × Segment T q n (suc n) xs
 
 -- appending a chain extends the table by that segment
 pub record Appended (q : ℕ) (spots : List Spot) (v : ℕ) (xs : List ℕ) (T : List Spot) : Type 0 where
@@ -43,14 +57,18 @@ append-chain q spots v (x ∷ xs) =
     record {
       extends = extends-trans (extends-snoc spots s) (r .extends);
       size = omega arith;
-      segment = (r .extends .same (length spots) (omega arith) ∙ last-snoc spots s, subst (λ (k : ℕ). Segment T q (length spots) k xs) n (r .segment));
+      segment = (r .extends .same (length spots) (omega arith) ∙ getD-append-seam spots s [] rootSpot, subst (λ (k : ℕ). Segment T q (length spots) k xs) n (r .segment));
     }
+
+-- node i of a segment from n on is the first, and hangs from v, or it hangs from the one before it
+abbrev pub Hangs : List Spot → ℕ → ℕ → ℕ → Type 0
+Hangs T v n i = ((i ≡ n) × (spotParent T i ≡ v)) ⊎ ((n ≤ spotParent T i) × (suc (spotParent T i) ≡ i))
 
 -- node i of the segment of k nodes from n on, hung from v, in a chain down to b
 pub record SegmentNode (S : Summary) (T : List Spot) (q b v n k i : ℕ) : Type 0 where
   pub owner : spotOwner T i ≡ q
   pub unfilled : spotFilled T i ≡ false
-  pub hangs : ((i ≡ n) × (spotParent T i ≡ v)) ⊎ ((n ≤ spotParent T i) × (suc (spotParent T i) ≡ i))
+  pub hangs : Hangs T v n i
   pub edge : Child (asDocument S) (spotAt T (spotParent T i)) (spotAt T i)
   pub chained : chain S (spotAt T (spotParent T i)) b ≡ spotAt T i ∷ chain S (spotAt T i) b
   pub next : (x : ℕ) (xs : List ℕ) → chain S (spotAt T i) b ≡ x ∷ xs → ChainChild T i q x
@@ -88,13 +106,7 @@ module _ (S : Summary) (tree : IsTree (asDocument S)) (T : List Spot) (q b : ℕ
       next-of y ys p =
           let t : Segment T q n (suc n) (y ∷ ys) = subst (λ (l : List ℕ). Segment T q n (suc n) l) p (s .1) in
           let z : length xs ≡ suc (length ys) = ap (λ (l : List ℕ). length l) p in
-          record {
-            node = suc n;
-            child = record { notRoot = omega arith; inside = omega arith; isParent = ap (λ (k : Spot). k .parent) (t .0) };
-            owner = ap (λ (k : Spot). k .owner) (t .0);
-            unfilled = ap (λ (k : Spot). k .filled) (t .0);
-            on = ap (λ (k : Spot). k .at) (t .0);
-          }
+          chain-spot-child (suc n) (t .0) (omega arith) (omega arith)
 
       last-of : {ys : List ℕ} → Way (asDocument S) b x ys → x ≡ b → suc n ≡ n + suc (length ys)
       last-of (end p) h = omega arith
@@ -134,8 +146,7 @@ module _ (S : Summary) (tree : IsTree (asDocument S)) (T : List Spot) (q b : ℕ
             lowest = r .lowest;
           }
         where
-          hung : ((i ≡ suc n) × (spotParent T i ≡ n)) ⊎ ((suc n ≤ spotParent T i) × (suc (spotParent T i) ≡ i))
-              → ((i ≡ n) × (spotParent T i ≡ v)) ⊎ ((n ≤ spotParent T i) × (suc (spotParent T i) ≡ i))
+          hung : Hangs T n (suc n) i → Hangs T v n i
           hung (inl p) = let a = p .0 in let b′ = p .1 in inr (omega arith, omega arith)
           hung (inr p) = let a = p .0 in inr (omega arith, p .1)
 

@@ -1,22 +1,16 @@
 -- A canonical document's table read as a document: parents, labels and children are those of the table, and the map to the
 -- summary nodes is a homomorphism. Assumes nothing.
 use Prim.Native.Nat.{ℕ, zero, suc, _<_}
-use mathlib.Core.Path.{_≡_, refl, sym, ap, _∙_, subst}
-use mathlib.Core.List.{List, [], _∷_, map}
+use mathlib.Core.Path.{_≡_, sym, ap, _∙_, subst}
+use mathlib.Core.List.{List, map}
 use native.Mathlib.Omega.{arith}
-use native.Mathlib.Nat.{not-suc-le-zero, le-of-suc-le-suc}
 use lib.ListN.{length, getD, length-map}
 use Rattle.model.specs.Tree.{DocumentRecord, noDocumentRecord, Document, IsTree, parentOf, labelOf, Child, Hom}
 use Rattle.model.specs.Summary.{Summary, asDocument, summaryLabel}
 use Rattle.model.specs.Pattern.{Pattern}
 use Rattle.model.specs.Canonical.{Spot, rootSpot, spotParent, spotAt, spotRecord}
+use Rattle.model.proofs.ListLaws.{getD-map}
 use Rattle.model.proofs.Laid.{SpotChild, Laid}
-
--- an element of a mapped list, whatever the two lists read as past their ends
-pub getD-map-inside : {A B : Type 0} (f : A → B) (l : List A) (i : ℕ) (d : A) (c : B) → i < length l → getD (map f l) i c ≡ f (getD l i d)
-getD-map-inside f [] i d c h = absurd (not-suc-le-zero h)
-getD-map-inside f (x ∷ l) zero d c h = refl
-getD-map-inside f (x ∷ l) (suc i) d c h = getD-map-inside f l i d c (le-of-suc-le-suc h)
 
 -- the table as a document
 abbrev pub spotDocument : Summary → List Spot → Document
@@ -30,7 +24,7 @@ pub in-document : (S : Summary) (spots : List Spot) (i : ℕ) → i < length spo
 in-document S spots i = subst (λ (n : ℕ). i < n) (sym (length-map spots (spotRecord S)))
 
 spot-record : (S : Summary) (spots : List Spot) (i : ℕ) → i < length spots → getD (spotDocument S spots) i noDocumentRecord ≡ spotRecord S (getD spots i rootSpot)
-spot-record S spots i h = getD-map-inside (spotRecord S) spots i rootSpot noDocumentRecord h
+spot-record S spots i h = getD-map (spotRecord S) spots i rootSpot noDocumentRecord h
 
 pub spot-parent : (S : Summary) (spots : List Spot) (i : ℕ) → i < length spots → parentOf (spotDocument S spots) i ≡ spotParent spots i
 spot-parent S spots i h = ap (λ (r : DocumentRecord). r .parent) (spot-record S spots i h)

@@ -2,18 +2,13 @@
 -- raises it by the tried of its own answer, which is 0 where the call is refused. Assumes nothing.
 use Prim.Native.Nat.{ℕ, _+_}
 use mathlib.Core.Path.{_≡_, refl, sym, _∙_, subst}
-use mathlib.Core.Bool.{true, false}
-use mathlib.Core.Logic.{⊎-elim}
 use mathlib.Core.List.{List, [], _∷_}
 use native.Mathlib.Omega.{arith}
 use native.Mathlib.Nat.{add-zero}
-use lib.Dec.{eqb}
 use lib.ListN.{length}
-use borrow.Author.Tests.{eqb-true, eqb-false, eq-eqb, ne-eqb}
-use Rattle.model.specs.Bytes.{caseOf}
 use Rattle.model.specs.Questions.{verdictRefusal}
-use Rattle.model.specs.Calls.{VerdictAnswer, VerdictOutcome, verdictAccepted, verdictRefused, verdictCall}
-use Rattle.model.proofs.ListLaws.{true-or-false}
+use Rattle.model.specs.Calls.{VerdictAnswer, VerdictOutcome, verdictAccepted, verdictCall}
+use Rattle.model.proofs.Calls.{by-number, verdict-accepted, verdict-refused}
 
 -- ---- a run of verdict calls
 
@@ -44,29 +39,16 @@ triedSum (a ∷ rest) = a .tried + triedSum rest
 
 -- ---- one call
 
--- an accepted call answers by the verdict and raises the tally by its tried
-pub call-accepted : (b : List ℕ) (L t : ℕ) (buffer : List ℕ) → verdictRefusal b L t (length buffer) ≡ 0 → verdictCall b L t buffer ≡ verdictAccepted (caseOf b) L t buffer
-unfolding verdictCall
-call-accepted b L t buffer e = rw (eq-eqb (verdictRefusal b L t (length buffer)) 0 e, verdictCall)
-
--- a refused call holds its number, has tried 0, and leaves buffer and tally
-pub call-refused : (b : List ℕ) (L t : ℕ) (buffer : List ℕ) → (verdictRefusal b L t (length buffer) ≡ 0 → ⊥)
-    → verdictCall b L t buffer ≡ verdictRefused (verdictRefusal b L t (length buffer)) t buffer
-unfolding verdictCall
-call-refused b L t buffer h = rw (ne-eqb (verdictRefusal b L t (length buffer)) 0 h, verdictCall)
-
 -- the outcome's tally is t raised by the tried of its answer
 abbrev Raised : ℕ → VerdictOutcome → Type 0
 Raised t o = o .tally ≡ t + o .answer .tried
 
 -- a call raises the tally by the tried of its answer
 pub call-tally : (b : List ℕ) (L t : ℕ) (buffer : List ℕ) → verdictCall b L t buffer .tally ≡ t + verdictCall b L t buffer .answer .tried
-unfolding verdictAccepted verdictRefused
+unfolding verdictAccepted
 call-tally b L t buffer =
-    let n : ℕ = verdictRefusal b L t (length buffer) in
-    ⊎-elim (λ (e : eqb n 0 ≡ true). subst (Raised t) (sym (call-accepted b L t buffer (eqb-true n 0 e))) refl)
-    (λ (e : eqb n 0 ≡ false). subst (Raised t) (sym (call-refused b L t buffer (eqb-false n 0 e))) (sym (add-zero t)))
-    (true-or-false (eqb n 0))
+    by-number (verdictRefusal b L t (length buffer)) (λ e. subst (Raised t) (sym (verdict-accepted b L t buffer e)) refl)
+    (λ f. subst (Raised t) (sym (verdict-refused b L t buffer f)) (sym (add-zero t)))
 
 -- ---- any run
 

@@ -1,17 +1,17 @@
 -- Laws of children, descendants and homomorphisms: the tests say what the relations say, a descendant has the greater number,
 -- and an embedding followed by a homomorphism is an embedding. Assumes nothing.
-use Prim.Native.Nat.{ℕ, zero, suc, _+_, _≤_, _<_}
+use Prim.Native.Nat.{ℕ, zero, suc, _≤_, _<_}
 use mathlib.Core.Path.{_≡_, refl, sym, ap, _∙_, subst}
 use mathlib.Core.Bool.{Bool, true, false, _&&_, _||_, false≢true}
 use mathlib.Core.Logic.{_⊎_, inl, inr, _↔_}
-use mathlib.Core.List.{List, [], _∷_, map}
+use mathlib.Core.List.{List, map, map-map}
 use native.Mathlib.Omega.{arith}
 use lib.Dec.{eqb, ltb}
-use lib.ListN.{length, getD, length-map, List·getD-eq-default}
+use lib.ListN.{length, length-map, List·getD-eq-default}
 use borrow.Author.Tests.{ltb-true, ltb-false, eqb-true, lt-ltb, eq-eqb}
-use Rattle.model.specs.Tree.{DocumentRecord, noDocumentRecord, Document, IsTree, parentOf, labelOf, Child, Below, once, down, Edge, Hom}
+use Rattle.model.specs.Tree.{Rooted, DocumentRecord, noDocumentRecord, Document, IsTree, parentOf, Child, Below, once, down, Edge, Hom}
 use Rattle.model.specs.Summary.{Summary, withoutStrong, asDocument}
-use Rattle.model.specs.Pattern.{Pattern, PatternRecord, patternLabel, patternParent, descends, labelFits, returnNodes, Embeds, Result}
+use Rattle.model.specs.Pattern.{Pattern, patternLabel, patternParent, descends, labelFits, returnNodes, Embeds, Result}
 use Rattle.model.specs.Embeddings.{childTest, climbs, belowTest, edgeTest}
 use Rattle.model.proofs.ListLaws.{and-intro, and-left, and-right, or-cases, or-left, or-right}
 
@@ -49,16 +49,21 @@ unfolding childTest
 child-test {W} {a} {b} c =
     and-intro (and-intro (lt-ltb 0 b (c .notRoot)) (lt-ltb b (length W) (c .inside))) (eq-eqb (parentOf W b) a (c .isParent))
 
+-- a child that a second test accepts too
+pub test-child-and : (W : Document) (a b x y : ℕ) → (childTest W a b && eqb x y) ≡ true → Child W a b × (x ≡ y)
+test-child-and W a b x y e = (test-child W a b (and-left (childTest W a b) (eqb x y) e), eqb-true x y (and-right (childTest W a b) (eqb x y) e))
+
+pub child-and-test : {W : Document} {a b : ℕ} (x y : ℕ) → Child W a b → x ≡ y → (childTest W a b && eqb x y) ≡ true
+child-and-test x y c e = and-intro (child-test c) (eq-eqb x y e)
+
+-- in any rooted table a parent has the smaller number
+pub rooted-lt : {n : ℕ} {parent : ℕ → ℕ} {a b : ℕ} → Rooted n parent → 0 < b → b < n → parent b ≡ a → a < b
+rooted-lt {b = b} t p h e = subst (λ (x : ℕ). x < b) e (t .earlier b p h)
+
 pub child-lt : {W : Document} {a b : ℕ} → IsTree W → Child W a b → a < b
-child-lt {W} {a} {b} t c =
-    let h : parentOf W b < b = t .earlier b (c .notRoot) (c .inside) in
-    subst (λ (x : ℕ). x < b) (c .isParent) h
+child-lt t c = rooted-lt t (c .notRoot) (c .inside) (c .isParent)
 
 -- ---- descendants
-
-pub below-inside : {W : Document} {a b : ℕ} → Below W a b → b < length W
-below-inside (once c) = c .inside
-below-inside (down d c) = c .inside
 
 pub below-lt : {W : Document} {a b : ℕ} → IsTree W → Below W a b → a < b
 below-lt t (once c) = child-lt t c
@@ -135,10 +140,6 @@ unfolding edgeTest
 edge-test true W a b t e = below-test t e
 edge-test false W a b t e = child-test e
 
-pub edge-inside : (d : Bool) (W : Document) (a b : ℕ) → Edge d W a b → b < length W
-edge-inside true W a b e = below-inside e
-edge-inside false W a b e = e .inside
-
 pub edge-below : (d : Bool) (W : Document) (a b : ℕ) → Edge d W a b → Below W a b
 edge-below true W a b e = e
 edge-below false W a b e = once e
@@ -169,9 +170,5 @@ hom-result {P} {h = h} r k =
     record {
       image = λ q. h (r .image q);
       embeds = hom-embeds (r .embeds) k;
-      returns = ap (map h) (r .returns) ∙ map-map (returnNodes P);
+      returns = ap (map h) (r .returns) ∙ map-map h (r .image) (returnNodes P);
     }
-  where
-    map-map : (qs : List ℕ) → map h (map (r .image) qs) ≡ map (λ q. h (r .image q)) qs
-    map-map [] = refl
-    map-map (q ∷ qs) = ap (λ (l : List ℕ). h (r .image q) ∷ l) (map-map qs)

@@ -4,10 +4,11 @@ use Prim.Native.Nat.{ℕ, zero, suc, _+_, _-_, _≤_, _<_}
 use mathlib.Core.Path.{_≡_, refl, sym, ap, _∙_, subst}
 use mathlib.Core.Bool.{Bool, true, false}
 use mathlib.Core.Logic.{_⊎_, inl, inr, _↔_, ⊎-elim}
-use mathlib.Core.List.{List, [], _∷_, _++_, append-nil, List·Memᴰ, List·Memᴰ·head, List·Memᴰ·tail, List·Memᴰ·not-nil, List·Memᴰ·cases-cons, Memᴰ·append-left}
+use mathlib.Core.List.{List, [], _∷_, _++_, List·Memᴰ, List·Memᴰ·head, List·Memᴰ·tail, List·Memᴰ·not-nil, List·Memᴰ·cases-cons, Memᴰ·append-left}
 use native.Mathlib.Omega.{arith}
 use native.Mathlib.Nat.{zero-add, not-suc-le-zero, le-of-suc-le-suc}
-use lib.ListN.{length, take, drop, take-append-drop, drop-of-length-le, length-append}
+use lib.ListN.{length, take, drop, take-append-drop, length-append}
+use lib.Seq.{take-all}
 use Rattle.model.specs.Summary.{Summary}
 use Rattle.model.specs.Pattern.{Pattern}
 use Rattle.model.specs.Embeddings.{placements}
@@ -253,9 +254,6 @@ mem-take (suc L) (y ∷ ys) zs x h = List·Memᴰ·tail (mem-take L ys zs x (le-
 
 pub take-mem : (L : ℕ) (xs : List (List ℕ)) (x : List ℕ) → List·Memᴰ x (take L xs) → List·Memᴰ x xs
 take-mem L xs x m = subst (λ (l : List (List ℕ)). List·Memᴰ x l) (take-append-drop L xs) (Memᴰ·append-left (drop L xs) m)
-
-pub take-all : (L : ℕ) (xs : List (List ℕ)) → length xs ≤ L → take L xs ≡ xs
-take-all L xs h = sym (append-nil (take L xs)) ∙ ap (λ (l : List (List ℕ)). take L xs ++ l) (sym (drop-of-length-le xs h)) ∙ take-append-drop L xs
 
 all-or-fails : (test : List ℕ → Bool) (xs : List (List ℕ)) → AllPass test xs → SomeFails test xs → ⊥
 all-or-fails test xs h f = not-both (test (f .0)) (h (f .0) (f .1)) (f .2)
