@@ -1,26 +1,26 @@
 -- Containment is decided by the trials of the placements: it holds exactly when all of them pass, a trial that does not pass is
 -- a counter-example, and the quick test of a placement says the same without laying anything out. Assumes nothing.
-use Prim.Native.Nat.{ℕ, _≤_, _<_}
-use mathlib.Core.Path.{_≡_, refl, sym, ap, _∙_, subst}
-use mathlib.Core.Bool.{Bool, true, false, true≢false}
+use Prim.Native.Nat.{ℕ, _≤_}
+use mathlib.Core.Path.{_≡_, sym, _∙_}
+use mathlib.Core.Bool.{true, false}
 use mathlib.Core.Logic.{_⊎_, inl, inr, _↔_}
-use mathlib.Core.List.{List, [], _∷_, List·Memᴰ}
+use mathlib.Core.List.{List, List·Memᴰ}
 use lib.ListN.{length}
 use Rattle.model.specs.Limits.{maxSummary, maxPattern, maxCanonical}
 use Rattle.model.specs.Tree.{Document, IsTree}
-use Rattle.model.specs.Summary.{Summary, asDocument, Fits}
+use Rattle.model.specs.Summary.{Summary, Fits}
 use Rattle.model.specs.Pattern.{Pattern, arity, Result, ResultOfSome, Placement, Contained, ContainedIn, CounterExample}
 use Rattle.model.specs.Lists.{anyOf, allOf}
 use Rattle.model.specs.Embeddings.{imageIn, placements, isResult}
-use Rattle.model.specs.Canonical.{canonical, canonicalSpots, ownNodes, ownResult, passes}
+use Rattle.model.specs.Canonical.{canonical, ownResult, passes}
 use Rattle.model.specs.Quick.{quick}
 use Rattle.model.specs.Facts.{SummaryFacts, PatternFacts}
 use Rattle.model.specs.Demands.{SomeCounterExample, AllTrialsPass, SomeTrialFails}
-use Rattle.model.proofs.ListLaws.{true-or-false, not-both, any-intro, any-elim, all-intro, all-elim, all-counter}
+use Rattle.model.proofs.ListLaws.{true-or-false, not-both, any-intro, any-elim, all-elim, all-counter}
 use Rattle.model.proofs.Embeddings.{embeddings-exact}
 use Rattle.model.proofs.Results.{result-exact}
 use Rattle.model.proofs.Canonical.{canonical-laid, canonical-small}
-use Rattle.model.proofs.Containment.{TrialsPass, canonical-fits, canonical-result, contained-in-one, contained-in-some}
+use Rattle.model.proofs.Containment.{canonical-fits, canonical-result, contained-in-one, contained-in-some}
 use Rattle.model.proofs.Quick.{quick-passes}
 
 -- a result either is one or is none

@@ -1,27 +1,27 @@
 -- Demands 2 and 3, each sentence a theorem about the outcome of an accepted call, proved by citing the layers below.
 -- Assumes nothing.
-use Prim.Native.Nat.{ℕ, zero, suc, _+_, _≤_, _<_}
+use Prim.Native.Nat.{ℕ, _≤_, _<_}
 use mathlib.Core.Path.{_≡_, refl, sym, ap, _∙_, subst}
 use mathlib.Core.Bool.{Bool, true, false, true≢false}
-use mathlib.Core.Logic.{_⊎_, inl, inr, _↔_, Iff·trans, Iff·symm}
-use mathlib.Core.List.{List, [], _∷_, _++_, map, List·Memᴰ, List·Memᴰ·head, Memᴰ·append-right}
+use mathlib.Core.Logic.{_↔_, Iff·trans, Iff·symm}
+use mathlib.Core.List.{List, [], _++_, map, List·Memᴰ, List·Memᴰ·head, Memᴰ·append-right}
 use native.Mathlib.Omega.{arith}
 use native.Mathlib.Nat.{zero-add}
 use lib.Count.{ones}
 use lib.Dec.{eqb}
 use lib.ListN.{length, getD, take, length-map}
 use Rattle.model.specs.Lists.{upFrom}
-use Rattle.model.specs.Limits.{maxPattern, maxCanonical, minTable}
+use Rattle.model.specs.Limits.{maxPattern, maxCanonical}
 use Rattle.model.specs.Tree.{Document}
 use Rattle.model.specs.Summary.{Summary, Fits}
 use Rattle.model.specs.Pattern.{PatternRecord, Pattern, Result, AtPosition, PathOf, Contained, CounterExample}
-use Rattle.model.specs.Embeddings.{imageIn, placements, isResult, nodesAt, pathMask, pathCount}
+use Rattle.model.specs.Embeddings.{placements, isResult, nodesAt, pathMask, pathCount}
 use Rattle.model.specs.Fitting.{fits}
 use Rattle.model.specs.Canonical.{canonical, canonicalSpots, ownResult, passes, spotRecord}
-use Rattle.model.specs.Verdict.{Verdict, included, notIncluded, stopped, verdict, triedOf}
+use Rattle.model.specs.Verdict.{Verdict, included, notIncluded, stopped, verdict}
 use Rattle.model.specs.Bytes.{Case, caseOf, documentOf, listOf, encodeDocument, encodeCounted, writtenAtFront}
 use Rattle.model.specs.Questions.{selected, verdictRefusal, fitsRefusal, resultRefusal, nodesRefusal, pathsRefusal, layoutRefusal}
-use Rattle.model.specs.Calls.{VerdictOutcome, kindIncluded, kindNotIncluded, kindStopped, kindOf, shown, verdictAccepted, verdictCall, fitsCall, resultCall, NodesOutcome, nodesAccepted, nodesCall, PathsAnswer, pathsAccepted, pathsCall, LaidRecord, laidRecord, LayoutOutcome, layoutAccepted, layoutCall}
+use Rattle.model.specs.Calls.{kindIncluded, kindNotIncluded, kindStopped, kindOf, shown, verdictAccepted, verdictCall, fitsCall, resultCall, NodesOutcome, nodesAccepted, nodesCall, PathsAnswer, pathsAccepted, pathsCall, LaidRecord, laidRecord, LayoutOutcome, layoutAccepted, layoutCall}
 use Rattle.model.specs.Facts.{SummaryFacts, PatternFacts, CaseFacts}
 use Rattle.model.specs.Demands.{SomeCounterExample, AllTrialsPass, SomeTrialFails, Shown, Demand3}
 use Rattle.model.proofs.ListLaws.{by-bool, length-map-upFrom, getD-map-upFrom}
@@ -30,8 +30,8 @@ use Rattle.model.proofs.Masks.{has}
 use Rattle.model.proofs.Results.{result-exact, nodes-at-exact, nodes-at-ascending, path-mask-exact, path-mask-beyond, path-count-ones}
 use Rattle.model.proofs.Fitting.{fits-exact}
 use Rattle.model.proofs.Decision.{trial-fits, trial-result, trial-small, contained-exact, contained-or-counter, counter-exact, failing-trial}
-use Rattle.model.proofs.Verdict.{IsIncluded, IsNotIncluded, IsStopped, few-included, few-not-included, more-stopped, more-never-included, not-included-iff, stopped-iff, judge-not-included, verdict-judge, verdict-tried, take-mem}
-use Rattle.model.proofs.Questions.{VerdictFacts, accepted-verdict, accepted-fits, accepted-result, accepted-nodes, accepted-paths, accepted-layout, selected-facts}
+use Rattle.model.proofs.Verdict.{IsIncluded, IsNotIncluded, IsStopped, few-included, few-not-included, more-stopped, more-never-included, not-included-iff, stopped-iff, judge-not-included, verdict-judge, verdict-tried}
+use Rattle.model.proofs.Questions.{accepted-verdict, accepted-fits, accepted-result, accepted-nodes, accepted-paths, accepted-layout, selected-facts}
 use Rattle.model.proofs.Calls.{verdict-accepted, fits-accepted, result-accepted, nodes-accepted, paths-accepted, layout-accepted}
 use Rattle.model.proofs.Bytes.{front-none}
 

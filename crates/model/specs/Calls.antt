@@ -1,13 +1,12 @@
 -- The whole outcome of each of the six calls: answer, buffer or table afterwards, tally afterwards. A refusal holds its
 -- number and zero in every other field, and alters no lent byte, record or tally.
-use Prim.Native.Nat.{ℕ, zero, suc, _+_}
+use Prim.Native.Nat.{ℕ, _+_}
 use mathlib.Core.Bool.{Bool, true, false}
-use mathlib.Core.List.{List, [], _∷_, _++_, map}
+use mathlib.Core.List.{List, [], _++_, map}
 use lib.Dec.{eqb}
 use lib.ListN.{length, replicate}
 use Rattle.model.specs.Lists.{upFrom}
 use Rattle.model.specs.Limits.{maxPattern}
-use Rattle.model.specs.Tree.{Document}
 use Rattle.model.specs.Summary.{Summary, summaryLabel}
 use Rattle.model.specs.Pattern.{Pattern}
 use Rattle.model.specs.Embeddings.{isResult, nodesAt, pathMask, pathCount}

@@ -1,10 +1,10 @@
 -- What the questions establish of an accepted case: the facts that the theorems need.
 use Prim.Native.Nat.{ℕ, _≤_, _<_}
 use mathlib.Core.Path.{_≡_}
-use lib.ListN.{length, getD}
+use lib.ListN.{length}
 use Rattle.model.specs.Limits.{maxSummary, maxPattern, maxPosition}
 use Rattle.model.specs.Tree.{IsTree, Child}
-use Rattle.model.specs.Summary.{Summary, asDocument, summaryLabel, noSummaryRecord}
+use Rattle.model.specs.Summary.{Summary, asDocument, summaryLabel}
 use Rattle.model.specs.Pattern.{Pattern, IsPatternTree, arity, position, nodeAt}
 use Rattle.model.specs.Bytes.{Case}
 

@@ -1,11 +1,11 @@
 -- The test of fitting. proofs/Fitting.antt shows that it says exactly `Fits`.
-use Prim.Native.Nat.{ℕ, zero, suc, _<_}
+use Prim.Native.Nat.{ℕ, zero, suc}
 use mathlib.Core.Bool.{Bool, true, false, _&&_}
 use mathlib.Core.List.{List, [], _∷_, _++_}
 use lib.Dec.{eqb, ltb}
 use lib.ListN.{length, getD}
 use Rattle.model.specs.Lists.{upFrom, keep, anyOf, allOf, firstOf}
-use Rattle.model.specs.Tree.{Document, DocumentRecord, parentOf, labelOf}
+use Rattle.model.specs.Tree.{Document, DocumentRecord, parentOf}
 use Rattle.model.specs.Summary.{Summary, asDocument, summaryLabel, noSummaryRecord}
 use Rattle.model.specs.Embeddings.{childTest}
 

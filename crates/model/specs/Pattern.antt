@@ -1,5 +1,5 @@
 -- Conjunctive tree patterns (document 01: selections): embeddings, results, placements, inclusion.
-use Prim.Native.Nat.{ℕ, _<_, _+_}
+use Prim.Native.Nat.{ℕ, _<_}
 use mathlib.Core.Path.{_≡_}
 use mathlib.Core.Bool.{Bool, true, _||_}
 use mathlib.Core.List.{List, map, List·Memᴰ}

@@ -1,16 +1,15 @@
 -- Questions 1 to 13, one definition each, and the refusal of each of the six calls in the call's own order.
-use Prim.Native.Nat.{ℕ, _+_, _≤_, _<_}
-use mathlib.Core.Path.{_≡_}
+use Prim.Native.Nat.{ℕ, _+_}
 use mathlib.Core.Bool.{Bool, true, false, _&&_, _||_, not}
 use mathlib.Core.List.{List, [], _∷_, _++_}
 use lib.Dec.{eqb, leb, ltb}
 use lib.ListN.{length, getD}
 use Rattle.model.specs.Lists.{upFrom, anyOf, allOf, countOf, sameList}
 use Rattle.model.specs.Limits.{maxLimit, maxTally, minBuffer, minTable, maxSummary, maxPattern, maxDocument, maxPosition}
-use Rattle.model.specs.Tree.{Document, parentOf, labelOf, Child}
-use Rattle.model.specs.Summary.{Summary, noSummaryRecord, asDocument, summaryParent, summaryLabel}
+use Rattle.model.specs.Tree.{Document, parentOf, labelOf}
+use Rattle.model.specs.Summary.{Summary, noSummaryRecord, summaryParent, summaryLabel}
 use Rattle.model.specs.Pattern.{PatternRecord, Pattern, noPatternRecord, patternParent, position, arity}
-use Rattle.model.specs.Embeddings.{childTest, placements}
+use Rattle.model.specs.Embeddings.{placements}
 use Rattle.model.specs.Fitting.{parentRule}
 use Rattle.model.specs.Bytes.{Case, caseOf, documentOf, listOf, isWholeCase, isWholeDocument, isWholeList}
 

@@ -2,7 +2,7 @@
 -- other definition rests on it. Sets of the second pattern's nodes are functions to Bool. x is a summary node, n the position
 -- that the document node there holds or 0, acc the pattern nodes that its children offer.
 use Prim.Native.Nat.{ℕ, zero, suc}
-use mathlib.Core.Bool.{Bool, true, false, _&&_, _||_, not}
+use mathlib.Core.Bool.{Bool, false, _&&_, _||_, not}
 use mathlib.Core.List.{List, [], _∷_}
 use lib.Dec.{eqb, ltb}
 use lib.ListN.{length}

@@ -3,7 +3,7 @@ use Prim.Native.Nat.{ℕ, _<_}
 use mathlib.Core.Path.{_≡_}
 use mathlib.Core.List.{List, map}
 use lib.ListN.{length, getD}
-use Rattle.model.specs.Tree.{Rooted, DocumentRecord, Document, IsTree, parentOf, labelOf, Child, LabelPath}
+use Rattle.model.specs.Tree.{DocumentRecord, Document, IsTree, parentOf, labelOf, Child, LabelPath}
 
 -- an outline node: its parent's number, its label, and whether the edge from its parent is strong (1) or plain (0)
 pub record SummaryRecord : Type 0 where

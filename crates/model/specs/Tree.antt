@@ -1,6 +1,6 @@
 -- Rooted trees as tables of records, and what a document (document 01: volume) is. A finite rooted tree of labelled nodes
 -- is a table in which each node stands after its parent.
-use Prim.Native.Nat.{ℕ, zero, suc, _<_}
+use Prim.Native.Nat.{ℕ, _<_}
 use mathlib.Core.Path.{_≡_}
 use mathlib.Core.Bool.{Bool, true, false}
 use mathlib.Core.List.{List, [], _∷_}
