@@ -197,6 +197,12 @@ decoded true x y w e = ap tables e
 decoded false x y w e = absurd (false≢true w)
 
 -- a volume
+pub length-document : (W : Document) → length (encodeDocument W) ≡ 2 * (1 + 2 * length W)
+unfolding encodeDocument
+length-document W =
+    length-bytes (sectionFields documentFields W)
+    ∙ ap (λ (n : ℕ). 2 * n) (length-section documentRecordAt documentFields documentWidth document-readable W)
+
 pub document-back : (W : Document) → FitFields (sectionFields documentFields W) → documentOf (encodeDocument W) ≡ W
 unfolding documentOf encodeDocument
 document-back W h =

@@ -133,13 +133,15 @@ module _ (b : List ℕ) (s : ℕ) (l : List ℕ) (table : List LaidRecord) where
 
 -- the verdict's answer buffer, where what is shown fits 4,096 bytes
 pub verdict-length : (b : List ℕ) (L tally : ℕ) (buffer : List ℕ)
-    → length (shown (caseOf b .summary) (caseOf b .first) (verdict (caseOf b .summary) (caseOf b .first) (caseOf b .second) L)) ≤ minBuffer
+    → (verdictRefusal b L tally (length buffer) ≡ 0
+    → length (shown (caseOf b .summary) (caseOf b .first) (verdict (caseOf b .summary) (caseOf b .first) (caseOf b .second) L)) ≤ minBuffer)
     → length (verdictCall b L tally buffer .buffer) ≡ length buffer
 unfolding verdictAccepted
 verdict-length b L tally buffer fit =
     by-number (verdictRefusal b L tally (length buffer))
     (λ e.
     let large : minBuffer ≤ length buffer = accepted-verdict b L tally (length buffer) e .buffer in
+    let small = fit e in
     ap (λ (o : VerdictOutcome). length (o .buffer)) (verdict-accepted b L tally buffer e)
     ∙ front-length (shown (caseOf b .summary) (caseOf b .first) (verdict (caseOf b .summary) (caseOf b .first) (caseOf b .second) L)) buffer (omega arith))
     (λ f. ap (λ (o : VerdictOutcome). length (o .buffer)) (verdict-refused b L tally buffer f))
@@ -148,7 +150,7 @@ length-nodes : (P : Pattern) (W : Document) (p : ℕ) → length (nodesAt P W p)
 unfolding nodesAt
 length-nodes P W p = let k = length-keep (isAt P W p) (upFrom 0 (length W)) in let e = length-upFrom 0 (length W) in omega arith
 
-length-counted : (ns : List ℕ) → length (encodeCounted ns) ≡ 2 * suc (length ns)
+pub length-counted : (ns : List ℕ) → length (encodeCounted ns) ≡ 2 * suc (length ns)
 unfolding encodeCounted
 length-counted ns = length-bytes (length ns ∷ ns)
 
@@ -168,7 +170,7 @@ nodes-length b s w p buffer =
 
 -- the lent table, where the trial has at most 1,024 nodes
 pub layout-length : (b : List ℕ) (s : ℕ) (l : List ℕ) (table : List LaidRecord)
-    → length (canonicalSpots (caseOf b .summary) (selected (caseOf b) s) (listOf l)) ≤ minTable
+    → (layoutRefusal b s l (length table) ≡ 0 → length (canonicalSpots (caseOf b .summary) (selected (caseOf b) s) (listOf l)) ≤ minTable)
     → length (layoutCall b s l table .table) ≡ length table
 unfolding layoutAccepted
 layout-length b s l table fit =
@@ -177,6 +179,7 @@ layout-length b s l table fit =
     let S : Summary = caseOf b .summary in
     let spots : List Spot = canonicalSpots S (selected (caseOf b) s) (listOf l) in
     let large : minTable ≤ length table = accepted-layout b s l (length table) e .table in
+    let small = fit e in
     let count : length (map (laidRecord S) spots) ≡ length spots = length-map spots (laidRecord S) in
     ap (λ (o : LayoutOutcome). length (o .table)) (layout-accepted b s l table e) ∙ front-length (map (laidRecord S) spots) table (omega arith))
     (λ f. ap (λ (o : LayoutOutcome). length (o .table)) (layout-refused b s l table f))

@@ -1,6 +1,6 @@
 -- Demands 2 and 3, each sentence a theorem about the outcome of an accepted call, proved by citing the layers below.
 -- Assumes nothing.
-use Prim.Native.Nat.{ℕ, _≤_, _<_}
+use Prim.Native.Nat.{ℕ, suc, _+_, _*_, _≤_, _<_}
 use mathlib.Core.Path.{_≡_, refl, sym, ap, _∙_, subst}
 use mathlib.Core.Bool.{Bool, true, false, true≢false}
 use mathlib.Core.Logic.{_↔_, Iff·trans, Iff·symm}
@@ -9,15 +9,15 @@ use native.Mathlib.Omega.{arith}
 use native.Mathlib.Nat.{zero-add}
 use lib.Count.{ones}
 use lib.Dec.{eqb}
-use lib.ListN.{length, getD, take, length-map}
+use lib.ListN.{length, getD, take, length-append, length-map}
 use Rattle.model.specs.Lists.{upFrom}
-use Rattle.model.specs.Limits.{maxPattern, maxCanonical}
+use Rattle.model.specs.Limits.{maxPattern, maxPosition, maxCanonical, minBuffer}
 use Rattle.model.specs.Tree.{Document}
 use Rattle.model.specs.Summary.{Summary, Fits}
-use Rattle.model.specs.Pattern.{PatternRecord, Pattern, Result, AtPosition, PathOf, Contained, CounterExample}
-use Rattle.model.specs.Embeddings.{placements, isResult, nodesAt, pathMask, pathCount}
+use Rattle.model.specs.Pattern.{PatternRecord, Pattern, arity, returnNodes, Result, AtPosition, PathOf, Contained, CounterExample}
+use Rattle.model.specs.Embeddings.{imageIn, placements, isResult, nodesAt, pathMask, pathCount}
 use Rattle.model.specs.Fitting.{fits}
-use Rattle.model.specs.Canonical.{canonical, canonicalSpots, ownResult, passes, spotRecord}
+use Rattle.model.specs.Canonical.{canonical, canonicalSpots, ownNodes, ownResult, passes, spotRecord}
 use Rattle.model.specs.Verdict.{Verdict, included, notIncluded, stopped, verdict}
 use Rattle.model.specs.Bytes.{Case, caseOf, documentOf, listOf, encodeDocument, encodeCounted, writtenAtFront}
 use Rattle.model.specs.Questions.{selected, verdictRefusal, fitsRefusal, resultRefusal, nodesRefusal, pathsRefusal, layoutRefusal}
@@ -27,13 +27,14 @@ use Rattle.model.specs.Demands.{SomeCounterExample, AllTrialsPass, SomeT
 use Rattle.model.proofs.ListLaws.{by-bool, length-map-upFrom, getD-map-upFrom}
 use Rattle.model.proofs.Ascending.{Ascending}
 use Rattle.model.proofs.Masks.{has}
+use Rattle.model.proofs.ReturnNodes.{length-returnNodes}
 use Rattle.model.proofs.Results.{result-exact, nodes-at-exact, nodes-at-ascending, path-mask-exact, path-mask-beyond, path-count-ones}
 use Rattle.model.proofs.Fitting.{fits-exact}
 use Rattle.model.proofs.Decision.{trial-fits, trial-result, trial-small, contained-exact, contained-or-counter, counter-exact, failing-trial}
-use Rattle.model.proofs.Verdict.{IsIncluded, IsNotIncluded, IsStopped, few-included, few-not-included, more-stopped, more-never-included, not-included-iff, stopped-iff, judge-not-included, verdict-judge, verdict-tried}
+use Rattle.model.proofs.Verdict.{IsIncluded, IsNotIncluded, IsStopped, few-included, few-not-included, more-stopped, more-never-included, not-included-iff, stopped-iff, judge-not-included, included-or-not, not-or-stopped, verdict-judge, verdict-tried}
 use Rattle.model.proofs.Questions.{accepted-verdict, accepted-fits, accepted-result, accepted-nodes, accepted-paths, accepted-layout, selected-facts}
-use Rattle.model.proofs.Calls.{verdict-accepted, fits-accepted, result-accepted, nodes-accepted, paths-accepted, layout-accepted}
-use Rattle.model.proofs.Bytes.{front-none}
+use Rattle.model.proofs.Calls.{verdict-accepted, fits-accepted, result-accepted, nodes-accepted, paths-accepted, layout-accepted, length-counted, verdict-length, layout-length}
+use Rattle.model.proofs.Bytes.{front-none, length-document}
 
 -- ---- Demand 2: fits, results, nodes at a position and paths are told exactly by the definitions
 
@@ -253,3 +254,47 @@ pub demand-3 : (b : List ℕ) (L tally : ℕ) (buffer : List ℕ) → verdictRef
 demand-3 b L tally buffer e =
     let f = accepted-verdict b L tally (length buffer) e in
     subst (Demand3 (caseOf b) L tally buffer) (sym (verdict-accepted b L tally buffer e)) (accepted-demand (caseOf b) (f .case .facts) L tally buffer)
+
+-- ---- What is lent keeps its length: what a call writes fits
+
+-- at most 2 + 4 × 1,009 bytes of a volume and 2 + 2 × 8 of a result
+shown-small : (c : Case) → CaseFacts c → (L : ℕ) → length (shown (c .summary) (c .first) (verdict (c .summary) (c .first) (c .second) L)) ≤ minBuffer
+unfolding ownResult
+shown-small c f L = go (verdict (c .summary) (c .first) (c .second) L) refl
+  where
+    size : (n : ℕ) (es : List ℕ) → length (canonical (c .summary) (c .first) es) ≤ maxCanonical → length (shown (c .summary) (c .first) (notIncluded n es)) ≤ minBuffer
+    size n es h =
+        let W : Document = canonical (c .summary) (c .first) es in
+        let r : List ℕ = ownResult (c .summary) (c .first) es in
+        let a : length (encodeDocument W) ≡ 2 * (1 + 2 * length W) = length-document W in
+        let b : length (encodeCounted r) ≡ 2 * suc (length r) = length-counted r in
+        let k : length r ≡ arity (c .first) = length-map (returnNodes (c .first)) (imageIn (ownNodes (c .summary) (c .first) es)) ∙ length-returnNodes (c .first) in
+        let l : arity (c .first) ≤ maxPosition = f .arityBound in
+        rw (shown-trial (c .summary) (c .first) n es, length-append (encodeDocument W) (encodeCounted r)) (omega arith)
+
+    none : (v : Verdict) → (kindOf v ≡ kindNotIncluded → ⊥) → length (shown (c .summary) (c .first) v) ≤ minBuffer
+    none v h = rw (shown-nothing (c .summary) (c .first) v h) (omega arith)
+
+    go : (v : Verdict) → verdict (c .summary) (c .first) (c .second) L ≡ v → length (shown (c .summary) (c .first) v) ≤ minBuffer
+    go (included n) e = none (included n) (λ k. not-kind (kind-not-included (included n) .0 k))
+      where
+        not-kind : IsNotIncluded (included n) → ⊥
+        not-kind k = included-or-not (included n) (n, refl) k
+    go (notIncluded n es) e = size n es (shows c f L n es e .1)
+    go (stopped n) e = none (stopped n) (λ k. not-or-stopped (stopped n) (kind-not-included (stopped n) .0 k) (n, refl))
+
+pub verdict-keeps-length : (b : List ℕ) (L tally : ℕ) (buffer : List ℕ) → length (verdictCall b L tally buffer .buffer) ≡ length buffer
+verdict-keeps-length b L tally buffer =
+    verdict-length b L tally buffer (λ e. shown-small (caseOf b) (accepted-verdict b L tally (length buffer) e .case .facts) L)
+
+pub layout-keeps-length : (b : List ℕ) (s : ℕ) (l : List ℕ) (table : List LaidRecord) → length (layoutCall b s l table .table) ≡ length table
+unfolding canonical
+layout-keeps-length b s l table =
+    layout-length b s l table
+    (λ e.
+    let t = layout-told b s l table e in
+    let n : length (canonical (caseOf b .summary) (selected (caseOf b) s) (listOf l)) ≡ length (canonicalSpots (caseOf b .summary) (selected (caseOf b) s) (listOf l)) =
+    length-map (canonicalSpots (caseOf b .summary) (selected (caseOf b) s) (listOf l)) (spotRecord (caseOf b .summary)) in
+    let a = t .small in
+    let c = t .count in
+    omega arith)
