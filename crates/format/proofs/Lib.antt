@@ -1,0 +1,5 @@
+pub mod RangeLaws
+pub mod FrontLaws
+pub mod TableLaws
+pub mod ColumnLaws
+pub mod WriteLaws

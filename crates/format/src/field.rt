@@ -1,0 +1,21 @@
+// 16-bit fields of a lent slice, low byte first.
+
+ghost use mathlib.Core.Path.{_≡_};
+ghost use Prim.Native.Nat.{_+_, _*_, _<_};
+ghost use lib.ListN.{length};
+ghost use Rattle.model.specs.Bytes.{field as fieldOf};
+
+// A byte as a number.
+fn wide(x: u8) -> usize
+    ensures { λ r. ⌜ (r ≡ x) × (r < 256) ⌝ }
+{
+    x as usize
+}
+
+// Field i, which the slice holds whole.
+pub fn field(s: &[u8], i: usize) -> usize
+    requires { do ⌜ 2 * i + 1 < (← ⟦s.len()⟧) ⌝ }
+    ensures { λ r. ⌜ (r ≡ fieldOf (now (s .entry)) i) × (r < 65536) ⌝ }
+{
+    wide(s[2 * i]) + 256 * wide(s[2 * i + 1])
+}
