@@ -1,0 +1,453 @@
+//! Changes to a plan: those that break one question, and those that move a
+//! number to a bound where it is still accepted.
+
+use crate::plan::{least_length, questions, Plan, SelectionRow};
+use reference::records::{CASE_BYTES, OUTLINE_NODES, SELECTION_NODES, VOLUME_NODES};
+use reference::vectors::{IS_RESULT, LAYOUT, NODES_AT};
+
+const TALLY_MOST: u64 = 1_000_000_000_000;
+
+/// `question` is the one that the change breaks, 0 where it breaks none; some
+/// concern one call only. A change that does not find what it would alter
+/// leaves the plan alone.
+pub struct Change {
+    pub question: u64,
+    only: Option<u32>,
+    pub apply: Box<dyn Fn(&mut Plan)>,
+}
+
+impl Change {
+    /// Whether the call asks the question, or takes what is altered.
+    pub fn concerns(&self, call: u32) -> bool {
+        let asked = self.question == 0 || questions(call).contains(&self.question);
+        asked && self.only.is_none_or(|only| only == call)
+    }
+}
+
+fn change(question: u64, apply: impl Fn(&mut Plan) + 'static) -> Change {
+    Change {
+        question,
+        only: None,
+        apply: Box::new(apply),
+    }
+}
+
+fn change_of(call: u32, question: u64, apply: impl Fn(&mut Plan) + 'static) -> Change {
+    Change {
+        question,
+        only: Some(call),
+        apply: Box::new(apply),
+    }
+}
+
+/// Every change there is, small ones only: each vector stays short.
+pub fn changes() -> Vec<Change> {
+    let mut all = numbers();
+    all.extend(case_bytes());
+    all.extend(counts());
+    all.extend(outline_records());
+    for which in 0..2 {
+        all.extend(selection_records(which));
+        all.extend(positions(which));
+    }
+    all.extend(common_positions());
+    all.extend(volumes());
+    all.extend(lists());
+    all
+}
+
+/// Questions 1, 2, 9 and 12: limits, lengths, tallies, selections, positions.
+fn numbers() -> Vec<Change> {
+    let mut all = Vec::new();
+    for limit in [0, 1_000_001, 1 << 32, (1 << 32) + 1, u64::MAX] {
+        all.push(change(1, move |plan| plan.limit = limit));
+    }
+    for limit in [1, 2, 999_999, 1_000_000] {
+        all.push(change(0, move |plan| plan.limit = limit));
+    }
+    all.push(change(2, |plan| plan.length = least_length(plan.call) - 1));
+    all.push(change(2, |plan| plan.length = 0));
+    for more in [1, 4_096] {
+        all.push(change(0, move |plan| plan.length += more));
+    }
+    for over in [1, 2, 1_000_000] {
+        all.push(change(9, move |plan| {
+            plan.tally = TALLY_MOST.saturating_sub(plan.limit) + over
+        }));
+    }
+    all.push(change(9, |plan| plan.tally = u64::MAX));
+    all.push(change(9, |plan| plan.tally = u64::MAX - plan.limit));
+    all.push(change(9, |plan| {
+        plan.tally = (u64::MAX - plan.limit).wrapping_add(1)
+    }));
+    for under in [0, 1] {
+        all.push(change(0, move |plan| {
+            plan.tally = TALLY_MOST.saturating_sub(plan.limit + under)
+        }));
+    }
+    for selection in [0, 3, 257, 65_537, (1 << 32) + 1, u64::MAX] {
+        all.push(change(12, move |plan| plan.selection = selection));
+    }
+    for position in [0, 9, 257, 65_537, (1 << 32) + 1, u64::MAX] {
+        all.push(change_of(NODES_AT, 12, move |plan| {
+            plan.position = position
+        }));
+    }
+    all.push(change_of(NODES_AT, 12, |plan| {
+        plan.position = plan.positions() + 1
+    }));
+    all.push(change_of(NODES_AT, 0, |plan| plan.position = 1));
+    all.push(change_of(NODES_AT, 0, |plan| {
+        plan.position = plan.positions()
+    }));
+    for selection in [1, 2] {
+        all.push(change(0, move |plan| plan.selection = selection));
+    }
+    all
+}
+
+/// Question 3.
+fn case_bytes() -> Vec<Change> {
+    vec![
+        change(3, |plan| plan.case_ending.cut = usize::MAX),
+        change(3, |plan| plan.case_ending.cut = 1),
+        change(3, |plan| plan.case_ending.cut = 2),
+        change(3, |plan| plan.case_ending.cut = 8),
+        change(3, |plan| plan.case_ending.after = vec![0]),
+        change(3, |plan| plan.case_ending.after = vec![0, 0]),
+        change(3, |plan| plan.case_ending.after = vec![1; 8]),
+        change(3, |plan| plan.announced_more[2] = 1),
+        change(3, |plan| plan.announced_more[2] = u16::MAX),
+        change(3, |plan| plan.announced_more[0] = 40_000),
+        change(3, |plan| plan.announced_more[1] = 40_000),
+    ]
+}
+
+/// Question 3 and 4 at 65,536 bytes: long vectors, so kept apart.
+pub fn long_changes() -> Vec<Change> {
+    vec![
+        // Whole and not too long: 6 + 3 x 6 + 8,189 x 8 = 65,536.
+        change(4, |plan| long_case(plan, 3, 8_189)),
+        change(3, |plan| {
+            long_case(plan, 3, 8_189);
+            plan.case_ending.after = vec![0];
+        }),
+        // Whole but two bytes too long.
+        change(3, |plan| long_case(plan, 2, 8_190)),
+        change(3, |plan| fill_case(plan, CASE_BYTES)),
+        change(3, |plan| fill_case(plan, CASE_BYTES + 1)),
+    ]
+}
+
+fn long_case(plan: &mut Plan, outline: usize, first: usize) {
+    plan.outline.resize(outline, [0, 77, 0]);
+    plan.selections[0].resize(first, [0, 0, 0, 0]);
+    plan.selections[1].clear();
+}
+
+/// The case as it is, with zeros after it up to a length.
+fn fill_case(plan: &mut Plan, length: usize) {
+    plan.case_ending = Default::default();
+    let more = length.saturating_sub(plan.case_bytes().len());
+    plan.case_ending.after = vec![0; more];
+}
+
+/// Question 4, and the greatest counts accepted.
+fn counts() -> Vec<Change> {
+    let mut all = vec![
+        change(4, |plan| plan.outline.clear()),
+        change(4, |plan| grow_outline(plan, OUTLINE_NODES + 1)),
+        change(4, |plan| {
+            plan.outline.clear();
+            plan.selections = Default::default();
+        }),
+        change(0, |plan| grow_outline(plan, OUTLINE_NODES)),
+    ];
+    for which in 0..2 {
+        all.push(change(4, move |plan| plan.selections[which].clear()));
+        all.push(change(4, move |plan| {
+            grow_selection(plan, which, SELECTION_NODES + 1)
+        }));
+        all.push(change(0, move |plan| {
+            grow_selection(plan, which, SELECTION_NODES)
+        }));
+    }
+    all
+}
+
+/// More children of the root, with labels that none of the plans use there.
+fn grow_outline(plan: &mut Plan, size: usize) {
+    for number in plan.outline.len()..size {
+        plan.outline.push([0, 40_000 + number as u16, 0]);
+    }
+}
+
+/// More nodes that fit wherever the root does, so that a placement of the
+/// selection goes on, all of them at the first child of the outline's root.
+fn grow_selection(plan: &mut Plan, which: usize, size: usize) {
+    let more = size.saturating_sub(plan.selections[which].len());
+    plan.selections[which].extend(std::iter::repeat_n::<SelectionRow>([0, 0, 0, 0], more));
+    if plan.selection == which as u64 + 1 {
+        let child = (1..plan.outline.len())
+            .find(|&t| plan.outline[t][0] == 0)
+            .unwrap_or(0);
+        plan.placement
+            .extend(std::iter::repeat_n(child as u16, more));
+    }
+}
+
+/// Question 5 and 6.
+fn outline_records() -> Vec<Change> {
+    let field = |question, row: usize, field: usize, value: u16| {
+        change(question, move |plan: &mut Plan| {
+            if let Some(found) = plan.outline.get_mut(row) {
+                found[field] = value;
+            }
+        })
+    };
+    let mut all = vec![
+        field(5, 0, 0, 1),
+        field(5, 0, 0, u16::MAX),
+        field(5, 0, 1, 0),
+        field(5, 0, 2, 1),
+        field(5, 0, 2, 2),
+        field(5, 1, 0, 1),
+        field(5, 1, 0, 2),
+        field(5, 2, 0, 2),
+        field(5, 2, 0, u16::MAX),
+        field(5, 1, 1, 0),
+        field(5, 1, 2, 2),
+        field(5, 2, 2, 256),
+        field(5, 2, 2, u16::MAX),
+    ];
+    // The last record, so that a check that ends early is caught.
+    for (index, value) in [(0, u16::MAX), (1, 0), (2, 2)] {
+        all.push(change(5, move |plan| {
+            if let Some(row) = plan.outline.last_mut() {
+                row[index] = value;
+            }
+        }));
+    }
+    all.push(change(6, |plan| {
+        if let Some(&row) = plan.outline.get(1) {
+            plan.outline.push(row);
+        }
+    }));
+    all.push(change(6, |plan| {
+        if let Some(&[parent, label, _]) = plan.outline.last() {
+            plan.outline.push([parent, label, 1]);
+        }
+    }));
+    all.push(change(0, |plan| {
+        if let Some(row) = plan.outline.last_mut() {
+            row[1] = u16::MAX;
+        }
+    }));
+    all.push(change(0, |plan| {
+        for row in plan.outline.iter_mut().skip(1) {
+            row[2] = 1;
+        }
+    }));
+    all
+}
+
+/// Question 7, in one selection. Labels there are free.
+fn selection_records(which: usize) -> Vec<Change> {
+    let field = |question, row: usize, field: usize, value: u16| {
+        change(question, move |plan: &mut Plan| {
+            if let Some(found) = plan.selections[which].get_mut(row) {
+                found[field] = value;
+            }
+        })
+    };
+    let mut all = vec![
+        field(7, 0, 0, 1),
+        field(7, 0, 0, u16::MAX),
+        field(7, 0, 2, 1),
+        field(7, 0, 2, 2),
+        field(7, 0, 3, 9),
+        field(7, 1, 0, 1),
+        field(7, 1, 0, 2),
+        field(7, 1, 0, u16::MAX),
+        field(7, 1, 2, 2),
+        field(7, 1, 2, 256),
+        field(7, 1, 3, 9),
+        field(7, 1, 3, 256),
+        field(7, 1, 3, u16::MAX),
+        field(0, 0, 1, 0),
+    ];
+    for (index, value) in [(0, u16::MAX), (2, 2), (3, 9)] {
+        all.push(change(7, move |plan| {
+            if let Some(row) = plan.selections[which].last_mut() {
+                row[index] = value;
+            }
+        }));
+    }
+    all
+}
+
+/// Question 8, broken in one selection.
+fn positions(which: usize) -> Vec<Change> {
+    let each = |question, renumber: fn(u16) -> u16| {
+        change(question, move |plan: &mut Plan| {
+            for row in &mut plan.selections[which] {
+                row[3] = renumber(row[3]);
+            }
+        })
+    };
+    let mut all = vec![
+        each(8, |_| 0),
+        each(8, |p| if p == 1 { 0 } else { p }),
+        each(8, |p| if p == 1 { 8 } else { p }),
+        each(8, |p| if p == 2 || p == 1 { p + 1 } else { p }),
+        each(8, |p| if p > 0 { 1 } else { 2 }),
+        each(8, |p| {
+            if p == 2 {
+                1
+            } else if p == 1 {
+                3
+            } else {
+                p
+            }
+        }),
+    ];
+    // One more, or one fewer, than the other selection has.
+    all.push(change(8, move |plan| {
+        let most = plan.selections[which]
+            .iter()
+            .map(|row| row[3])
+            .max()
+            .unwrap_or(0);
+        match plan.selections[which].iter_mut().find(|row| row[3] == 0) {
+            Some(row) if most < 8 => row[3] = most + 1,
+            _ => plan.selections[which].iter_mut().for_each(|row| row[3] = 0),
+        }
+    }));
+    all.push(change(8, move |plan| {
+        let most = plan.selections[which]
+            .iter()
+            .map(|row| row[3])
+            .max()
+            .unwrap_or(0);
+        for row in plan.selections[which]
+            .iter_mut()
+            .filter(|row| row[3] == most)
+        {
+            row[3] = 0;
+        }
+    }));
+    all
+}
+
+/// Question 8, broken alike in both selections.
+fn common_positions() -> Vec<Change> {
+    let each = |renumber: fn(u16) -> u16| {
+        change(8, move |plan: &mut Plan| {
+            for row in plan.selections.iter_mut().flatten() {
+                row[3] = renumber(row[3]);
+            }
+        })
+    };
+    vec![
+        each(|_| 0),
+        each(|p| if p == 1 { 8 } else { p }),
+        each(|p| if p == 1 { 2 } else { p }),
+    ]
+}
+
+/// Question 10.
+fn volumes() -> Vec<Change> {
+    let field = |row: usize, field: usize, value: u16| {
+        change(10, move |plan: &mut Plan| match plan.volume.get_mut(row) {
+            Some(found) => found[field] = value,
+            None => plan.volume.clear(),
+        })
+    };
+    vec![
+        change(10, |plan| plan.volume_ending.cut = usize::MAX),
+        change(10, |plan| plan.volume_ending.cut = 1),
+        change(10, |plan| plan.volume_ending.cut = 2),
+        change(10, |plan| plan.volume_ending.cut = 4),
+        change(10, |plan| plan.volume_ending.after = vec![0]),
+        change(10, |plan| plan.volume_ending.after = vec![0, 0]),
+        change(10, |plan| plan.volume_ending.after = vec![1; 4]),
+        change(10, |plan| plan.announced_more[3] = 1),
+        change(10, |plan| plan.announced_more[3] = u16::MAX),
+        change(10, |plan| plan.volume.clear()),
+        change(10, |plan| plan.volume.resize(VOLUME_NODES + 1, [0, 2])),
+        change(0, |plan| plan.volume.resize(VOLUME_NODES, [0, 2])),
+        field(0, 0, 1),
+        field(0, 1, 0),
+        field(1, 0, 1),
+        field(1, 0, 2),
+        field(1, 0, u16::MAX),
+        field(2, 1, 0),
+        change(10, |plan| {
+            if let Some(row) = plan.volume.last_mut() {
+                row[1] = 0;
+            }
+        }),
+        change(10, |plan| {
+            let count = plan.volume.len() as u16;
+            if let Some(row) = plan.volume.last_mut() {
+                row[0] = count;
+            }
+        }),
+        change(0, |plan| {
+            if let Some(row) = plan.volume.last_mut() {
+                row[1] = u16::MAX;
+            }
+        }),
+    ]
+}
+
+/// Question 11 or 13, as the call's list is a result or a placement.
+fn lists() -> Vec<Change> {
+    let mut all = Vec::new();
+    for (question, call) in [(11, IS_RESULT), (13, LAYOUT)] {
+        let on = move |apply: fn(&mut Plan)| change_of(call, question, apply);
+        all.push(on(|plan| plan.list_mut().clear()));
+        all.push(on(|plan| {
+            plan.list_mut().pop();
+        }));
+        all.push(on(|plan| plan.list_mut().push(0)));
+        all.push(on(|plan| plan.list_ending.cut = 1));
+        all.push(on(|plan| plan.list_ending.after = vec![0]));
+        all.push(on(|plan| {
+            plan.list_mut()
+                .iter_mut()
+                .for_each(|field| *field = u16::MAX)
+        }));
+        all.push(on(|plan| {
+            let bound = if plan.call == LAYOUT {
+                plan.outline.len()
+            } else {
+                plan.volume.len()
+            };
+            if let Some(field) = plan.list_mut().last_mut() {
+                *field = bound as u16;
+            }
+        }));
+        all.push(on(|plan| {
+            if let Some(field) = plan.list_mut().first_mut() {
+                *field = 1_024;
+            }
+        }));
+    }
+    all.push(change(0, |plan| {
+        let last = plan.volume.len().saturating_sub(1) as u16;
+        plan.result.iter_mut().for_each(|field| *field = last);
+    }));
+    // A number that is a node's, but not where this selection node may go.
+    all.push(change(13, |plan| {
+        plan.placement.iter_mut().for_each(|field| *field = 1)
+    }));
+    all.push(change(13, |plan| {
+        if let Some(field) = plan.placement.last_mut().filter(|field| **field != 0) {
+            *field = 0;
+        } else {
+            plan.placement.push(0);
+        }
+    }));
+    all
+}

@@ -1,0 +1,58 @@
+//! `generate boundaries`, `generate random SEED COUNT` and
+//! `generate cases SEED COUNT` write test vectors to standard output.
+
+#![forbid(unsafe_code)]
+
+mod boundaries;
+mod cases;
+mod changes;
+#[cfg(test)]
+mod meaning;
+mod plan;
+mod prng;
+mod random;
+mod trees;
+
+use reference::vectors::Vector;
+use std::io::{self, Write};
+use std::process::ExitCode;
+
+const USAGE: &str = "usage: generate boundaries
+       generate random SEED COUNT
+       generate cases SEED COUNT";
+
+fn main() -> ExitCode {
+    let words: Vec<String> = std::env::args().skip(1).collect();
+    let words: Vec<&str> = words.iter().map(String::as_str).collect();
+    let vectors = match words[..] {
+        ["boundaries"] => Some(boundaries::boundaries()),
+        ["random", seed, count] => seeded(seed, count, random::random),
+        ["cases", seed, count] => seeded(seed, count, cases::cases),
+        _ => None,
+    };
+    match vectors {
+        Some(vectors) => write(&vectors),
+        None => {
+            eprintln!("{USAGE}");
+            ExitCode::FAILURE
+        }
+    }
+}
+
+fn seeded(seed: &str, count: &str, make: fn(u64, usize) -> Vec<Vector>) -> Option<Vec<Vector>> {
+    Some(make(seed.parse().ok()?, count.parse().ok()?))
+}
+
+fn write(vectors: &[Vector]) -> ExitCode {
+    let mut bytes = Vec::new();
+    for vector in vectors {
+        vector.write(&mut bytes);
+    }
+    match io::stdout().write_all(&bytes) {
+        Ok(()) => ExitCode::SUCCESS,
+        Err(error) => {
+            eprintln!("{error}");
+            ExitCode::FAILURE
+        }
+    }
+}

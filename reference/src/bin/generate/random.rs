@@ -1,0 +1,244 @@
+//! Random calls, accepted and nearly accepted.
+
+use crate::changes::{changes, Change};
+use crate::plan::{least_length, Plan, SelectionRow, VolumeRow, CALLS};
+use crate::prng::Prng;
+use crate::trees::{self, Freedom};
+use reference::vectors::{Vector, LAYOUT, VERDICT};
+
+/// Verdicts that would take more trials than this get a limit below it, so
+/// that thousands of vectors take seconds.
+const TRIALS_MOST: u64 = 2_000;
+
+pub fn random(seed: u64, count: usize) -> Vec<Vector> {
+    let mut prng = Prng::new(seed);
+    let changes = changes();
+    (0..count).map(|_| one(&mut prng, &changes)).collect()
+}
+
+fn one(prng: &mut Prng, changes: &[Change]) -> Vector {
+    let call = CALLS[prng.below(CALLS.len())];
+    let mut plan = selections(prng);
+    plan.call = call;
+    plan.length = least_length(call) + [0, 0, 1, 904][prng.below(4)];
+    plan.selection = prng.between(1, 2) as u64;
+    plan.position = prng.between(1, plan.positions() as usize) as u64;
+    plan.volume = volume(prng, &plan);
+    plan.result = result(prng, &plan);
+    plan.placement = placement(prng, &plan);
+    plan.tally = [0, prng.next() % 1_000_000, prng.next() % 999_999_000_000][prng.below(3)];
+    if call == VERDICT {
+        plan.limit = limit(prng, &plan);
+    }
+    if prng.percent(12) {
+        let concerned: Vec<&Change> = changes.iter().filter(|c| c.concerns(call)).collect();
+        if let Some(change) = prng.one_of(&concerned) {
+            let limit = plan.limit;
+            (change.apply)(&mut plan);
+            // A greater limit could make an accepted verdict long.
+            if change.question == 0 {
+                plan.limit = plan.limit.min(limit);
+            }
+        }
+    }
+    let mut vector = plan.vector();
+    if prng.percent(6) {
+        spoil_bytes(prng, &mut vector);
+    }
+    vector
+}
+
+/// An outline and two selections with positions, the second drawn in one of
+/// several ways from the first.
+pub fn selections(prng: &mut Prng) -> Plan {
+    let size = match prng.below(5) {
+        0 => prng.between(1, 3),
+        1 | 2 => prng.between(4, 12),
+        3 => prng.between(13, 63),
+        _ => 64,
+    };
+    let outline = trees::outline(prng, size);
+    let size = selection_size(prng);
+    let freedom = Freedom::random(prng);
+    let mut first = trees::selection(prng, &outline, size, freedom);
+    let k = prng.between(1, first.len().min(8));
+    trees::hold_positions(prng, &mut first, k);
+    let second = match prng.below(5) {
+        0 => {
+            let size = selection_size(prng).max(k);
+            let freedom = Freedom::random(prng);
+            let mut rows = trees::selection(prng, &outline, size, freedom);
+            trees::hold_positions(prng, &mut rows, k);
+            rows
+        }
+        1 => trees::strengthen(prng, &first, &outline),
+        2 => {
+            let weak = trees::weaken(prng, &first);
+            trees::strengthen(prng, &weak, &outline)
+        }
+        _ => trees::weaken(prng, &first),
+    };
+    let second = if prng.percent(50) {
+        trees::reorder(prng, &second)
+    } else {
+        second
+    };
+    let selections = if prng.percent(15) {
+        [second, first]
+    } else {
+        [first, second]
+    };
+    Plan {
+        outline,
+        selections,
+        ..Plan::default()
+    }
+}
+
+fn selection_size(prng: &mut Prng) -> usize {
+    match prng.below(4) {
+        0 => prng.between(1, 2),
+        1 | 2 => prng.between(2, 8),
+        _ => prng.between(9, 16),
+    }
+}
+
+fn chosen(plan: &Plan) -> &[SelectionRow] {
+    &plan.selections[if plan.selection == 2 { 1 } else { 0 }]
+}
+
+fn outline_volume(plan: &Plan) -> Vec<VolumeRow> {
+    plan.outline
+        .iter()
+        .map(|&[parent, label, _]| [parent, label])
+        .collect()
+}
+
+fn volume(prng: &mut Prng, plan: &Plan) -> Vec<VolumeRow> {
+    let size = match prng.below(6) {
+        0 => prng.between(1, 3),
+        1 | 2 => prng.between(4, 20),
+        3 => prng.between(21, 200),
+        4 => prng.between(201, 1_023),
+        _ => 1_024,
+    };
+    match prng.below(6) {
+        0 => trees::wild_volume(prng, &plan.outline, size),
+        1 => {
+            let mut rows = trees::volume(prng, &plan.outline, size);
+            trees::spoil_volume(prng, &plan.outline, &mut rows);
+            rows
+        }
+        2 => trees::volume(prng, &plan.outline, size),
+        _ => around_embedding(prng, plan, size),
+    }
+}
+
+/// A fitting volume in which the chosen selection has results, if it has a
+/// placement: a chain of new nodes per selection node, then more.
+pub fn around_embedding(prng: &mut Prng, plan: &Plan, size: usize) -> Vec<VolumeRow> {
+    let selection = chosen(plan);
+    let Some(places) = trees::embedding(prng, selection, &outline_volume(plan)) else {
+        return trees::volume(prng, &plan.outline, size);
+    };
+    let mut nodes = vec![(0, 0)];
+    let mut own = vec![0];
+    for q in 1..selection.len() {
+        let parent = usize::from(selection[q][0]);
+        let mut chain = Vec::new();
+        let mut t = places[q];
+        while t != places[parent] {
+            chain.push(t);
+            t = usize::from(plan.outline[t][0]);
+        }
+        let mut above = own[parent];
+        for &t in chain.iter().rev() {
+            nodes.push((above, t));
+            above = nodes.len() - 1;
+        }
+        own.push(above);
+    }
+    trees::grow_volume(prng, &plan.outline, nodes, size)
+}
+
+/// Often a result, often one with a node changed, sometimes any nodes.
+pub fn result(prng: &mut Prng, plan: &Plan) -> Vec<u16> {
+    let k = plan.positions() as usize;
+    let any = |prng: &mut Prng| prng.below(plan.volume.len()) as u16;
+    let images = trees::embedding(prng, chosen(plan), &plan.volume);
+    let mut list: Vec<u16> = match images.filter(|_| prng.percent(85)) {
+        Some(images) => (1..=k)
+            .filter_map(|p| chosen(plan).iter().position(|row| usize::from(row[3]) == p))
+            .map(|q| images[q] as u16)
+            .collect(),
+        None => (0..k).map(|_| any(prng)).collect(),
+    };
+    if prng.percent(40) {
+        // Another result's node at one position is the subtler change.
+        let other = trees::embedding(prng, chosen(plan), &plan.volume);
+        let p = prng.below(list.len());
+        let holder = chosen(plan)
+            .iter()
+            .position(|row| usize::from(row[3]) == p + 1);
+        list[p] = match (other, holder) {
+            (Some(images), Some(q)) if prng.percent(60) => images[q] as u16,
+            _ => any(prng),
+        };
+    }
+    list
+}
+
+/// Mostly a placement, sometimes one with a number changed.
+fn placement(prng: &mut Prng, plan: &Plan) -> Vec<u16> {
+    let any = |prng: &mut Prng| prng.below(plan.outline.len()) as u16;
+    let found = trees::embedding(prng, chosen(plan), &outline_volume(plan));
+    let mut list: Vec<u16> = match found {
+        Some(places) => places.iter().map(|&t| t as u16).collect(),
+        None => chosen(plan).iter().map(|_| any(prng)).collect(),
+    };
+    if prng.percent(15) {
+        let q = prng.below(list.len());
+        list[q] = any(prng);
+    }
+    list
+}
+
+/// A limit around the answer's own rank, or anything that is not too long.
+fn limit(prng: &mut Prng, plan: &Plan) -> u64 {
+    let mut answer = [0; 4_096];
+    let got = reference::verdict(&plan.case_bytes(), TRIALS_MOST, &mut 0, &mut answer);
+    let around = [got.tried, got.tried.saturating_sub(1).max(1), got.tried + 1][prng.below(3)];
+    match prng.below(4) {
+        0 => 1 + prng.next() % 10,
+        1 => 1 + prng.next() % TRIALS_MOST,
+        2 => around.clamp(1, TRIALS_MOST),
+        _ if got.kind != reference::calls::STOPPED => 1_000_000,
+        _ => TRIALS_MOST,
+    }
+}
+
+/// A byte or two changed, cut or added anywhere. The limit is lowered, since
+/// what is still accepted may have many more placements.
+fn spoil_bytes(prng: &mut Prng, vector: &mut Vector) {
+    if vector.call == VERDICT {
+        vector.limit = vector.limit.min(TRIALS_MOST);
+    }
+    let list = vector.call == LAYOUT && prng.percent(50);
+    let bytes = match prng.below(3) {
+        _ if list => &mut vector.list,
+        0 if !vector.volume.is_empty() => &mut vector.volume,
+        1 if !vector.list.is_empty() => &mut vector.list,
+        _ => &mut vector.case,
+    };
+    for _ in 0..prng.between(1, 2) {
+        let at = prng.below(bytes.len());
+        let value = [0, 1, 2, 255, prng.next() as u8][prng.below(5)];
+        match prng.below(6) {
+            0 => bytes.insert(at, value),
+            1 if !bytes.is_empty() => drop(bytes.remove(at)),
+            2 => bytes.truncate(at),
+            _ if !bytes.is_empty() => bytes[at] = value,
+            _ => {}
+        }
+    }
+}

@@ -1,0 +1,410 @@
+//! The six calls, each with its questions in the order document 01 lists them.
+//!
+//! "A refusal holds its number and zero in every other field. No lent byte,
+//! record or tally is altered."
+
+use crate::embedding::{has, is_embedding, Shape};
+use crate::records::{
+    ask, holder, read_case, read_list, read_volume, Case, OutlineNode, SelectionNode, VolumeNode,
+};
+use crate::trials::{each_placement, lay_out, outline_as_volume, strong_children, Trial};
+
+const LIMIT: u64 = 1_000_000;
+const TALLY: u64 = 1_000_000_000_000;
+const ANSWER_BYTES: usize = 4_096;
+const TABLE_RECORDS: usize = 1_024;
+
+pub const NONE: u64 = 0;
+pub const INCLUDED: u64 = 1;
+pub const NOT_INCLUDED: u64 = 2;
+pub const STOPPED: u64 = 3;
+
+/// `kind` is 0 none (refused), 1 included, 2 not included, 3 stopped.
+#[derive(Clone, Copy, Debug, Default, PartialEq, Eq)]
+pub struct VerdictAnswer {
+    pub refused: u64,
+    pub kind: u64,
+    pub tried: u64,
+}
+
+#[derive(Clone, Copy, Debug, Default, PartialEq, Eq)]
+pub struct TestAnswer {
+    pub refused: u64,
+    pub holds: bool,
+}
+
+#[derive(Clone, Copy, Debug, Default, PartialEq, Eq)]
+pub struct CountAnswer {
+    pub refused: u64,
+    pub count: u64,
+}
+
+/// "Sixteen 64-bit masks, bit i for outline node i, and for each how many
+/// paths the node may take; entries past the last node are 0."
+#[derive(Clone, Copy, Debug, Default, PartialEq, Eq)]
+pub struct PathsAnswer {
+    pub refused: u64,
+    pub masks: [u64; 16],
+    pub counts: [u64; 16],
+}
+
+/// "node records (parent, outline node, label)"
+#[derive(Clone, Copy, Debug, Default, PartialEq, Eq)]
+pub struct NodeRecord {
+    pub parent: u16,
+    pub outline: u16,
+    pub label: u16,
+}
+
+/// Verdict. Questions 1 to 9.
+pub fn verdict(case: &[u8], limit: u64, tally: &mut u64, answer: &mut [u8]) -> VerdictAnswer {
+    let case = match verdict_questions(case, limit, *tally, answer.len()) {
+        Ok(case) => case,
+        Err(refused) => {
+            return VerdictAnswer {
+                refused,
+                ..Default::default()
+            }
+        }
+    };
+    let (kind, tried, failed) = judge(&case, limit);
+    if let Some(trial) = failed {
+        write_trial(&case, &trial, answer);
+    }
+    // "it grows by tried with each verdict"
+    *tally += tried;
+    VerdictAnswer {
+        refused: 0,
+        kind,
+        tried,
+    }
+}
+
+/// Fits. Questions 3 to 8, 10.
+pub fn fits(case: &[u8], volume: &[u8]) -> TestAnswer {
+    match fits_questions(case, volume) {
+        Ok((case, volume)) => TestAnswer {
+            refused: 0,
+            holds: volume_fits(&case.outline, &volume),
+        },
+        Err(refused) => TestAnswer {
+            refused,
+            ..Default::default()
+        },
+    }
+}
+
+/// Is it a result. Questions 3 to 8, 10, 12, 11. Whether the volume fits is
+/// not asked.
+pub fn is_result(case: &[u8], selection: u64, volume: &[u8], list: &[u8]) -> TestAnswer {
+    match result_questions(case, selection, volume, list) {
+        Ok((selection, volume, list)) => TestAnswer {
+            refused: 0,
+            holds: Shape::new(&selection).is_result(&volume, &list),
+        },
+        Err(refused) => TestAnswer {
+            refused,
+            ..Default::default()
+        },
+    }
+}
+
+/// Nodes at a position in any result, "written ascending after their count to
+/// the front of the answer buffer". Questions 2 to 8, 10, 12.
+pub fn nodes_at(
+    case: &[u8],
+    selection: u64,
+    volume: &[u8],
+    position: u64,
+    answer: &mut [u8],
+) -> CountAnswer {
+    match nodes_questions(case, selection, volume, position, answer.len()) {
+        Ok((selection, volume, holder)) => {
+            let images = Shape::new(&selection).images(&volume);
+            let nodes: Vec<usize> = (0..volume.len())
+                .filter(|&v| has(images[v], holder))
+                .collect();
+            let mut at = 0;
+            put(answer, &mut at, nodes.len());
+            for &v in &nodes {
+                put(answer, &mut at, v);
+            }
+            CountAnswer {
+                refused: 0,
+                count: nodes.len() as u64,
+            }
+        }
+        Err(refused) => CountAnswer {
+            refused,
+            ..Default::default()
+        },
+    }
+}
+
+/// Paths of each node: "those it takes in some placement". Questions 3 to 8, 12.
+pub fn paths(case: &[u8], selection: u64) -> PathsAnswer {
+    let mut answer = PathsAnswer::default();
+    match paths_questions(case, selection) {
+        Ok((case, selection)) => {
+            let images = Shape::new(&selection).images(&outline_as_volume(&case.outline));
+            for q in 0..selection.len() {
+                for (t, &taken) in images.iter().enumerate() {
+                    if has(taken, q) {
+                        answer.masks[q] |= 1 << t;
+                    }
+                }
+                answer.counts[q] = u64::from(answer.masks[q].count_ones());
+            }
+        }
+        Err(refused) => answer.refused = refused,
+    }
+    answer
+}
+
+/// Lay out a trial: "The volume fills the front, the rest is untouched; the
+/// node count is the result." Questions 2 to 8, 12, 13.
+pub fn layout(
+    case: &[u8],
+    selection: u64,
+    placement_list: &[u8],
+    table: &mut [NodeRecord],
+) -> CountAnswer {
+    match layout_questions(case, selection, placement_list, table.len()) {
+        Ok((case, selection, placement)) => {
+            let nodes = lay_out(&case.outline, &selection, &placement).nodes;
+            for (record, node) in table.iter_mut().zip(&nodes) {
+                *record = NodeRecord {
+                    parent: node.parent as u16,
+                    outline: node.outline as u16,
+                    label: case.outline[node.outline].label,
+                };
+            }
+            CountAnswer {
+                refused: 0,
+                count: nodes.len() as u64,
+            }
+        }
+        Err(refused) => CountAnswer {
+            refused,
+            ..Default::default()
+        },
+    }
+}
+
+/// The verdict's refusal alone, 0 where it is accepted; so for each call.
+pub fn verdict_refusal(case: &[u8], limit: u64, tally: u64, answer_len: usize) -> u64 {
+    refusal(verdict_questions(case, limit, tally, answer_len))
+}
+
+pub fn fits_refusal(case: &[u8], volume: &[u8]) -> u64 {
+    refusal(fits_questions(case, volume))
+}
+
+pub fn result_refusal(case: &[u8], selection: u64, volume: &[u8], list: &[u8]) -> u64 {
+    refusal(result_questions(case, selection, volume, list))
+}
+
+pub fn nodes_refusal(
+    case: &[u8],
+    selection: u64,
+    volume: &[u8],
+    position: u64,
+    answer_len: usize,
+) -> u64 {
+    refusal(nodes_questions(
+        case, selection, volume, position, answer_len,
+    ))
+}
+
+pub fn paths_refusal(case: &[u8], selection: u64) -> u64 {
+    refusal(paths_questions(case, selection))
+}
+
+pub fn layout_refusal(case: &[u8], selection: u64, placement_list: &[u8], table_len: usize) -> u64 {
+    refusal(layout_questions(case, selection, placement_list, table_len))
+}
+
+fn refusal<T>(questions: Result<T, u64>) -> u64 {
+    questions.err().unwrap_or(0)
+}
+
+fn verdict_questions(case: &[u8], limit: u64, tally: u64, answer_len: usize) -> Result<Case, u64> {
+    ask(1, (1..=LIMIT).contains(&limit))?;
+    ask(2, answer_len >= ANSWER_BYTES)?;
+    let case = read_case(case)?;
+    // A sum past 64 bits is past the bound too.
+    ask(9, tally.checked_add(limit).is_some_and(|sum| sum <= TALLY))?;
+    Ok(case)
+}
+
+fn fits_questions(case: &[u8], volume: &[u8]) -> Result<(Case, Vec<VolumeNode>), u64> {
+    Ok((read_case(case)?, read_volume(volume)?))
+}
+
+type ResultInput = (Vec<SelectionNode>, Vec<VolumeNode>, Vec<usize>);
+
+fn result_questions(
+    case: &[u8],
+    selection: u64,
+    volume: &[u8],
+    list: &[u8],
+) -> Result<ResultInput, u64> {
+    let case = read_case(case)?;
+    let volume = read_volume(volume)?;
+    let selection = chosen(&case, selection)?;
+    let list = read_list(list).ok_or(11u64)?;
+    ask(
+        11,
+        list.len() == case.positions && list.iter().all(|&v| v < volume.len()),
+    )?;
+    Ok((selection, volume, list))
+}
+
+type NodesInput = (Vec<SelectionNode>, Vec<VolumeNode>, usize);
+
+fn nodes_questions(
+    case: &[u8],
+    selection: u64,
+    volume: &[u8],
+    position: u64,
+    answer_len: usize,
+) -> Result<NodesInput, u64> {
+    ask(2, answer_len >= ANSWER_BYTES)?;
+    let case = read_case(case)?;
+    let volume = read_volume(volume)?;
+    let selection = chosen(&case, selection)?;
+    ask(12, (1..=case.positions as u64).contains(&position))?;
+    let holder = holder(&selection, position as usize).ok_or(12u64)?;
+    Ok((selection, volume, holder))
+}
+
+fn paths_questions(case: &[u8], selection: u64) -> Result<(Case, Vec<SelectionNode>), u64> {
+    let case = read_case(case)?;
+    let selection = chosen(&case, selection)?;
+    Ok((case, selection))
+}
+
+type LayoutInput = (Case, Vec<SelectionNode>, Vec<usize>);
+
+fn layout_questions(
+    case: &[u8],
+    selection: u64,
+    list: &[u8],
+    table_len: usize,
+) -> Result<LayoutInput, u64> {
+    ask(2, table_len >= TABLE_RECORDS)?;
+    let case = read_case(case)?;
+    let selection = chosen(&case, selection)?;
+    let list = read_list(list).ok_or(13u64)?;
+    ask(
+        13,
+        is_embedding(&selection, &outline_as_volume(&case.outline), &list),
+    )?;
+    Ok((case, selection, list))
+}
+
+/// Question 12, as far as it is about the selection.
+fn chosen(case: &Case, selection: u64) -> Result<Vec<SelectionNode>, u64> {
+    match selection {
+        1 => Ok(case.selections[0].clone()),
+        2 => Ok(case.selections[1].clone()),
+        _ => Err(12),
+    }
+}
+
+/// The kind, how many were tried, and the earliest trial that does not pass.
+fn judge(case: &Case, limit: u64) -> (u64, u64, Option<Trial>) {
+    let [first, second] = &case.selections;
+    let second = Shape::new(second);
+    let (mut kind, mut tried, mut failed) = (INCLUDED, 0, None);
+    each_placement(&case.outline, first, |placement| {
+        if tried == limit {
+            // "the first L all pass and there are more"
+            kind = STOPPED;
+            return false;
+        }
+        tried += 1;
+        let trial = lay_out(&case.outline, first, placement);
+        if passes(case, &trial, &second) {
+            return true;
+        }
+        kind = NOT_INCLUDED;
+        failed = Some(trial);
+        false
+    });
+    (kind, tried, failed)
+}
+
+/// "A trial passes if the first selection's own nodes at positions 1 to k form
+/// a result of the second."
+fn passes(case: &Case, trial: &Trial, second: &Shape) -> bool {
+    let volume: Vec<VolumeNode> = trial
+        .nodes
+        .iter()
+        .map(|node| VolumeNode {
+            parent: node.parent,
+            label: case.outline[node.outline].label,
+        })
+        .collect();
+    second.is_result(&volume, &own_result(case, trial))
+}
+
+/// The first selection's own nodes at positions 1 to k.
+fn own_result(case: &Case, trial: &Trial) -> Vec<usize> {
+    (1..=case.positions)
+        .filter_map(|position| holder(&case.selections[0], position))
+        .map(|q| trial.own[q])
+        .collect()
+}
+
+/// "'Not included' writes the volume's section to the front of the answer
+/// buffer. The result follows from the byte after the last record, as a count
+/// k and k node numbers." At most 2 + 4 x 1,009 + 2 + 16 bytes.
+fn write_trial(case: &Case, trial: &Trial, answer: &mut [u8]) {
+    let mut at = 0;
+    put(answer, &mut at, trial.nodes.len());
+    for node in &trial.nodes {
+        put(answer, &mut at, node.parent);
+        put(
+            answer,
+            &mut at,
+            usize::from(case.outline[node.outline].label),
+        );
+    }
+    let result = own_result(case, trial);
+    put(answer, &mut at, result.len());
+    for v in result {
+        put(answer, &mut at, v);
+    }
+}
+
+/// Writes one field and steps past it.
+fn put(answer: &mut [u8], at: &mut usize, field: usize) {
+    answer[*at..*at + 2].copy_from_slice(&(field as u16).to_le_bytes());
+    *at += 2;
+}
+
+/// "It fits the outline if its root has the outline root's label, every path
+/// of labels from its root is a path of the outline, and each node on a path s
+/// has at least one child on path t for every strong edge from s to t."
+fn volume_fits(outline: &[OutlineNode], volume: &[VolumeNode]) -> bool {
+    if volume[0].label != outline[0].label {
+        return false;
+    }
+    let mut on_path = vec![0; volume.len()];
+    let mut children_on = vec![0u64; volume.len()];
+    for v in 1..volume.len() {
+        let s = on_path[volume[v].parent];
+        let step = (1..outline.len())
+            .find(|&t| outline[t].parent == s && outline[t].label == volume[v].label);
+        match step {
+            Some(t) => {
+                on_path[v] = t;
+                children_on[volume[v].parent] |= 1 << t;
+            }
+            None => return false,
+        }
+    }
+    let strong = strong_children(outline);
+    (0..volume.len()).all(|v| strong[on_path[v]] & !children_on[v] == 0)
+}

@@ -1,0 +1,106 @@
+//! `reference verdict`, `reference refusals`, `reference calls` and
+//! `reference case N`, each reading standard input.
+
+#![forbid(unsafe_code)]
+
+use reference::calls::{INCLUDED, NOT_INCLUDED};
+use reference::vectors::read_all;
+use std::fmt::Write as _;
+use std::io::{self, Read, Write};
+use std::process::ExitCode;
+
+const USAGE: &str = "usage: reference verdict < CASE
+       reference refusals < VECTORS
+       reference calls < VECTORS
+       reference case NUMBER < VECTORS";
+
+fn main() -> ExitCode {
+    let words: Vec<String> = std::env::args().skip(1).collect();
+    let words: Vec<&str> = words.iter().map(String::as_str).collect();
+    let output = match words[..] {
+        ["verdict"] => input().map(|case| verdict_lines(&case).into_bytes()),
+        ["refusals"] => lines(|vector| vector.refusal().to_string()),
+        ["calls"] => lines(|vector| vector.outcome()),
+        ["case", number] => nth_case(number),
+        _ => Err(USAGE.to_string()),
+    };
+    let written = output.and_then(|bytes| {
+        io::stdout()
+            .write_all(&bytes)
+            .map_err(|error| error.to_string())
+    });
+    match written {
+        Ok(()) => ExitCode::SUCCESS,
+        Err(message) => {
+            eprintln!("{message}");
+            ExitCode::FAILURE
+        }
+    }
+}
+
+fn input() -> Result<Vec<u8>, String> {
+    let mut bytes = Vec::new();
+    io::stdin()
+        .read_to_end(&mut bytes)
+        .map_err(|error| error.to_string())?;
+    Ok(bytes)
+}
+
+/// One line per vector.
+fn lines(line: impl Fn(&reference::vectors::Vector) -> String) -> Result<Vec<u8>, String> {
+    let mut text = String::new();
+    for vector in read_all(&input()?)? {
+        text.push_str(&line(&vector));
+        text.push('\n');
+    }
+    Ok(text.into_bytes())
+}
+
+/// The case of one vector, counted from 0, for programs that take only that.
+fn nth_case(number: &str) -> Result<Vec<u8>, String> {
+    let number: usize = number.parse().map_err(|_| USAGE.to_string())?;
+    let vectors = read_all(&input()?)?;
+    let vector = vectors
+        .get(number)
+        .ok_or_else(|| format!("no vector {number}"))?;
+    Ok(vector.case.clone())
+}
+
+/// "The verdict program reads a case from standard input, with limit
+/// 1,000,000 and tally 0."
+fn verdict_lines(case: &[u8]) -> String {
+    let mut answer = [0; 4_096];
+    let got = reference::verdict(case, 1_000_000, &mut 0, &mut answer);
+    if got.refused != 0 {
+        return format!("refused {}\n", got.refused);
+    }
+    let kind = match got.kind {
+        INCLUDED => "included",
+        NOT_INCLUDED => "not included",
+        _ => "stopped",
+    };
+    let mut text = format!("{kind}\ntried {}\n", got.tried);
+    if got.kind == NOT_INCLUDED {
+        write_answer(&mut text, &answer);
+    }
+    text
+}
+
+/// "A node line has number, parent, label; the answer line lists the result by
+/// position, all in decimal."
+fn write_answer(text: &mut String, answer: &[u8]) {
+    let mut fields = answer
+        .chunks_exact(2)
+        .map(|field| u16::from_le_bytes([field[0], field[1]]));
+    let mut next = || fields.next().unwrap_or(0);
+    for number in 0..next() {
+        let (parent, label) = (next(), next());
+        // Writing to a string cannot fail.
+        let _ = writeln!(text, "node {number} {parent} {label}");
+    }
+    text.push_str("answer");
+    for _ in 0..next() {
+        let _ = write!(text, " {}", next());
+    }
+    text.push('\n');
+}

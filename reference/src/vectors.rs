@@ -1,0 +1,250 @@
+//! Test vectors: one call each, with its numbers and byte strings. The format
+//! is described in README.md.
+
+use crate::calls::{self, NodeRecord};
+
+pub const VERDICT: u32 = 1;
+pub const FITS: u32 = 2;
+pub const IS_RESULT: u32 = 3;
+pub const NODES_AT: u32 = 4;
+pub const PATHS: u32 = 5;
+pub const LAYOUT: u32 = 6;
+
+/// Lent bytes begin with this; lent table fields with it twice.
+pub const FILLING: u8 = 0xAA;
+
+/// No vector lends more bytes or records than this, so that a damaged file
+/// cannot ask for all memory.
+const LENT_MOST: u64 = 1 << 24;
+
+/// One call. What the call does not take is 0 or empty.
+#[derive(Clone, Debug, Default, PartialEq, Eq)]
+pub struct Vector {
+    pub call: u32,
+    pub limit: u64,
+    pub tally: u64,
+    pub selection: u64,
+    pub position: u64,
+    /// Bytes of the answer buffer, or records of the table.
+    pub length: u64,
+    pub case: Vec<u8>,
+    pub volume: Vec<u8>,
+    pub list: Vec<u8>,
+}
+
+impl Vector {
+    pub fn write(&self, out: &mut Vec<u8>) {
+        out.extend(self.call.to_le_bytes());
+        for number in [
+            self.limit,
+            self.tally,
+            self.selection,
+            self.position,
+            self.length,
+        ] {
+            out.extend(number.to_le_bytes());
+        }
+        for bytes in [&self.case, &self.volume, &self.list] {
+            out.extend((bytes.len() as u32).to_le_bytes());
+            out.extend(bytes);
+        }
+    }
+
+    /// Reads the first vector and steps past it; `None` where it is damaged.
+    pub fn read(rest: &mut &[u8]) -> Option<Vector> {
+        let call = read_u32(rest)?;
+        let mut numbers = [0; 5];
+        for number in &mut numbers {
+            *number = read_u64(rest)?;
+        }
+        let [limit, tally, selection, position, length] = numbers;
+        let case = read_bytes(rest)?;
+        let volume = read_bytes(rest)?;
+        let list = read_bytes(rest)?;
+        let known = (VERDICT..=LAYOUT).contains(&call) && length <= LENT_MOST;
+        known.then_some(Vector {
+            call,
+            limit,
+            tally,
+            selection,
+            position,
+            length,
+            case,
+            volume,
+            list,
+        })
+    }
+
+    /// The refusal number, 0 where the call is accepted.
+    pub fn refusal(&self) -> u64 {
+        let length = self.length as usize;
+        match self.call {
+            VERDICT => calls::verdict_refusal(&self.case, self.limit, self.tally, length),
+            FITS => calls::fits_refusal(&self.case, &self.volume),
+            IS_RESULT => {
+                calls::result_refusal(&self.case, self.selection, &self.volume, &self.list)
+            }
+            NODES_AT => calls::nodes_refusal(
+                &self.case,
+                self.selection,
+                &self.volume,
+                self.position,
+                length,
+            ),
+            PATHS => calls::paths_refusal(&self.case, self.selection),
+            _ => calls::layout_refusal(&self.case, self.selection, &self.list, length),
+        }
+    }
+
+    /// The whole outcome on one line, the lent buffer or table included.
+    pub fn outcome(&self) -> String {
+        match self.call {
+            VERDICT => {
+                let mut answer = vec![FILLING; self.length as usize];
+                let mut tally = self.tally;
+                let got = calls::verdict(&self.case, self.limit, &mut tally, &mut answer);
+                format!(
+                    "verdict refused {} kind {} tried {} tally {tally} {}",
+                    got.refused,
+                    got.kind,
+                    got.tried,
+                    seen(&answer, answer.len())
+                )
+            }
+            FITS => {
+                let got = calls::fits(&self.case, &self.volume);
+                format!("fits refused {} holds {}", got.refused, u8::from(got.holds))
+            }
+            IS_RESULT => {
+                let got = calls::is_result(&self.case, self.selection, &self.volume, &self.list);
+                format!(
+                    "result refused {} holds {}",
+                    got.refused,
+                    u8::from(got.holds)
+                )
+            }
+            NODES_AT => {
+                let mut answer = vec![FILLING; self.length as usize];
+                let got = calls::nodes_at(
+                    &self.case,
+                    self.selection,
+                    &self.volume,
+                    self.position,
+                    &mut answer,
+                );
+                let seen = seen(&answer, answer.len());
+                format!("nodes refused {} count {} {seen}", got.refused, got.count)
+            }
+            PATHS => {
+                let got = calls::paths(&self.case, self.selection);
+                let masks = words(&got.masks);
+                let counts = words(&got.counts);
+                format!(
+                    "paths refused {} masks {masks} counts {counts}",
+                    got.refused
+                )
+            }
+            _ => {
+                let filling = u16::from_le_bytes([FILLING, FILLING]);
+                let record = NodeRecord {
+                    parent: filling,
+                    outline: filling,
+                    label: filling,
+                };
+                let mut table = vec![record; self.length as usize];
+                let got = calls::layout(&self.case, self.selection, &self.list, &mut table);
+                let bytes: Vec<u8> = table
+                    .iter()
+                    .flat_map(|record| [record.parent, record.outline, record.label])
+                    .flat_map(u16::to_le_bytes)
+                    .collect();
+                let seen = seen(&bytes, table.len());
+                format!("layout refused {} count {} {seen}", got.refused, got.count)
+            }
+        }
+    }
+}
+
+/// All vectors of a file, or what is wrong with it.
+pub fn read_all(bytes: &[u8]) -> Result<Vec<Vector>, String> {
+    let mut rest = bytes;
+    let mut vectors = Vec::new();
+    while !rest.is_empty() {
+        let at = bytes.len() - rest.len();
+        match Vector::read(&mut rest) {
+            Some(vector) => vectors.push(vector),
+            None => return Err(format!("vector {} at byte {at} is damaged", vectors.len())),
+        }
+    }
+    Ok(vectors)
+}
+
+/// 64-bit FNV-1a.
+pub fn fnv1a(bytes: &[u8]) -> u64 {
+    bytes.iter().fold(0xcbf2_9ce4_8422_2325, |hash, &byte| {
+        (hash ^ u64::from(byte)).wrapping_mul(0x0100_0000_01b3)
+    })
+}
+
+fn seen(bytes: &[u8], length: usize) -> String {
+    format!("length {length} hash {:016x}", fnv1a(bytes))
+}
+
+fn words(numbers: &[u64]) -> String {
+    let words: Vec<String> = numbers.iter().map(u64::to_string).collect();
+    words.join(" ")
+}
+
+fn read_u32(rest: &mut &[u8]) -> Option<u32> {
+    let (number, after) = rest.split_first_chunk::<4>()?;
+    *rest = after;
+    Some(u32::from_le_bytes(*number))
+}
+
+fn read_u64(rest: &mut &[u8]) -> Option<u64> {
+    let (number, after) = rest.split_first_chunk::<8>()?;
+    *rest = after;
+    Some(u64::from_le_bytes(*number))
+}
+
+fn read_bytes(rest: &mut &[u8]) -> Option<Vec<u8>> {
+    let length = read_u32(rest)? as usize;
+    let (bytes, after) = rest.split_at_checked(length)?;
+    *rest = after;
+    Some(bytes.to_vec())
+}
+
+#[cfg(test)]
+mod tests {
+    use super::*;
+
+    #[test]
+    fn hashes_are_the_published_ones() {
+        assert_eq!(fnv1a(b""), 0xcbf2_9ce4_8422_2325);
+        assert_eq!(fnv1a(b"a"), 0xaf63_dc4c_8601_ec8c);
+        assert_eq!(fnv1a(b"foobar"), 0x8594_4171_f739_67e8);
+    }
+
+    #[test]
+    fn vectors_read_back() {
+        let vector = Vector {
+            call: LAYOUT,
+            limit: 1,
+            tally: u64::MAX,
+            selection: 2,
+            position: 3,
+            length: 1_024,
+            case: vec![1, 2, 3],
+            volume: vec![],
+            list: vec![9],
+        };
+        let mut bytes = Vec::new();
+        vector.write(&mut bytes);
+        vector.write(&mut bytes);
+        assert_eq!(bytes.len(), 2 * (4 + 40 + 12 + 4));
+        assert_eq!(read_all(&bytes), Ok(vec![vector.clone(), vector]));
+        for cut in 1..bytes.len() / 2 {
+            assert!(read_all(&bytes[..cut]).is_err());
+        }
+    }
+}
