@@ -1,0 +1,9 @@
+pub mod TestLaws
+pub mod LoopLaws
+pub mod TableLaws
+pub mod CaseLaws
+pub mod SummaryLaws
+pub mod PatternLaws
+pub mod DocumentLaws
+pub mod RefusalLaws
+pub mod EmbeddingLaws

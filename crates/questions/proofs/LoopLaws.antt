@@ -1,0 +1,88 @@
+-- Loops over a range: one that tests every number and stops at the first that fails, and one that counts those that pass.
+-- Assumes nothing.
+use Prim.Native.Nat.{ℕ, suc, _+_, _≤_, _<_}
+use mathlib.Core.Path.{_≡_, refl, ap, _∙_}
+use mathlib.Core.Bool.{Bool, true, false}
+use mathlib.Core.Logic.{_⊎_, inl, inr}
+use mathlib.Core.List.{List, [], _∷_, _++_}
+use native.Mathlib.Omega.{arith}
+use native.Mathlib.Numerals.{add-one}
+use lib.ListN.{length, getD, take}
+use lib.Seq.{take-suc, take-all}
+use borrow.Author.Count.{below-more}
+use Rattle.model.specs.Lists.{upFrom, allOf, countOf}
+use Rattle.model.proofs.ListLaws.{true-or-false, not-both, all-intro, all-elim, mem-upFrom, upFrom-mem}
+
+-- ---- every number passes
+
+-- every number from a on, below i, passes
+pub record Passed (test : ℕ → Bool) (a i : ℕ) : Type 0 where
+  pub each : (k : ℕ) → a ≤ k → k < i → test k ≡ true
+
+module _ (test : ℕ → Bool) (a : ℕ) where
+  pub passed-none : Passed test a a
+  passed-none = record { each = λ k l u. absurd (omega arith) }
+
+  pub passed-more : (i : ℕ) → Passed test a i → test i ≡ true → Passed test a (i + 1)
+  passed-more i p e =
+      let more = below-more (λ k. a ≤ k → test k ≡ true) i (λ k h l. p .each k l h) (λ l. e) in
+      record { each = λ k l u. more k u l }
+
+  -- the loop came to its end
+  pub all-passed : (n i : ℕ) → Passed test a i → a + n ≤ i → allOf test (upFrom a n) ≡ true
+  all-passed n i p h = all-intro test (upFrom a n) (λ x m. let r = upFrom-mem a n x m in p .each x (r .0) (omega arith))
+
+  -- it stopped
+  pub one-failed : (n i : ℕ) → a ≤ i → i < a + n → test i ≡ false → allOf test (upFrom a n) ≡ false
+  one-failed n i l u e = go (true-or-false (allOf test (upFrom a n)))
+    where
+      go : (allOf test (upFrom a n) ≡ true) ⊎ (allOf test (upFrom a n) ≡ false) → allOf test (upFrom a n) ≡ false
+      go (inl y) = absurd (not-both (test i) (all-elim test (upFrom a n) y i (mem-upFrom a n i l u)) e)
+      go (inr q) = q
+
+-- ---- how many pass
+
+module _ {A : Type 0} (test : A → Bool) where
+  count-after : (xs : List A) (x : A) (t : Bool) → test x ≡ t → countOf test (xs ++ x ∷ []) ≡ countOf test xs + (elim t as (λ _. ℕ) [ true ↦ 1 | false ↦ 0 ])
+  unfolding countOf
+  count-after [] x true e = rw (e, countOf) refl
+  count-after [] x false e = rw (e, countOf) refl
+  count-after (y ∷ ys) x t e = go (test y) (count-after ys x t e)
+    where
+      more : ℕ
+      more = elim t as (λ _. ℕ) [ true ↦ 1 | false ↦ 0 ]
+
+      with-first : Bool → ℕ → ℕ
+      with-first s n = elim s as (λ _. ℕ) [ true ↦ suc n | false ↦ n ]
+
+      go : (s : Bool) → countOf test (ys ++ x ∷ []) ≡ countOf test ys + more → with-first s (countOf test (ys ++ x ∷ [])) ≡ with-first s (countOf test ys) + more
+      go true ih = omega arith
+      go false ih = ih
+
+-- n of the first i elements pass
+pub record Counted {A : Type 0} (test : A → Bool) (xs : List A) (i n : ℕ) : Type 0 where
+  pub count : n ≡ countOf test (take i xs)
+  pub atMost : n ≤ i
+  pub inside : i ≤ length xs
+
+module _ {A : Type 0} (test : A → Bool) (xs : List A) where
+  pub counted-none : Counted test xs 0 0
+  unfolding countOf
+  counted-none = record { count = refl; atMost = omega arith; inside = omega arith }
+
+  count-more : (d : A) (i : ℕ) (t : Bool) → i < length xs → test (getD xs i d) ≡ t → countOf test (take (i + 1) xs) ≡ countOf test (take i xs) + (elim t as (λ _. ℕ) [ true ↦ 1 | false ↦ 0 ])
+  count-more d i t h e = rw (add-one i, take-suc xs i d h) (count-after test (take i xs) (getD xs i d) t e)
+
+  -- one that passes, and one that does not
+  pub counted-yes : (d : A) (i n m : ℕ) → i < length xs → Counted test xs i n → test (getD xs i d) ≡ true → m ≡ n + 1 → Counted test xs (i + 1) m
+  counted-yes d i n m h c e p =
+      let k : countOf test (take (i + 1) xs) ≡ countOf test (take i xs) + 1 = count-more d i true h e in
+      record { count = omega arith; atMost = omega arith; inside = omega arith }
+
+  pub counted-no : (d : A) (i n m : ℕ) → i < length xs → Counted test xs i n → test (getD xs i d) ≡ false → m ≡ n → Counted test xs (i + 1) m
+  counted-no d i n m h c e p =
+      let k : countOf test (take (i + 1) xs) ≡ countOf test (take i xs) + 0 = count-more d i false h e in
+      record { count = omega arith; atMost = omega arith; inside = omega arith }
+
+  pub counted-all : (i n : ℕ) → Counted test xs i n → length xs ≤ i → n ≡ countOf test xs
+  counted-all i n c h = c .count ∙ ap (countOf test) (take-all i xs h)

@@ -1,0 +1,12 @@
+-- `questions::numbers::buffer_large_enough` meets its contract: the comparison is the definition's. Assumes nothing.
+use mathlib.Core.Path.{refl}
+use Rattle.model.specs.Questions.{bufferLargeEnough}
+use Rattle.questions.proofs.numbers.buffer_large_enough.Statement.{statement}
+use Rattle.questions.proofs.numbers.buffer_large_enough.Tie as tie
+
+returns : tie.Need-returns
+unfolding bufferLargeEnough
+returns c = refl
+
+pub buffer-large-enough-spec : {M : Type 1} → statement M
+buffer-large-enough-spec = tie.close (tie.spec returns)

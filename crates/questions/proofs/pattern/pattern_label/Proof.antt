@@ -1,0 +1,29 @@
+-- `questions::pattern::pattern_label` meets its contract: the field read is the record's second. Assumes nothing.
+use borrow.Author.Needs.{needs}
+use mathlib.Core.Path.{sym, ap, _∙_}
+use Rattle.model.specs.Pattern.{PatternRecord}
+use Rattle.questions.proofs.TableLaws.{pattern-record}
+use Rattle.questions.proofs.pattern.pattern_label.Statement.{statement}
+use Rattle.questions.proofs.pattern.pattern_label.Tie as tie
+
+add-field : tie.Need-add-field
+add-field c = search needs
+
+mul-field : tie.Need-mul-field
+mul-field c = search needs
+
+add-field-2 : tie.Need-add-field-2
+add-field-2 c = search needs
+
+add-field-3 : tie.Need-add-field-3
+add-field-3 c = search needs
+
+field-requires : tie.Need-field-requires
+field-requires c κs = search needs
+
+returns : tie.Need-returns
+returns c = c .field .ensures .0 ∙ sym (ap (λ (r : PatternRecord). r .label) (pattern-record _ _ _ (c .before .before .pre .below)))
+
+pub pattern-label-spec : {M : Type 1} → statement M
+pattern-label-spec =
+    tie.close (tie.spec add-field mul-field add-field-2 add-field-3 field-requires returns)

@@ -1,0 +1,44 @@
+// The questions on numbers alone: 1, 2, 9 and, of the pattern's number, 12.
+
+ghost use mathlib.Core.Path.{_≡_};
+ghost use Rattle.model.specs.Questions.{limitInRange, bufferLargeEnough, tableLargeEnough, tallyInRange, selectionGiven};
+use crate::limits::MAX_LIMIT;
+use crate::limits::MAX_TALLY;
+use crate::limits::MIN_BUFFER;
+use crate::limits::MIN_TABLE;
+use crate::rules::between;
+
+// 1. Is the limit 1 to 1,000,000?
+pub fn limit_in_range(limit: u64) -> bool
+    ensures { λ r. ⌜ r ≡ limitInRange limit ⌝ }
+{
+    between(1, MAX_LIMIT, limit)
+}
+
+// 2. Has the answer buffer 4,096 bytes or more?
+pub fn buffer_large_enough(bytes: usize) -> bool
+    ensures { λ r. ⌜ r ≡ bufferLargeEnough bytes ⌝ }
+{
+    MIN_BUFFER <= bytes
+}
+
+// 2. Has the lent table 1,024 records or more?
+pub fn table_large_enough(records: usize) -> bool
+    ensures { λ r. ⌜ r ≡ tableLargeEnough records ⌝ }
+{
+    MIN_TABLE <= records
+}
+
+// 9. Is the tally plus the limit at most 1,000,000,000,000? The sum itself could wrap.
+pub fn tally_in_range(tally: u64, limit: u64) -> bool
+    ensures { λ r. ⌜ r ≡ tallyInRange tally limit ⌝ }
+{
+    limit <= MAX_TALLY && tally <= MAX_TALLY - limit
+}
+
+// 12. Is the pattern's number 1 or 2?
+pub fn selection_given(number: u64) -> bool
+    ensures { λ r. ⌜ r ≡ selectionGiven number ⌝ }
+{
+    between(1, 2, number)
+}
