@@ -65,6 +65,10 @@ child-lt t c = rooted-lt t (c .notRoot) (c .inside) (c .isParent)
 
 -- ---- descendants
 
+pub below-inside : {W : Document} {a b : ℕ} → Below W a b → b < length W
+below-inside (once c) = c .inside
+below-inside (down d c) = c .inside
+
 pub below-lt : {W : Document} {a b : ℕ} → IsTree W → Below W a b → a < b
 below-lt t (once c) = child-lt t c
 below-lt {a = a} t (down {b = m} {c = b} d c) =
@@ -139,6 +143,10 @@ pub edge-test : (d : Bool) (W : Document) (a b : ℕ) → IsTree W → Edge d W 
 unfolding edgeTest
 edge-test true W a b t e = below-test t e
 edge-test false W a b t e = child-test e
+
+pub edge-inside : (d : Bool) (W : Document) (a b : ℕ) → Edge d W a b → b < length W
+edge-inside true W a b e = below-inside e
+edge-inside false W a b e = e .inside
 
 pub edge-below : (d : Bool) (W : Document) (a b : ℕ) → Edge d W a b → Below W a b
 edge-below true W a b e = e
