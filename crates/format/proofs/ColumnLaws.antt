@@ -15,7 +15,7 @@ use Rattle.model.specs.Summary.{SummaryRecord, noSummaryRecord, withoutStrong, 
 use Rattle.model.specs.Pattern.{PatternRecord, Pattern, noPatternRecord}
 use Rattle.model.specs.Bytes.{field, section, recordsAt, summaryRecordAt, patternRecordAt, documentRecordAt, firstAt, secondAt, caseOf, documentOf, listOf, writtenAtFront}
 use Rattle.format.specs.Column.{column}
-use Rattle.format.specs.Tables.{recordFrom, documentFrom}
+use Rattle.format.specs.Tables.{recordFrom, documentFrom, patternAt}
 use Rattle.format.proofs.RangeLaws.{getD-map-below, map-below-ext}
 use Rattle.model.proofs.ListLaws.{length-map-upFrom}
 use Rattle.format.proofs.FrontLaws.{front-getD, fill-none, fill-more}
@@ -106,22 +106,19 @@ module _ (b : List ℕ) where
 
 -- the columns of a selection whose section begins at field `at`
 module _ (b : List ℕ) (at : ℕ) where
-  abbrev pub patternAt : Pattern
-  patternAt = section patternRecordAt patternWidth b at
-
-  pub pattern-record : (i : ℕ) → i < field b at → getD patternAt i noPatternRecord ≡ patternRecordAt b (at + 1 + 4 * i)
+  pub pattern-record : (i : ℕ) → i < field b at → getD (patternAt b at) i noPatternRecord ≡ patternRecordAt b (at + 1 + 4 * i)
   pattern-record i h = section-record patternRecordAt patternWidth b at i noPatternRecord h
 
-  pub pattern-parents : map (λ (r : PatternRecord). r .parent) patternAt ≡ column b (at + 1) 4 (field b at)
+  pub pattern-parents : map (λ (r : PatternRecord). r .parent) (patternAt b at) ≡ column b (at + 1) 4 (field b at)
   pattern-parents = section-column patternRecordAt patternWidth b at (λ r. r .parent) (at + 1) (λ i. refl)
 
-  pub pattern-labels : map (λ (r : PatternRecord). r .label) patternAt ≡ column b (at + 2) 4 (field b at)
+  pub pattern-labels : map (λ (r : PatternRecord). r .label) (patternAt b at) ≡ column b (at + 2) 4 (field b at)
   pattern-labels = section-column patternRecordAt patternWidth b at (λ r. r .label) (at + 2) (λ i. ap (field b) (omega arith))
 
-  pub pattern-edges : map (λ (r : PatternRecord). r .edge) patternAt ≡ column b (at + 3) 4 (field b at)
+  pub pattern-edges : map (λ (r : PatternRecord). r .edge) (patternAt b at) ≡ column b (at + 3) 4 (field b at)
   pattern-edges = section-column patternRecordAt patternWidth b at (λ r. r .edge) (at + 3) (λ i. ap (field b) (omega arith))
 
-  pub pattern-positions : map (λ (r : PatternRecord). r .position) patternAt ≡ column b (at + 4) 4 (field b at)
+  pub pattern-positions : map (λ (r : PatternRecord). r .position) (patternAt b at) ≡ column b (at + 4) 4 (field b at)
   pattern-positions = section-column patternRecordAt patternWidth b at (λ r. r .position) (at + 4) (λ i. ap (field b) (omega arith))
 
 -- a list's fields

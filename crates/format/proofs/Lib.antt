@@ -3,3 +3,4 @@ pub mod FrontLaws
 pub mod TableLaws
 pub mod ColumnLaws
 pub mod WriteLaws
+pub mod ReadLaws

@@ -1,7 +1,10 @@
 -- Tables that stand in columns, one lent slice of numbers for each field of their records.
 use Prim.Native.Nat.{ℕ}
+use mathlib.Core.Path.{_≡_}
 use mathlib.Core.List.{List, map}
-use lib.ListN.{getD}
+use lib.ListN.{length, getD}
+use Rattle.model.specs.Limits.{patternWidth}
+use Rattle.model.specs.Bytes.{patternRecordAt, section, writtenAtFront}
 use Rattle.model.specs.Lists.{upFrom}
 use Rattle.model.specs.Tree.{DocumentRecord, Document}
 use Rattle.model.specs.Summary.{SummaryRecord, Summary}
@@ -23,3 +26,28 @@ summaryFrom parents labels strongs n = map (λ i. record { parent = getD parents
 unfoldable pub patternFrom : List ℕ → List ℕ → List ℕ → List ℕ → ℕ → Pattern
 patternFrom parents labels edges positions m =
     map (λ q. record { parent = getD parents q 0; label = getD labels q 0; edge = getD edges q 0; position = getD positions q 0 }) (upFrom 0 m)
+
+-- the pattern whose count is field `at`
+abbrev pub patternAt : List ℕ → ℕ → Pattern
+patternAt b at = section patternRecordAt patternWidth b at
+
+-- the columns of a summary at the front of three tables, the rest untouched, and its count
+pub record SummaryRead (S : Summary) (parents₀ labels₀ strongs₀ parents labels strongs : List ℕ) (n : ℕ) : Type 0 where
+  pub count : n ≡ length S
+  pub parent : parents ≡ writtenAtFront (map (λ (r : SummaryRecord). r .parent) S) parents₀
+  pub label : labels ≡ writtenAtFront (map (λ (r : SummaryRecord). r .label) S) labels₀
+  pub strong : strongs ≡ writtenAtFront (map (λ (r : SummaryRecord). r .strong) S) strongs₀
+
+-- the columns of a pattern
+pub record PatternRead (P : Pattern) (parents₀ labels₀ edges₀ positions₀ parents labels edges positions : List ℕ) (m : ℕ) : Type 0 where
+  pub count : m ≡ length P
+  pub parent : parents ≡ writtenAtFront (map (λ (r : PatternRecord). r .parent) P) parents₀
+  pub label : labels ≡ writtenAtFront (map (λ (r : PatternRecord). r .label) P) labels₀
+  pub edge : edges ≡ writtenAtFront (map (λ (r : PatternRecord). r .edge) P) edges₀
+  pub position : positions ≡ writtenAtFront (map (λ (r : PatternRecord). r .position) P) positions₀
+
+-- the columns of a document
+pub record DocumentRead (W : Document) (parents₀ labels₀ parents labels : List ℕ) (n : ℕ) : Type 0 where
+  pub count : n ≡ length W
+  pub parent : parents ≡ writtenAtFront (map (λ (r : DocumentRecord). r .parent) W) parents₀
+  pub label : labels ≡ writtenAtFront (map (λ (r : DocumentRecord). r .label) W) labels₀

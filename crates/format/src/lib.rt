@@ -3,4 +3,5 @@
 pub mod column;
 pub mod field;
 pub mod nodes;
+pub mod tables;
 pub mod write;

@@ -2,8 +2,13 @@
 
 mod read;
 
+use questions::refusals::fits_refusal;
+use questions::refusals::layout_refusal;
+use questions::refusals::nodes_refusal;
+use questions::refusals::paths_refusal;
+use questions::refusals::result_refusal;
+use questions::refusals::verdict_refusal;
 use read::Head;
-use questions::refusals::{fits_refusal, layout_refusal, nodes_refusal, paths_refusal, result_refusal, verdict_refusal};
 
 // A number of the vector as a length; none here comes near the largest.
 fn size(n: u64) -> usize {

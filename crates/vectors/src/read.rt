@@ -1,7 +1,6 @@
 // Vectors from standard input: one call's numbers and byte strings after another.
 
 use format::field::field;
-
 ghost use mathlib.Core.Path.{_≡_};
 ghost use Prim.Native.Nat.{_+_, _*_, _<_, _≤_};
 ghost use lib.ListN.{length};
@@ -26,7 +25,10 @@ fn wide(x: usize) -> u64
 fn number(s: &[u8], i: usize) -> u64
     requires { ⌜ 2 * i + 8 ≤ length (now s) ⌝ }
 {
-    wide(field(s, i)) + 65536 * wide(field(s, i + 1)) + 4294967296 * wide(field(s, i + 2)) + 281474976710656 * wide(field(s, i + 3))
+    wide(field(s, i))
+        + 65536 * wide(field(s, i + 1))
+        + 4294967296 * wide(field(s, i + 2))
+        + 281474976710656 * wide(field(s, i + 3))
 }
 
 // The numbers of a vector's first 44 bytes.
@@ -46,7 +48,14 @@ pub fn read_head() -> Head {
     let mut bytes = [0u8; 44];
     let got = io::read_full(0, &mut bytes);
     if got < 44 {
-        return Head { call: 0, limit: 0, tally: 0, selection: 0, position: 0, length: 0 };
+        return Head {
+            call: 0,
+            limit: 0,
+            tally: 0,
+            selection: 0,
+            position: 0,
+            length: 0,
+        };
     }
     head_of(&bytes)
 }
