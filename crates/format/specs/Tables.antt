@@ -22,10 +22,14 @@ documentFrom parents labels n = map (recordFrom parents labels) (upFrom 0 n)
 unfoldable pub summaryFrom : List ℕ → List ℕ → List ℕ → ℕ → Summary
 summaryFrom parents labels strongs n = map (λ i. record { parent = getD parents i 0; label = getD labels i 0; strong = getD strongs i 0 }) (upFrom 0 n)
 
--- the pattern of m records
+-- the i-th record of a pattern that stands in four columns
+abbrev pub patternNode : List ℕ → List ℕ → List ℕ → List ℕ → ℕ → PatternRecord
+patternNode parents labels edges positions i =
+    record { parent = getD parents i 0; label = getD labels i 0; edge = getD edges i 0; position = getD positions i 0 }
+
+-- the pattern of the first m of them
 unfoldable pub patternFrom : List ℕ → List ℕ → List ℕ → List ℕ → ℕ → Pattern
-patternFrom parents labels edges positions m =
-    map (λ q. record { parent = getD parents q 0; label = getD labels q 0; edge = getD edges q 0; position = getD positions q 0 }) (upFrom 0 m)
+patternFrom parents labels edges positions m = map (patternNode parents labels edges positions) (upFrom 0 m)
 
 -- the pattern whose count is field `at`
 abbrev pub patternAt : List ℕ → ℕ → Pattern

@@ -1,0 +1,4 @@
+pub mod LoopLaws
+pub mod PathLaws
+pub mod GatherLaws
+pub mod FitLaws

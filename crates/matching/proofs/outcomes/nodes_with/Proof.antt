@@ -1,0 +1,54 @@
+-- `matching::outcomes::nodes_with` meets its contract: after v turns the nodes below v whose mask has q stand at the front. The measure is
+-- what is left of n. Assumes nothing.
+use borrow.Author.Needs.{needs}
+use Prim.Native.Nat.{_-_}
+use native.Mathlib.Omega.{arith}
+use Rattle.matching.specs.Outcomes.{inMask}
+use Rattle.matching.proofs.ReadLoops.{Listing, listing-start, listing-step, listing-end}
+use Rattle.matching.proofs.outcomes.nodes_with.Statement.{statement}
+use Rattle.matching.proofs.outcomes.nodes_with.Tie as tie
+
+abbrev Inv-loop : tie.InvT-loop
+Inv-loop table n q out₀ count₀ v₀ out count v = Listing (inMask table (q .0)) n out₀ out count v
+
+abbrev μ-loop : tie.MeasureT-loop
+μ-loop table n q out₀ count₀ v₀ out count v = n - v
+
+loop-holds : tie.Need-loop-holds Inv-loop μ-loop
+loop-holds c = listing-start
+
+in-mask-requires : tie.Need-in-mask-requires Inv-loop μ-loop
+in-mask-requires c κs = (omega arith, c .before .before .before .before .pre .3)
+
+push-if-requires : tie.Need-push-if-requires Inv-loop μ-loop
+push-if-requires c κs = (omega arith, omega (arith, c .before .before .before .loop .inv .few, c .before .before .before .loop .inv .size))
+
+add-v : tie.Need-add-v Inv-loop μ-loop
+add-v c = search needs
+
+loop-less : tie.Need-loop-less Inv-loop μ-loop
+loop-less c = search needs
+
+loop-again : tie.Need-loop-again Inv-loop μ-loop
+loop-again c = listing-step (c .before .before .before .before .in-mask .result) (c .before .before .before .before .before .before .loop .inv) (c .before .before .before .before .before .before .before .before .before .pre .1) (c .before .before .before .before .before .loop-test .taken) (c .before .before .before .before .in-mask .ensures) (c .before .before .push-if .ensures .0) (c .before .before .push-if .ensures .1)
+
+same-length : tie.Need-same-length Inv-loop μ-loop
+same-length c = c .before .loop .inv .size
+
+returns : tie.Need-returns Inv-loop μ-loop
+returns c = listing-end (c .before .loop .inv) (c .loop-test .left)
+
+pub nodes-with-spec : {M : Type 1} → statement M
+nodes-with-spec =
+    tie.close
+    (tie.spec
+    Inv-loop
+    μ-loop
+    loop-holds
+    in-mask-requires
+    push-if-requires
+    add-v
+    loop-less
+    loop-again
+    same-length
+    returns)

@@ -1,0 +1,49 @@
+-- `matching::outcomes::stand_mask` meets its contract: after v turns r holds what passes of the nodes below v. The measure is what is left
+-- of n. Assumes nothing.
+use borrow.Author.Needs.{needs}
+use Prim.Native.Nat.{_-_}
+use Rattle.matching.specs.Outcomes.{inMask}
+use Rattle.matching.proofs.MaskLoops.{Inserting, inserting-start, inserting-step, inserting-end}
+use Rattle.matching.proofs.outcomes.stand_mask.Statement.{statement}
+use Rattle.matching.proofs.outcomes.stand_mask.Tie as tie
+
+abbrev Inv-loop : tie.InvT-loop
+Inv-loop table n q r₀ v₀ r v = Inserting (inMask table (q .0)) n r v
+
+abbrev μ-loop : tie.MeasureT-loop
+μ-loop table n q r₀ v₀ r v = n - v
+
+loop-holds : tie.Need-loop-holds Inv-loop μ-loop
+loop-holds c = inserting-start
+
+in-mask-requires : tie.Need-in-mask-requires Inv-loop μ-loop
+in-mask-requires c κs = search needs
+
+insert-if64-requires : tie.Need-insert-if64-requires Inv-loop μ-loop
+insert-if64-requires c κs = search needs
+
+add-v : tie.Need-add-v Inv-loop μ-loop
+add-v c = search needs
+
+loop-less : tie.Need-loop-less Inv-loop μ-loop
+loop-less c = search needs
+
+loop-again : tie.Need-loop-again Inv-loop μ-loop
+loop-again c = inserting-step (c .before .in-mask .result) (c .before .before .before .loop .inv) (c .before .before .loop-test .taken) (c .before .in-mask .ensures) (c .insert-if64 .ensures)
+
+returns : tie.Need-returns Inv-loop μ-loop
+returns c = inserting-end (c .before .loop .inv) (c .loop-test .left)
+
+pub stand-mask-spec : {M : Type 1} → statement M
+stand-mask-spec =
+    tie.close
+    (tie.spec
+    Inv-loop
+    μ-loop
+    loop-holds
+    in-mask-requires
+    insert-if64-requires
+    add-v
+    loop-less
+    loop-again
+    returns)

@@ -1,0 +1,4 @@
+pub mod Masks
+pub mod Matching
+pub mod Tables
+pub mod Outcomes
