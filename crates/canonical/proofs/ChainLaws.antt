@@ -1,0 +1,182 @@
+-- A chain is its upper part and one node more, so appending it is appending the upper part and then that node. Assumes nothing.
+use Prim.Native.Nat.{ℕ, suc, _+_, _-_, _≤_, _<_}
+use mathlib.Core.Path.{_≡_, refl, sym, ap, _∙_, subst}
+use mathlib.Core.Bool.{Bool, true, false}
+use mathlib.Core.Logic.{_⊎_, inl, inr}
+use mathlib.Core.List.{List, [], _∷_, _++_}
+use native.Mathlib.Omega.{arith}
+use lib.Dec.{eqb}
+use lib.ListN.{length, getD}
+use borrow.Author.Tests.{eqb-true, eqb-false}
+use Rattle.model.specs.Limits.{minTable, maxSummary}
+use Rattle.model.specs.Tree.{Document, IsTree, Child, Below, parentOf}
+use Rattle.model.specs.Summary.{Summary, asDocument, summaryParent}
+use Rattle.model.specs.Canonical.{Spot, chain, appendChain}
+use Rattle.model.proofs.ListLaws.{length-snoc}
+use Rattle.model.proofs.TreeLaws.{below-cases, child-lt, length-asDocument}
+use Rattle.model.proofs.Chains.{AtOrBelow, Way, end, step, below-way, chain-way}
+use Rattle.model.proofs.Segment.{chainSpot, append-chain}
+use Rattle.canonical.specs.Columns.{Tables, Columns, appended}
+use Rattle.canonical.specs.Given.{Hanging, HangsFrom, Hung}
+use Rattle.canonical.proofs.ColumnLaws.{columns-by, columns-append}
+
+-- ---- a chain from its lower end
+
+way-snoc : {D : Document} {a b : ℕ} {xs : List ℕ} (c : ℕ) → Way D b a xs → Child D b c → Way D c a (xs ++ c ∷ [])
+way-snoc {D} c (end p) k = step (subst (λ (x : ℕ). Child D x c) (sym p) k) (end refl)
+way-snoc c (step j w) k = step j (way-snoc c w k)
+
+way-to : {D : Document} {a b : ℕ} → AtOrBelow D a b → (xs : List ℕ) × Way D b a xs
+way-to (inl p) = ([], end p)
+way-to (inr d) = let r = below-way d in (r .0 ∷ r .1, step (r .2) (r .3))
+
+-- the chain down to a child of b is the chain down to b and the child
+chain-snoc : (S : Summary) (a b c : ℕ) → IsTree (asDocument S) → AtOrBelow (asDocument S) a b → Child (asDocument S) b c → chain S a c ≡ chain S a b ++ c ∷ []
+chain-snoc S a b c t r k =
+    let w = way-to r in
+    chain-way S t (way-snoc c (w .1) k) ∙ ap (λ (xs : List ℕ). xs ++ c ∷ []) (sym (chain-way S t (w .1)))
+
+-- what is below a node is reached from its parent
+climb : {D : Document} {a b : ℕ} → AtOrBelow D a b → (a ≡ b → ⊥) → AtOrBelow D a (parentOf D b) × Child D (parentOf D b) b
+climb (inl p) ne = absurd (ne p)
+climb {D} {a} {b} (inr d) ne = go (below-cases d)
+  where
+    go : Child D a b ⊎ (Below D a (parentOf D b) × (0 < b) × (b < length D)) → AtOrBelow D a (parentOf D b) × Child D (parentOf D b) b
+    go (inl c) = (inl (sym (c .isParent)), record { notRoot = c .notRoot; inside = c .inside; isParent = refl })
+    go (inr r) = (inr (r .0), record { notRoot = r .1; inside = r .2; isParent = refl })
+
+-- ---- a chain appended
+
+pub append-length : (q : ℕ) (spots : List Spot) (v : ℕ) (xs : List ℕ) → length (appendChain q spots v xs) ≡ length spots + length xs
+append-length q spots v xs = append-chain q spots v xs .size
+
+append-first : (q : ℕ) (spots : List Spot) (v x : ℕ) (xs : List ℕ) → length xs ≡ 0
+    → appendChain q spots v (xs ++ x ∷ []) ≡ appendChain q spots v xs ++ chainSpot q v x ∷ []
+unfolding appendChain
+append-first q spots v x [] e = refl
+append-first q spots v x (y ∷ ys) e = absurd (omega arith)
+
+append-next : (q : ℕ) (spots : List Spot) (v x y : ℕ) (ys : List ℕ)
+    → appendChain q spots v ((y ∷ ys) ++ x ∷ []) ≡ appendChain q spots v (y ∷ ys) ++ chainSpot q (length (appendChain q spots v (y ∷ ys)) - 1) x ∷ []
+unfolding appendChain
+append-next q spots v x y [] =
+    let T : List Spot = spots ++ chainSpot q v y ∷ [] in
+    let n : length T ≡ suc (length spots) = length-snoc spots (chainSpot q v y) in
+    ap (λ (k : ℕ). T ++ chainSpot q k x ∷ []) (omega arith)
+append-next q spots v x y (z ∷ zs) = append-next q (spots ++ chainSpot q v y ∷ []) (length spots) x z zs
+
+append-snoc : (q : ℕ) (spots : List Spot) (v x h : ℕ) (xs : List ℕ) → HangsFrom v (length spots) (length spots + length xs) h
+    → appendChain q spots v (xs ++ x ∷ []) ≡ appendChain q spots v xs ++ chainSpot q h x ∷ []
+append-snoc q spots v x h [] f =
+    append-first q spots v x [] refl ∙ ap (λ (k : ℕ). appendChain q spots v [] ++ chainSpot q k x ∷ []) (sym (f .first (omega arith)))
+append-snoc q spots v x h (y ∷ ys) f =
+    let T : List Spot = appendChain q spots v (y ∷ ys) in
+    let n : length T ≡ length spots + suc (length ys) = append-length q spots v (y ∷ ys) in
+    let k : h ≡ length spots + suc (length ys) - 1 = f .next (λ p. omega arith) in
+    append-next q spots v x y ys ∙ ap (λ (k : ℕ). T ++ chainSpot q k x ∷ []) (omega arith)
+
+-- ---- the function that appends a chain
+
+module _ {S : Summary} {parents : List ℕ} {a b v count : ℕ} (h : Hanging S parents a b v count) where
+  -- at the top nothing is to be done
+  pub hung-none : a ≡ b → (t : Tables) → Hung S a b v count t t count
+  unfolding appendChain
+  hung-none p t =
+      let e : chain S a b ≡ [] = chain-way S (h .tree) (end p) in
+      record {
+        counted = let z : length (chain S a b) ≡ 0 = ap (λ (l : List ℕ). length l) e in omega arith;
+        columns = λ q spots base c. subst (λ (l : List ℕ). Columns (appendChain q spots v l) base t count) (sym e) c;
+      }
+
+  module _ (ne : a ≡ b → ⊥) where
+    up : ℕ
+    up = summaryParent S b
+
+    above : AtOrBelow (asDocument S) a up × Child (asDocument S) up b
+    unfolding up
+    above = climb (h .reach) ne
+
+    longer : chain S a b ≡ chain S a up ++ b ∷ []
+    longer = chain-snoc S a up b (h .tree) (above .0) (above .1)
+
+    pub node-inside : b < length S
+    node-inside = subst (λ (n : ℕ). b < n) (length-asDocument S) (above .1 .inside)
+
+    -- the parent is in its column, and below b
+    pub parent-within : b < length parents
+    parent-within = let k = node-inside in let w = h .column .within in omega arith
+
+    parent-same : up ≡ getD parents b 0
+    unfolding up
+    parent-same = h .column .same b node-inside
+
+    pub parent-less : getD parents b 0 < b
+    parent-less = subst (λ (k : ℕ). k < b) parent-same (child-lt (h .tree) (above .1))
+
+    longer-length : length (chain S a b) ≡ suc (length (chain S a up))
+    longer-length = ap (λ (l : List ℕ). length l) longer ∙ length-snoc (chain S a up) b
+
+    -- the chain down to the parent is to be hung first
+    pub hanging-up : {x : ℕ} → x ≡ getD parents b 0 → Hanging S parents a x v count
+    hanging-up e =
+        subst (λ (k : ℕ). Hanging S parents a k v count) (parent-same ∙ sym e)
+        (record {
+          tree = h .tree;
+          small = h .small;
+          column = h .column;
+          reach = above .0;
+          hangs = h .hangs;
+          room = let n = longer-length in let r = h .room in omega arith;
+        })
+
+    pub node-small : b < maxSummary
+    node-small = let i = node-inside in let s = h .small in omega arith
+
+    -- and then b, hung from node k
+    module _ {x : ℕ} (e : x ≡ getD parents b 0) {before mid : Tables} {n : ℕ} (u : Hung S a x v count before mid n) where
+      u′ : Hung S a up v count before mid n
+      u′ = subst (λ (k : ℕ). Hung S a k v count before mid n) (e ∙ sym parent-same) u
+
+      size : n ≡ count + length (chain S a up)
+      size = u′ .counted
+
+      pub hung-longer : count ≤ n
+      hung-longer = let s = size in omega arith
+
+      pub hung-room : n < minTable
+      hung-room = let s = size in let l = longer-length in let r = h .room in omega arith
+
+      module _ {k : ℕ} (f : HangsFrom v count n k) where
+        pub hung-inside : k < n
+        hung-inside = go (eqb n count) refl
+          where
+            go : (t : Bool) → eqb n count ≡ t → k < n
+            go true e =
+                let p : n ≡ count = eqb-true n count e in
+                let q : k ≡ v = f .first p in
+                let r = h .hangs in
+                omega arith
+            go false e =
+                let ne′ : n ≡ count → ⊥ = eqb-false n count e in
+                let q : k ≡ n - 1 = f .next ne′ in
+                let r = h .hangs in
+                let s = size in
+                omega arith
+
+        pub hung-next : {after : Tables} {m : ℕ} → m ≡ n + 1 → after ≡ appended mid n k b → Hung S a b v count before after m
+        hung-next {after} {m} em et =
+            record {
+              counted = let s = size in let l = longer-length in omega arith;
+              columns = λ q spots base c. columns-by et em (grown q spots base c (u′ .columns q spots base c));
+            }
+          where
+            grown : (q : ℕ) (spots : List Spot) (base : Tables) → Columns spots base before count → Columns (appendChain q spots v (chain S a up)) base mid n
+                → Columns (appendChain q spots v (chain S a b)) base (appended mid n k b) (n + 1)
+            grown q spots base c d =
+                let z : n ≡ length spots + length (chain S a up) = size ∙ ap (λ (x : ℕ). x + length (chain S a up)) (c .counted) in
+                let g : HangsFrom v (length spots) (length spots + length (chain S a up)) k =
+                record { first = λ p. f .first (z ∙ p ∙ sym (c .counted)); next = λ ne′. f .next (λ p. ne′ (sym z ∙ p ∙ c .counted)) ∙ ap (λ (x : ℕ). x - 1) z } in
+                let e : appendChain q spots v (chain S a b) ≡ appendChain q spots v (chain S a up) ++ chainSpot q k b ∷ [] =
+                ap (appendChain q spots v) longer ∙ append-snoc q spots v b k (chain S a up) g in
+                subst (λ (T : List Spot). Columns T base (appended mid n k b) (n + 1)) (sym e)
+                (columns-append d (chainSpot q k b) hung-inside node-small hung-room)

@@ -1,0 +1,5 @@
+pub mod ColumnLaws
+pub mod ChainLaws
+pub mod LayingLaws
+pub mod FillLaws
+pub mod LayoutLaws

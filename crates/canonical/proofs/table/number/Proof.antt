@@ -1,0 +1,20 @@
+-- `canonical::table::number` meets its contract: a number of the column is below 2 ^ 16. Assumes nothing.
+use borrow.Author.Needs.{needs}
+use native.Mathlib.Omega.{arith}
+use Rattle.canonical.proofs.table.number.Statement.{statement}
+use Rattle.canonical.proofs.table.number.Tie as tie
+
+mul-result : tie.Need-mul-result
+mul-result c = search needs
+
+shared-slice-read-result : tie.Need-shared-slice-read-result
+shared-slice-read-result c = search needs
+
+cast-result : tie.Need-cast-result
+cast-result c = omega (arith, c .shared-slice-known .given (c .before .args .i))
+
+returns : tie.Need-returns
+returns c = search needs
+
+pub number-spec : {M : Type 1} → statement M
+number-spec = tie.close (tie.spec mul-result shared-slice-read-result cast-result returns)

@@ -1,0 +1,3 @@
+pub mod Columns
+pub mod Given
+pub mod LaidOut
