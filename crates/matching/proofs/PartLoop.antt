@@ -302,6 +302,9 @@ module _ {parents labels : List ℕ} {n : ℕ} {qparents qlabels edges : List �
   pub lent-rooted : Rooted m (λ c. getD qparents c 0)
   lent-rooted = subst (λ (x : ℕ). Rooted x (λ c. getD qparents c 0)) (length-shapeFrom qparents qlabels edges m) (column-rooted (lent-columns L))
 
+  pub parts-turns : {pin : ℕ → ℕ → Bool} {t₀ t : List ℕ} {i : ℕ} → Settling Q W pin t₀ t i → i ≤ n
+  parts-turns {i = i} s = subst (λ (x : ℕ). i ≤ x) nodes (s .turns)
+
   pub parts-start : (marks : List ℕ) {t : List ℕ} (b : List ℕ) → t ≡ writtenAtFront (map (λ (i : ℕ). 0) (upFrom 0 n)) b → Settling Q W (markPin marks) t t n
   parts-start marks {t} b e =
       subst (λ (x : ℕ). Settling Q W (markPin marks) t t x) nodes

@@ -1,7 +1,7 @@
 -- `matching::masks::deep_mask` meets its contract: after q turns r holds what hangs deep of the nodes below q. The measure is what is
 -- left of m. Assumes nothing.
-use borrow.Author.Needs.{needs}
 use Prim.Native.Nat.{_-_}
+use borrow.Author.Needs.{needs}
 use Rattle.matching.specs.Masks.{deepBy}
 use Rattle.matching.proofs.MaskLoops.{Inserting, inserting-start, inserting-step, inserting-end}
 use Rattle.matching.proofs.masks.deep_mask.Statement.{statement}

@@ -1,6 +1,6 @@
 -- `matching::masks::fits_here` meets its contract: the tests are asked in the definition's order. Assumes nothing.
-use borrow.Author.Needs.{needs}
 use mathlib.Core.Path.{_∙_, sym}
+use borrow.Author.Needs.{needs}
 use borrow.Author.Tests.{not-true, not-false}
 use Rattle.matching.specs.Masks.{fitsHere}
 use Rattle.matching.proofs.masks.fits_here.Statement.{statement}
@@ -18,14 +18,20 @@ mark-fits-requires c κs = search needs
 
 returns-2 : tie.Need-returns-2
 unfolding fitsHere
-returns-2 c = rw (sym (c .before .before .before .label-fits .ensures) ∙ not-false _ (c .before .before .if1 .left), sym (c .before .mark-fits .ensures) ∙ not-true _ (c .if2 .taken), fitsHere)
+returns-2 c =
+    let label = sym (c .before .before .before .label-fits .ensures) ∙ not-false _ (c .before .before .if1 .left) in
+    let mark = sym (c .before .mark-fits .ensures) ∙ not-true _ (c .if2 .taken) in
+    rw (label, mark, fitsHere)
 
 subset16-requires : tie.Need-subset16-requires
 subset16-requires c κs = search needs
 
 returns-3 : tie.Need-returns-3
 unfolding fitsHere
-returns-3 c = rw (sym (c .before .before .before .before .label-fits .ensures) ∙ not-false _ (c .before .before .before .if1 .left), sym (c .before .before .mark-fits .ensures) ∙ not-false _ (c .before .if2 .left), fitsHere) (c .subset16 .ensures)
+returns-3 c =
+    let label = sym (c .before .before .before .before .label-fits .ensures) ∙ not-false _ (c .before .before .before .if1 .left) in
+    let mark = sym (c .before .before .mark-fits .ensures) ∙ not-false _ (c .before .if2 .left) in
+    rw (label, mark, fitsHere) (c .subset16 .ensures)
 
 pub fits-here-spec : {M : Type 1} → statement M
 fits-here-spec =

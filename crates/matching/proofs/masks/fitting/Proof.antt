@@ -1,7 +1,7 @@
 -- `matching::masks::fitting` meets its contract: after p turns r holds what fits of the nodes below p. The measure is what is left of
 -- m. Assumes nothing.
-use borrow.Author.Needs.{needs}
 use Prim.Native.Nat.{_-_}
+use borrow.Author.Needs.{needs}
 use Rattle.matching.specs.Masks.{fitsBy}
 use Rattle.matching.proofs.MaskLoops.{Inserting, inserting-start, inserting-step, inserting-end}
 use Rattle.matching.proofs.masks.fitting.Statement.{statement}

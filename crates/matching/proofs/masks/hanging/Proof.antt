@@ -1,10 +1,10 @@
 -- `matching::masks::hanging` meets its contract: after q turns r holds what hangs from the set of the nodes below q. The measure is
 -- what is left of m. Assumes nothing.
-use borrow.Author.Needs.{needs}
 use Prim.Native.Nat.{_-_}
+use native.Mathlib.Omega.{arith}
+use borrow.Author.Needs.{needs}
 use Rattle.matching.specs.Masks.{hangsFromSet}
 use Rattle.matching.proofs.MaskLoops.{Inserting, inserting-start, inserting-step, inserting-end}
-use native.Mathlib.Omega.{arith}
 use Rattle.matching.proofs.masks.hanging.Statement.{statement}
 use Rattle.matching.proofs.masks.hanging.Tie as tie
 

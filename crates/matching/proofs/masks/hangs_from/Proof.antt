@@ -1,9 +1,9 @@
 -- `matching::masks::hangs_from` meets its contract: the root hangs from nothing, and any other parent is below 16. Assumes nothing.
+use Prim.Native.Nat.{_<_}
+use mathlib.Core.Path.{ap, _∙_}
+use native.Mathlib.Omega.{arith}
 use borrow.Author.Needs.{needs}
 use borrow.Author.Tests.{lt-ltb, le-ltb}
-use mathlib.Core.Path.{ap, _∙_}
-use Prim.Native.Nat.{_<_}
-use native.Mathlib.Omega.{arith}
 use Rattle.model.proofs.Masks.{has}
 use Rattle.matching.proofs.masks.hangs_from.Statement.{statement}
 use Rattle.matching.proofs.masks.hangs_from.Tie as tie
@@ -15,10 +15,16 @@ wide-requires : tie.Need-wide-requires
 wide-requires c κs = search needs
 
 has16-requires : tie.Need-has16-requires
-has16-requires c κs = let h : 0 < c .before .before .args .q = omega arith in omega (arith, c .before .before .pre h)
+has16-requires c κs =
+    let s = c .before .before in
+    let h : 0 < s .args .q = omega arith in
+    omega (arith, s .pre h)
 
 returns-2 : tie.Need-returns-2
-returns-2 c = let h : 0 < c .before .before .before .args .q = omega arith in rw (lt-ltb _ _ h) (c .has16 .ensures ∙ ap (has (c .before .before .before .args .set)) (c .before .wide .ensures .0))
+returns-2 c =
+    let s = c .before .before .before .args in
+    let h : 0 < s .q = omega arith in
+    rw (lt-ltb _ _ h) (c .has16 .ensures ∙ ap (has (s .set)) (c .before .wide .ensures .0))
 
 pub hangs-from-spec : {M : Type 1} → statement M
 hangs-from-spec = tie.close (tie.spec returns wide-requires has16-requires returns-2)

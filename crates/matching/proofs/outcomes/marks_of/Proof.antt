@@ -1,9 +1,9 @@
 -- `matching::outcomes::marks_of` meets its contract: after q turns the first q marks stand. The measure is what is left of m. Assumes
 -- nothing.
-use borrow.Author.Needs.{needs}
 use Prim.Native.Nat.{ℕ, _-_}
 use native.Mathlib.Omega.{arith}
 use lib.ListN.{getD, replicate}
+use borrow.Author.Needs.{needs}
 use Rattle.matching.specs.Outcomes.{markAt, marksFrom}
 use Rattle.matching.proofs.ReadLoops.{Filling, filling-start, filling-step, filling-end}
 use Rattle.matching.proofs.outcomes.marks_of.Statement.{statement}
@@ -16,7 +16,9 @@ abbrev μ-loop : tie.MeasureT-loop
 μ-loop positions m list marks₀ q₀ marks q = m - q
 
 loop-holds : tie.Need-loop-holds Inv-loop μ-loop
-loop-holds c = filling-start (λ (k : ℕ). markAt (getD (c .before .before .args .positions .now) k 0) (c .before .before .args .list .now))
+loop-holds c =
+    let s = c .before .before .args in
+    filling-start (λ (k : ℕ). markAt (getD (s .positions .now) k 0) (s .list .now))
 
 mul-mark-at : tie.Need-mul-mark-at Inv-loop μ-loop
 mul-mark-at c = search needs
@@ -40,11 +42,15 @@ loop-less : tie.Need-loop-less Inv-loop μ-loop
 loop-less c = search needs
 
 loop-again : tie.Need-loop-again Inv-loop μ-loop
-loop-again c = filling-step (λ (k : ℕ). markAt (getD (c .before .before .before .before .before .before .args .positions .now) k 0) (c .before .before .before .before .before .before .args .list .now)) (c .before .before .before .loop .inv) (c .before .before .before .before .before .before .pre .0) (c .before .before .loop-test .taken) (c .mark-at .ensures)
+loop-again c =
+    let s = c .before .before .before .before .before .before in
+    filling-step (λ (k : ℕ). markAt (getD (s .args .positions .now) k 0) (s .args .list .now)) (c .before .before .before .loop .inv) (s .pre .0) (c .before .before .loop-test .taken) (c .mark-at .ensures)
 
 returns : tie.Need-returns Inv-loop μ-loop
 unfolding marksFrom
-returns c = filling-end (λ (k : ℕ). markAt (getD (c .before .before .before .before .args .positions .now) k 0) (c .before .before .before .before .args .list .now)) (c .before .loop .inv) (c .loop-test .left)
+returns c =
+    let s = c .before .before .before .before .args in
+    filling-end (λ (k : ℕ). markAt (getD (s .positions .now) k 0) (s .list .now)) (c .before .loop .inv) (c .loop-test .left)
 
 pub marks-of-spec : {M : Type 1} → statement M
 marks-of-spec =

@@ -1,10 +1,10 @@
 -- `matching::outcomes::node_at` meets its contract: none of the nodes passed holds the position. The measure is what is left of m. Assumes
 -- nothing.
-use borrow.Author.Needs.{needs}
 use Prim.Native.Nat.{ℕ, _-_}
 use mathlib.Core.Path.{sym, _∙_}
 use lib.Dec.{eqb}
 use lib.ListN.{getD}
+use borrow.Author.Needs.{needs}
 use borrow.Author.Tests.{eq-eqb, ne-eqb}
 use Rattle.matching.specs.Outcomes.{holderOf}
 use Rattle.matching.proofs.ReadLoops.{Seeking, seeking-start, seeking-step, seeking-found, seeking-end}

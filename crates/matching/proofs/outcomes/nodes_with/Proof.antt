@@ -1,8 +1,8 @@
 -- `matching::outcomes::nodes_with` meets its contract: after v turns the nodes below v whose mask has q stand at the front. The measure is
 -- what is left of n. Assumes nothing.
-use borrow.Author.Needs.{needs}
 use Prim.Native.Nat.{_-_}
 use native.Mathlib.Omega.{arith}
+use borrow.Author.Needs.{needs}
 use Rattle.matching.specs.Outcomes.{inMask}
 use Rattle.matching.proofs.ReadLoops.{Listing, listing-start, listing-step, listing-end}
 use Rattle.matching.proofs.outcomes.nodes_with.Statement.{statement}

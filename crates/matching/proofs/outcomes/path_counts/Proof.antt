@@ -1,9 +1,9 @@
 -- `matching::outcomes::path_counts` meets its contract: after q turns the first q counts stand. The measure is what is left of 16. Assumes
 -- nothing.
-use borrow.Author.Needs.{needs}
 use Prim.Native.Nat.{ℕ, _-_}
 use lib.Count.{ones}
 use lib.ListN.{getD, replicate}
+use borrow.Author.Needs.{needs}
 use Rattle.matching.proofs.ReadLoops.{Filling, filling-start, filling-step, filling-end, filling-entries}
 use Rattle.matching.proofs.outcomes.path_counts.Statement.{statement}
 use Rattle.matching.proofs.outcomes.path_counts.Tie as tie
@@ -42,7 +42,9 @@ loop-again : tie.Need-loop-again Inv-loop μ-loop
 loop-again c = filling-step (λ (k : ℕ). ones (getD (c .before .before .before .before .before .args .masks .now) k 0)) (c .before .before .before .loop .inv) (search needs) (c .before .before .loop-test .taken) (c .count64 .ensures)
 
 returns : tie.Need-returns Inv-loop μ-loop
-returns c = let l = c .before .before .before .args .masks .now in filling-entries ones l (replicate 16 0) (c .before .before .before .pre) (search needs) (filling-end (λ (k : ℕ). ones (getD l k 0)) (c .before .loop .inv) (c .loop-test .left))
+returns c =
+    let l = c .before .before .before .args .masks .now in
+    filling-entries ones l (replicate 16 0) (c .before .before .before .pre) (search needs) (filling-end (λ (k : ℕ). ones (getD l k 0)) (c .before .loop .inv) (c .loop-test .left))
 
 pub path-counts-spec : {M : Type 1} → statement M
 path-counts-spec =

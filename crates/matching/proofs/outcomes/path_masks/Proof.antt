@@ -1,13 +1,13 @@
 -- `matching::outcomes::path_masks` meets its contract: a node's paths are where it stands. After q turns the first q masks stand; the
 -- measure is what is left of m. Assumes nothing.
-use borrow.Author.Needs.{needs}
 use Prim.Native.Nat.{ℕ, _-_}
+use mathlib.Core.Path.{refl}
+use native.Mathlib.Omega.{arith}
 use lib.ListN.{replicate}
+use borrow.Author.Needs.{needs}
 use Rattle.model.specs.Lists.{maskBelow}
 use Rattle.matching.specs.Outcomes.{inMask}
 use Rattle.matching.proofs.ReadLoops.{Filling, filling-start, filling-step, filling-end}
-use mathlib.Core.Path.{refl}
-use native.Mathlib.Omega.{arith}
 use Rattle.matching.proofs.ColumnAnswers.{paths-read}
 use Rattle.matching.proofs.outcomes.path_masks.Statement.{statement}
 use Rattle.matching.proofs.outcomes.path_masks.Tie as tie

@@ -1,7 +1,7 @@
 -- `matching::outcomes::stand_mask` meets its contract: after v turns r holds what passes of the nodes below v. The measure is what is left
 -- of n. Assumes nothing.
-use borrow.Author.Needs.{needs}
 use Prim.Native.Nat.{_-_}
+use borrow.Author.Needs.{needs}
 use Rattle.matching.specs.Outcomes.{inMask}
 use Rattle.matching.proofs.MaskLoops.{Inserting, inserting-start, inserting-step, inserting-end}
 use Rattle.matching.proofs.outcomes.stand_mask.Statement.{statement}

@@ -1,7 +1,7 @@
 -- `matching::tables::clear` meets its contract: after i turns the first i entries are 0. The measure is what is left of n. Assumes nothing.
-use borrow.Author.Needs.{needs}
 use Prim.Native.Nat.{ℕ, _-_}
 use mathlib.Core.Path.{refl}
+use borrow.Author.Needs.{needs}
 use Rattle.matching.proofs.ReadLoops.{Filling, filling-start, filling-step, filling-end}
 use Rattle.matching.proofs.tables.clear.Statement.{statement}
 use Rattle.matching.proofs.tables.clear.Tie as tie

@@ -1,9 +1,9 @@
 -- `matching::tables::descend` meets its contract: what hangs from what v keeps is what `hanging` gives. Assumes nothing.
-use borrow.Author.Needs.{needs}
 use Prim.Native.Nat.{ℕ}
 use mathlib.Core.Path.{refl, ap}
 use lib.Bits.{bitAnd, bitOr}
 use lib.ListN.{set}
+use borrow.Author.Needs.{needs}
 use Rattle.matching.proofs.tables.descend.Statement.{statement}
 use Rattle.matching.proofs.tables.descend.Tie as tie
 
@@ -35,7 +35,9 @@ same-length-2 : tie.Need-same-length-2
 same-length-2 c = search needs
 
 returns : tie.Need-returns
-returns c = let s = c .before .before .before .before .before .args in (refl, ap (λ (x : ℕ). set (s .left .now) (s .v) (bitOr x (bitAnd (s .deep) (s .may)))) (c .hanging .ensures))
+returns c =
+    let s = c .before .before .before .before .before .args in
+    (refl, ap (λ (x : ℕ). set (s .left .now) (s .v) (bitOr x (bitAnd (s .deep) (s .may)))) (c .hanging .ensures))
 
 pub descend-spec : {M : Type 1} → statement M
 descend-spec =

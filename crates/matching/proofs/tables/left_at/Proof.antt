@@ -1,16 +1,18 @@
 -- `matching::tables::left_at` meets its contract: to the root only the pattern's root is left, and any other node's parent stands before
 -- it. Assumes nothing.
-use borrow.Author.Needs.{needs}
 use Prim.Native.Nat.{ℕ, _<_}
-use native.Mathlib.Omega.{arith}
 use mathlib.Core.Path.{sym, ap, _∙_}
+use native.Mathlib.Omega.{arith}
 use lib.ListN.{getD}
+use borrow.Author.Needs.{needs}
 use Rattle.matching.proofs.TurnLaws.{leftAt-root, leftAt-parent}
 use Rattle.matching.proofs.tables.left_at.Statement.{statement}
 use Rattle.matching.proofs.tables.left_at.Tie as tie
 
 returns : tie.Need-returns
-returns c = let s = c .before .before .before .args in sym (leftAt-root (s .parents .now) (s .v) (s .left .now) (c .if1 .taken))
+returns c =
+    let s = c .before .before .before .args in
+    sym (leftAt-root (s .parents .now) (s .v) (s .left .now) (c .if1 .taken))
 
 mul-wide : tie.Need-mul-wide
 mul-wide c = search needs
@@ -25,10 +27,16 @@ mul-result : tie.Need-mul-result
 mul-result c = search needs
 
 shared-slice-read-result : tie.Need-shared-slice-read-result
-shared-slice-read-result c = let s = c .before .before .before .before .before .before in let h : 0 < s .args .v = omega arith in omega (arith, s .pre .2 h)
+shared-slice-read-result c =
+    let s = c .before .before .before .before .before .before in
+    let h : 0 < s .args .v = omega arith in
+    omega (arith, s .pre .2 h)
 
 returns-2 : tie.Need-returns-2
-returns-2 c = let s = c .before .before .before .before .before .before .args in ap (λ (u : ℕ). getD (s .left .now) u 0) (c .before .wide .ensures .0) ∙ sym (leftAt-parent (s .parents .now) (s .v) (s .left .now) (c .before .before .before .if1 .left))
+returns-2 c =
+    let s = c .before .before .before .before .before .before .args in
+    ap (λ (u : ℕ). getD (s .left .now) u 0) (c .before .wide .ensures .0)
+    ∙ sym (leftAt-parent (s .parents .now) (s .v) (s .left .now) (c .before .before .before .if1 .left))
 
 pub left-at-spec : {M : Type 1} → statement M
 left-at-spec =

@@ -1,7 +1,7 @@
 -- `matching::tables::settle` meets its contract: the table is stored to as the definition says. Assumes nothing.
-use borrow.Author.Needs.{needs}
 use mathlib.Core.Path.{_∙_}
 use lib.ListN.{length-set}
+use borrow.Author.Needs.{needs}
 use Rattle.matching.proofs.TurnLaws.{settle-stored}
 use Rattle.matching.proofs.tables.settle.Statement.{statement}
 use Rattle.matching.proofs.tables.settle.Tie as tie
@@ -34,10 +34,14 @@ offer-up-requires : tie.Need-offer-up-requires
 offer-up-requires c κs = search needs
 
 same-length : tie.Need-same-length
-same-length c = let s = c .before .before .before .before .before .before .before .before .before .before .before .before .before .args in c .before .before .offer-up .kept .1 .1 .1 .0 ∙ length-set (s .table .now) (s .v) (c .before .before .before .before .fitting .result)
+same-length c =
+    let s = c .before .before .before .before .before .before .before .before .before .before .before .before .before .args in
+    c .before .before .offer-up .kept .1 .1 .1 .0 ∙ length-set (s .table .now) (s .v) (c .before .before .before .before .fitting .result)
 
 returns : tie.Need-returns
-returns c = let s = c .before .before .before .before .before .before .before .before .before .before .before .before .before .args in settle-stored (s .parents .now) (s .table .now) (s .v) (s .deep) (c .before .before .offer-up .ensures) (c .before .before .before .before .fitting .ensures)
+returns c =
+    let s = c .before .before .before .before .before .before .before .before .before .before .before .before .before .args in
+    settle-stored (s .parents .now) (s .table .now) (s .v) (s .deep) (c .before .before .offer-up .ensures) (c .before .before .before .before .fitting .ensures)
 
 pub settle-spec : {M : Type 1} → statement M
 settle-spec =
