@@ -205,10 +205,10 @@ module _ (b : List ℕ) (s at : ℕ) (l : List ℕ) (accepted : refusal (caseQue
       }
 
   -- 13, by the fields
-  pub placement-by-fields : isPlacement (caseOf b) s l ≡ (eqb (length l % 2) 0
+  pub embedding-by-fields : isPlacement (caseOf b) s l ≡ (eqb (length l % 2) 0
       && (eqb (length l / 2) (field b at) && allOf (imageKept (caseOf b .summary) (patternAt b at) (listOf l)) (upFrom 0 (length (patternAt b at)))))
   unfolding isPlacement isWholeList
-  placement-by-fields =
+  embedding-by-fields =
       let S : Summary = caseOf b .summary in
       let P : Pattern = patternAt b at in
       let listed = listed-by-tests S P (listOf l) pattern-tree (accepted-case b accepted .summary .tree) in

@@ -14,6 +14,7 @@ use crate::limits::MAX_DOCUMENT;
 use crate::rules::between;
 use crate::rules::parent_rule;
 use format::field::field;
+use format::nodes::DocumentNode;
 
 // The document is whole, nothing after. Its count is read only where it is whole.
 pub fn document_whole(w: &[u8]) -> bool
@@ -26,28 +27,28 @@ pub fn document_whole(w: &[u8]) -> bool
     bytes == 2 * (1 + DOCUMENT_WIDTH * field(w, 0))
 }
 
-// The parent of document node i.
-pub fn document_parent(w: &[u8], i: usize) -> usize
-    requires { ⌜ InSection documentWidth (now w) 0 i ⌝ }
-    ensures { λ r. ⌜ r ≡ parentOf (documentOf (now (w .entry))) i ⌝ }
+// The parent of document node i, as a number: before question 10 the field may be any, so it is no document node yet.
+pub fn document_parent(w: &[u8], i: DocumentNode) -> usize
+    requires { ⌜ InSection documentWidth (now w) 0 (i .0) ⌝ }
+    ensures { λ r. ⌜ r ≡ parentOf (documentOf (now (w .entry))) (i .0) ⌝ }
 {
-    field(w, 1 + DOCUMENT_WIDTH * i)
+    field(w, 1 + DOCUMENT_WIDTH * i.0)
 }
 
 // Its label.
-pub fn document_label(w: &[u8], i: usize) -> usize
-    requires { ⌜ InSection documentWidth (now w) 0 i ⌝ }
-    ensures { λ r. ⌜ r ≡ labelOf (documentOf (now (w .entry))) i ⌝ }
+pub fn document_label(w: &[u8], i: DocumentNode) -> usize
+    requires { ⌜ InSection documentWidth (now w) 0 (i .0) ⌝ }
+    ensures { λ r. ⌜ r ≡ labelOf (documentOf (now (w .entry))) (i .0) ⌝ }
 {
-    field(w, 1 + DOCUMENT_WIDTH * i + 1)
+    field(w, 1 + DOCUMENT_WIDTH * i.0 + 1)
 }
 
 // Record i keeps the rules for parent and label.
-pub fn document_record_kept(w: &[u8], i: usize) -> bool
-    requires { ⌜ InSection documentWidth (now w) 0 i ⌝ }
-    ensures { λ r. ⌜ r ≡ documentRecordKept (documentOf (now (w .entry))) i ⌝ }
+pub fn document_record_kept(w: &[u8], i: DocumentNode) -> bool
+    requires { ⌜ InSection documentWidth (now w) 0 (i .0) ⌝ }
+    ensures { λ r. ⌜ r ≡ documentRecordKept (documentOf (now (w .entry))) (i .0) ⌝ }
 {
-    if !parent_rule(i, document_parent(w, i)) {
+    if !parent_rule(i.0, document_parent(w, i)) {
         return false;
     }
     0 < document_label(w, i)
@@ -60,7 +61,7 @@ pub fn document_records_kept(w: &[u8]) -> bool
 {
     let n = field(w, 0);
     for i in 0..n {
-        if !document_record_kept(w, i) {
+        if !document_record_kept(w, DocumentNode(i)) {
             return false;
         }
     }

@@ -22,28 +22,30 @@ use crate::rules::label_fits;
 use crate::summary::summary_label;
 use crate::summary::summary_parent;
 use format::field::field;
+use format::nodes::PatternNode;
+use format::nodes::SummaryNode;
 
 // Summary node v is a child of a.
-pub fn is_child(b: &[u8], a: usize, v: usize) -> bool
-    requires { ⌜ InSection summaryWidth (now b) 0 v ⌝ }
-    ensures { λ r. ⌜ r ≡ childTest (asDocument (caseOf (now (b .entry)) .summary)) a v ⌝ }
+pub fn is_child(b: &[u8], a: SummaryNode, v: SummaryNode) -> bool
+    requires { ⌜ InSection summaryWidth (now b) 0 (v .0) ⌝ }
+    ensures { λ r. ⌜ r ≡ childTest (asDocument (caseOf (now (b .entry)) .summary)) (a .0) (v .0) ⌝ }
 {
-    if v == 0 {
+    if v.0 == 0 {
         return false;
     }
-    summary_parent(b, v) == a
+    summary_parent(b, v) == a.0
 }
 
-// Summary node v is a descendant of a.
-pub fn is_below(b: &[u8], a: usize, v: usize) -> bool
-    requires { ⌜ InSection summaryWidth (now b) 0 v ⌝ }
+// Summary node v is a descendant of a. The summary is a tree, so each parent that is read is a node.
+pub fn is_below(b: &[u8], a: SummaryNode, v: SummaryNode) -> bool
+    requires { ⌜ InSection summaryWidth (now b) 0 (v .0) ⌝ }
     requires { ⌜ IsTree (asDocument (caseOf (now b) .summary)) ⌝ }
-    ensures { λ r. ⌜ r ≡ belowTest (asDocument (caseOf (now (b .entry)) .summary)) a v ⌝ }
+    ensures { λ r. ⌜ r ≡ belowTest (asDocument (caseOf (now (b .entry)) .summary)) (a .0) (v .0) ⌝ }
 {
-    let mut x = v;
+    let mut x = v.0;
     while 0 < x {
-        x = summary_parent(b, x);
-        if x == a {
+        x = summary_parent(b, SummaryNode(x));
+        if x == a.0 {
             return true;
         }
     }
@@ -51,10 +53,10 @@ pub fn is_below(b: &[u8], a: usize, v: usize) -> bool
 }
 
 // The edge, 0 child or 1 descendant, leads from a to v.
-pub fn edge_kept(b: &[u8], edge: usize, a: usize, v: usize) -> bool
-    requires { ⌜ InSection summaryWidth (now b) 0 v ⌝ }
+pub fn edge_kept(b: &[u8], edge: usize, a: SummaryNode, v: SummaryNode) -> bool
+    requires { ⌜ InSection summaryWidth (now b) 0 (v .0) ⌝ }
     requires { ⌜ IsTree (asDocument (caseOf (now b) .summary)) ⌝ }
-    ensures { λ r. ⌜ r ≡ edgeTest (eqb edge 1) (asDocument (caseOf (now (b .entry)) .summary)) a v ⌝ }
+    ensures { λ r. ⌜ r ≡ edgeTest (eqb edge 1) (asDocument (caseOf (now (b .entry)) .summary)) (a .0) (v .0) ⌝ }
 {
     if edge == 1 {
         return is_below(b, a, v);
@@ -62,32 +64,34 @@ pub fn edge_kept(b: &[u8], edge: usize, a: usize, v: usize) -> bool
     is_child(b, a, v)
 }
 
-// The root's image is the root; any other node's is reached from its parent's image.
-pub fn image_reached(b: &[u8], at: usize, l: &[u8], q: usize) -> bool
+// The root's image is the root; any other node's is reached from its parent's image. The pattern is a tree, so the parent has an
+// image in the list.
+pub fn image_reached(b: &[u8], at: usize, l: &[u8], q: PatternNode) -> bool
     requires { ⌜ Images (now b) at (now l) ⌝ }
-    requires { ⌜ q < fieldOf (now b) at ⌝ }
-    requires { ⌜ fieldOf (now l) q < fieldOf (now b) 0 ⌝ }
-    ensures { λ r. ⌜ r ≡ imageReached (caseOf (now (b .entry)) .summary) (patternAt (now (b .entry)) at) (listOf (now (l .entry))) q ⌝ }
+    requires { ⌜ q .0 < fieldOf (now b) at ⌝ }
+    requires { ⌜ fieldOf (now l) (q .0) < fieldOf (now b) 0 ⌝ }
+    ensures { λ r. ⌜ r ≡ imageReached (caseOf (now (b .entry)) .summary) (patternAt (now (b .entry)) at) (listOf (now (l .entry))) (q .0) ⌝ }
 {
-    let v = field(l, q);
-    if q == 0 {
+    let v = field(l, q.0);
+    if q.0 == 0 {
         return v == 0;
     }
     let parent = pattern_parent(b, at, q);
-    edge_kept(b, pattern_edge(b, at, q), field(l, parent), v)
+    let edge = pattern_edge(b, at, q);
+    edge_kept(b, edge, SummaryNode(field(l, parent)), SummaryNode(v))
 }
 
 // Node q stands well at its image.
-pub fn image_kept(b: &[u8], at: usize, l: &[u8], q: usize) -> bool
+pub fn image_kept(b: &[u8], at: usize, l: &[u8], q: PatternNode) -> bool
     requires { ⌜ Images (now b) at (now l) ⌝ }
-    requires { ⌜ q < fieldOf (now b) at ⌝ }
-    ensures { λ r. ⌜ r ≡ imageKept (caseOf (now (b .entry)) .summary) (patternAt (now (b .entry)) at) (listOf (now (l .entry))) q ⌝ }
+    requires { ⌜ q .0 < fieldOf (now b) at ⌝ }
+    ensures { λ r. ⌜ r ≡ imageKept (caseOf (now (b .entry)) .summary) (patternAt (now (b .entry)) at) (listOf (now (l .entry))) (q .0) ⌝ }
 {
-    let v = field(l, q);
+    let v = field(l, q.0);
     if field(b, 0) <= v {
         return false;
     }
-    if !label_fits(pattern_label(b, at, q), summary_label(b, v)) {
+    if !label_fits(pattern_label(b, at, q), summary_label(b, SummaryNode(v))) {
         return false;
     }
     image_reached(b, at, l, q)
@@ -100,7 +104,7 @@ pub fn images_kept(b: &[u8], at: usize, l: &[u8]) -> bool
 {
     let n = field(b, at);
     for q in 0..n {
-        if !image_kept(b, at, l, q) {
+        if !image_kept(b, at, l, PatternNode(q)) {
             return false;
         }
     }

@@ -21,48 +21,49 @@ use crate::rules::between;
 use crate::rules::flag_rule;
 use crate::rules::parent_rule;
 use format::field::field;
+use format::nodes::PatternNode;
 
-// The parent of pattern node q.
-pub fn pattern_parent(b: &[u8], at: usize, q: usize) -> usize
-    requires { ⌜ InSection patternWidth (now b) at q ⌝ }
-    ensures { λ r. ⌜ r ≡ patternParent (patternAt (now (b .entry)) at) q ⌝ }
+// The parent of pattern node q, as a number: before question 7 the field may be any, so it is no pattern node yet.
+pub fn pattern_parent(b: &[u8], at: usize, q: PatternNode) -> usize
+    requires { ⌜ InSection patternWidth (now b) at (q .0) ⌝ }
+    ensures { λ r. ⌜ r ≡ patternParent (patternAt (now (b .entry)) at) (q .0) ⌝ }
 {
-    field(b, at + 1 + PATTERN_WIDTH * q)
+    field(b, at + 1 + PATTERN_WIDTH * q.0)
 }
 
 // Its label, or 0 for any.
-pub fn pattern_label(b: &[u8], at: usize, q: usize) -> usize
-    requires { ⌜ InSection patternWidth (now b) at q ⌝ }
-    ensures { λ r. ⌜ r ≡ patternLabel (patternAt (now (b .entry)) at) q ⌝ }
+pub fn pattern_label(b: &[u8], at: usize, q: PatternNode) -> usize
+    requires { ⌜ InSection patternWidth (now b) at (q .0) ⌝ }
+    ensures { λ r. ⌜ r ≡ patternLabel (patternAt (now (b .entry)) at) (q .0) ⌝ }
 {
-    field(b, at + 1 + PATTERN_WIDTH * q + 1)
+    field(b, at + 1 + PATTERN_WIDTH * q.0 + 1)
 }
 
 // Its edge: 0 child, 1 descendant.
-pub fn pattern_edge(b: &[u8], at: usize, q: usize) -> usize
-    requires { ⌜ InSection patternWidth (now b) at q ⌝ }
-    ensures { λ r. ⌜ r ≡ getD (patternAt (now (b .entry)) at) q noPatternRecord .edge ⌝ }
+pub fn pattern_edge(b: &[u8], at: usize, q: PatternNode) -> usize
+    requires { ⌜ InSection patternWidth (now b) at (q .0) ⌝ }
+    ensures { λ r. ⌜ r ≡ getD (patternAt (now (b .entry)) at) (q .0) noPatternRecord .edge ⌝ }
 {
-    field(b, at + 1 + PATTERN_WIDTH * q + 2)
+    field(b, at + 1 + PATTERN_WIDTH * q.0 + 2)
 }
 
 // Its position, or 0.
-pub fn pattern_position(b: &[u8], at: usize, q: usize) -> usize
-    requires { ⌜ InSection patternWidth (now b) at q ⌝ }
-    ensures { λ r. ⌜ r ≡ positionOf (patternAt (now (b .entry)) at) q ⌝ }
+pub fn pattern_position(b: &[u8], at: usize, q: PatternNode) -> usize
+    requires { ⌜ InSection patternWidth (now b) at (q .0) ⌝ }
+    ensures { λ r. ⌜ r ≡ positionOf (patternAt (now (b .entry)) at) (q .0) ⌝ }
 {
-    field(b, at + 1 + PATTERN_WIDTH * q + 3)
+    field(b, at + 1 + PATTERN_WIDTH * q.0 + 3)
 }
 
 // Record q keeps the rules for parent and edge, with a position of at most 8.
-pub fn pattern_record_kept(b: &[u8], at: usize, q: usize) -> bool
-    requires { ⌜ InSection patternWidth (now b) at q ⌝ }
-    ensures { λ r. ⌜ r ≡ patternRecordKept (patternAt (now (b .entry)) at) q ⌝ }
+pub fn pattern_record_kept(b: &[u8], at: usize, q: PatternNode) -> bool
+    requires { ⌜ InSection patternWidth (now b) at (q .0) ⌝ }
+    ensures { λ r. ⌜ r ≡ patternRecordKept (patternAt (now (b .entry)) at) (q .0) ⌝ }
 {
-    if !parent_rule(q, pattern_parent(b, at, q)) {
+    if !parent_rule(q.0, pattern_parent(b, at, q)) {
         return false;
     }
-    if !flag_rule(q, pattern_edge(b, at, q)) {
+    if !flag_rule(q.0, pattern_edge(b, at, q)) {
         return false;
     }
     pattern_position(b, at, q) <= MAX_POSITION
@@ -75,7 +76,7 @@ pub fn pattern_kept(b: &[u8], at: usize) -> bool
 {
     let n = field(b, at);
     for q in 0..n {
-        if !pattern_record_kept(b, at, q) {
+        if !pattern_record_kept(b, at, PatternNode(q)) {
             return false;
         }
     }
@@ -101,7 +102,7 @@ pub fn arity(b: &[u8], at: usize) -> usize
     let n = field(b, at);
     let mut k: usize = 0;
     for q in 0..n {
-        let p = pattern_position(b, at, q);
+        let p = pattern_position(b, at, PatternNode(q));
         if 0 < p {
             k += 1;
         }
@@ -117,7 +118,7 @@ pub fn holders(b: &[u8], at: usize, position: usize) -> usize
     let n = field(b, at);
     let mut k: usize = 0;
     for q in 0..n {
-        let p = pattern_position(b, at, q);
+        let p = pattern_position(b, at, PatternNode(q));
         if p == position {
             k += 1;
         }

@@ -6,10 +6,10 @@ use Rattle.questions.proofs.embedding.is_below.Statement.{statement}
 use Rattle.questions.proofs.embedding.is_below.Tie as tie
 
 abbrev Inv-loop : tie.InvT-loop
-Inv-loop b a v x₀ x = Climbed b a v x
+Inv-loop b a x₀ x = Climbed b (a .0) x₀ x
 
 abbrev μ-loop : tie.MeasureT-loop
-μ-loop b a v x₀ x = x
+μ-loop b a x₀ x = x
 
 loop-holds : tie.Need-loop-holds Inv-loop μ-loop
 loop-holds c = climb-start _ _ _ (c .before .pre .0 .below)
@@ -18,13 +18,13 @@ summary-parent-requires : tie.Need-summary-parent-requires Inv-loop μ-loop
 summary-parent-requires c κs = record { whole = c .before .before .before .pre .0 .whole; below = c .before .loop .inv .inside }
 
 returns : tie.Need-returns Inv-loop μ-loop
-returns c = sym (climb-found _ (c .before .before .before .before .before .pre .1) _ _ _ _ (c .before .before .before .loop .inv) (c .before .before .loop-test .taken) (c .before .summary-parent .ensures) (c .if1 .taken))
+returns c = sym (climb-found _ (c .before .before .before .before .before .before .pre .1) _ _ _ _ (c .before .before .before .before .loop .inv) (c .before .before .before .loop-test .taken) (c .before .before .summary-parent .ensures) (c .if1 .taken))
 
 loop-less : tie.Need-loop-less Inv-loop μ-loop
-loop-less c = climb-falls _ (c .before .before .before .before .before .pre .1) _ _ _ _ (c .before .before .before .loop .inv) (c .before .before .loop-test .taken) (c .before .summary-parent .ensures)
+loop-less c = climb-falls _ (c .before .before .before .before .before .before .pre .1) _ _ _ _ (c .before .before .before .before .loop .inv) (c .before .before .before .loop-test .taken) (c .before .before .summary-parent .ensures)
 
 loop-again : tie.Need-loop-again Inv-loop μ-loop
-loop-again c = climb-on _ (c .before .before .before .before .before .pre .1) _ _ _ _ (c .before .before .before .loop .inv) (c .before .before .loop-test .taken) (c .before .summary-parent .ensures) (c .if1 .left)
+loop-again c = climb-on _ (c .before .before .before .before .before .before .pre .1) _ _ _ _ (c .before .before .before .before .loop .inv) (c .before .before .before .loop-test .taken) (c .before .before .summary-parent .ensures) (c .if1 .left)
 
 returns-2 : tie.Need-returns-2 Inv-loop μ-loop
 returns-2 c = sym (climb-end _ _ _ _ (c .before .loop .inv) (c .loop-test .left))

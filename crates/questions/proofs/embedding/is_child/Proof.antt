@@ -13,7 +13,7 @@ summary-parent-requires : tie.Need-summary-parent-requires
 summary-parent-requires c κs = search needs
 
 returns-2 : tie.Need-returns-2
-returns-2 c = rw (child-by-parent _ _ _ (c .before .if1 .left) (summary-inside _ _ (c .before .before .before .pre .below)), ← c .summary-parent .ensures)
+returns-2 c = rw (child-by-parent _ _ _ (c .before .before .if1 .left) (summary-inside _ _ (c .before .before .before .before .before .pre .below)), ← c .before .summary-parent .ensures)
 
 pub is-child-spec : {M : Type 1} → statement M
 is-child-spec = tie.close (tie.spec returns summary-parent-requires returns-2)

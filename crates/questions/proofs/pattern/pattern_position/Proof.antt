@@ -2,7 +2,7 @@
 use borrow.Author.Needs.{needs}
 use mathlib.Core.Path.{sym, ap, _∙_}
 use Rattle.model.specs.Pattern.{PatternRecord}
-use Rattle.questions.proofs.TableLaws.{pattern-record}
+use Rattle.format.proofs.ColumnLaws.{pattern-record}
 use Rattle.questions.proofs.pattern.pattern_position.Statement.{statement}
 use Rattle.questions.proofs.pattern.pattern_position.Tie as tie
 
@@ -22,7 +22,7 @@ field-requires : tie.Need-field-requires
 field-requires c κs = search needs
 
 returns : tie.Need-returns
-returns c = c .field .ensures .0 ∙ sym (ap (λ (r : PatternRecord). r .position) (pattern-record _ _ _ (c .before .before .pre .below)))
+returns c = c .field .ensures .0 ∙ sym (ap (λ (r : PatternRecord). r .position) (pattern-record _ _ _ (c .before .before .before .pre .below)))
 
 pub pattern-position-spec : {M : Type 1} → statement M
 pattern-position-spec =

@@ -11,10 +11,10 @@ use Rattle.questions.proofs.summary.differs_before.Statement.{statement
 use Rattle.questions.proofs.summary.differs_before.Tie as tie
 
 abbrev Inv-loop : tie.InvT-loop
-Inv-loop b j i₀ i = Passed (λ k. not (alike (caseOf b .summary) k j)) 0 i
+Inv-loop b j n i₀ i = Passed (λ k. not (alike (caseOf b .summary) k (j .0))) 0 i
 
 abbrev μ-loop : tie.MeasureT-loop
-μ-loop b j i₀ i = j - i
+μ-loop b j n i₀ i = n - i
 
 loop-holds : tie.Need-loop-holds Inv-loop μ-loop
 loop-holds c = passed-none _ 0

@@ -19,7 +19,7 @@ field-requires : tie.Need-field-requires
 field-requires c κs = search needs
 
 returns : tie.Need-returns
-returns c = c .field .ensures .0 ∙ sym (ap (λ (r : DocumentRecord). r .label) (summary-node _ _ (c .before .before .pre .below)))
+returns c = c .field .ensures .0 ∙ sym (ap (λ (r : DocumentRecord). r .label) (summary-node _ _ (c .before .before .before .pre .below)))
 
 pub summary-label-spec : {M : Type 1} → statement M
 summary-label-spec = tie.close (tie.spec mul-field add-field add-field-2 field-requires returns)

@@ -16,7 +16,7 @@ field-requires : tie.Need-field-requires
 field-requires c κs = search needs
 
 returns : tie.Need-returns
-returns c = c .field .ensures .0 ∙ sym (ap (λ (r : DocumentRecord). r .parent) (summary-node _ _ (c .before .before .pre .below)))
+returns c = c .field .ensures .0 ∙ sym (ap (λ (r : DocumentRecord). r .parent) (summary-node _ _ (c .before .before .before .pre .below)))
 
 pub summary-parent-spec : {M : Type 1} → statement M
 summary-parent-spec = tie.close (tie.spec mul-field add-field field-requires returns)
