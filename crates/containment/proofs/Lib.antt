@@ -1,0 +1,15 @@
+pub mod KeepLaws
+pub mod MemberLaws
+pub mod Pruning
+pub mod SetLaws
+pub mod ChainLaws
+pub mod HangLoop
+pub mod RoomLaws
+pub mod GatherLaws
+pub mod GivenLoop
+pub mod SetLoops
+pub mod Judging
+pub mod TableSets
+pub mod StepLoop
+pub mod Deciding
+pub mod CaseLaws

@@ -1,0 +1,94 @@
+-- One node by masks: what meets at it and what it offers are the model's sets. Each operation on masks is the operation on sets.
+-- Assumes nothing.
+use Prim.Native.Nat.{ℕ, _+_, _*_, _/_, _%_, _^_, _≤_, _<_}
+use mathlib.Core.Path.{_≡_, sym, ap, ap₂, _∙_}
+use mathlib.Core.Bool.{Bool, _&&_, _||_, not}
+use mathlib.Core.List.{List}
+use native.Mathlib.Omega.{arith}
+use native.Mathlib.Nat.{div-add-mod', lt-of-lt-of-le}
+use lib.Bits.{bitAnd, bitOr, and-shr, and-mod}
+use lib.Dec.{eqb}
+use lib.ListN.{length, getD}
+use lib.Pow.{pow-mono}
+use borrow.Author.Tests.{eqb-true, eq-eqb}
+use Rattle.model.specs.Limits.{maxPosition}
+use Rattle.model.specs.Lists.{upFrom, allOf, maskBelow}
+use Rattle.model.specs.Summary.{Summary, summaryLabel}
+use Rattle.model.specs.Pattern.{Pattern, patternLabel, descends, labelFits}
+use Rattle.model.specs.Quick.{hangsFrom, meets, offers, closed, union}
+use Rattle.model.proofs.ListLaws.{and-intro, and-left, and-right, bool-ext}
+use Rattle.model.proofs.Masks.{mask-lt, mask-below}
+use Rattle.bits.proofs.MaskLaws.{mask-agree, mask-or, mask-and, subset-all}
+use Rattle.containment.specs.Judging.{fullBy, meetsBy, offersBy, Sets, nodeBy}
+use Rattle.containment.specs.Prepared.{allOffered, mayHold, NodeSets, ChainSets}
+
+-- ---- all children, by halves
+
+-- two numbers are equal when their halves are
+halves-equal : (x y : ℕ) → eqb x y ≡ (eqb (x % 256) (y % 256) && eqb (x / 256) (y / 256))
+halves-equal x y =
+    bool-ext (eqb x y) (eqb (x % 256) (y % 256) && eqb (x / 256) (y / 256))
+    (λ e. let p : x ≡ y = eqb-true x y e in and-intro (eq-eqb (x % 256) (y % 256) (ap (λ (z : ℕ). z % 256) p)) (eq-eqb (x / 256) (y / 256) (ap (λ (z : ℕ). z / 256) p)))
+    (λ e.
+    let a : x % 256 ≡ y % 256 = eqb-true (x % 256) (y % 256) (and-left (eqb (x % 256) (y % 256)) (eqb (x / 256) (y / 256)) e) in
+    let b : x / 256 ≡ y / 256 = eqb-true (x / 256) (y / 256) (and-right (eqb (x % 256) (y % 256)) (eqb (x / 256) (y / 256)) e) in
+    eq-eqb x y (sym (div-add-mod' x 256) ∙ ap₂ (λ (u v : ℕ). u * 256 + v) b a ∙ div-add-mod' y 256))
+
+-- every member of a is one of b
+abbrev within : ℕ → ℕ → Bool
+within a b = eqb (bitAnd a b) a
+
+within-halves : (a b : ℕ) → within a b ≡ (within (a % 256) (b % 256) && within (a / 256) (b / 256))
+within-halves a b =
+    halves-equal (bitAnd a b) a
+    ∙ ap₂ (λ (u v : Bool). u && v) (ap (λ (z : ℕ). eqb z (a % 256)) (and-mod a b 8)) (ap (λ (z : ℕ). eqb z (a / 256)) (and-shr a b 8))
+
+-- the masks of children, in two halves, give the nodes all of whose children are in a set
+pub full-halves : (Q : Pattern) (low high : List ℕ) → length Q ≤ 16
+    → ((b : ℕ) → b < 256 → getD low b 0 ≡ maskBelow (λ p. eqb (bitAnd (maskBelow (hangsFrom Q p) (length Q) % 256) b) (maskBelow (hangsFrom Q p) (length Q) % 256)) (length Q))
+    → ((b : ℕ) → b < 256 → getD high b 0 ≡ maskBelow (λ p. eqb (bitAnd (maskBelow (hangsFrom Q p) (length Q) / 256) b) (maskBelow (hangsFrom Q p) (length Q) / 256)) (length Q))
+    → (acc : ℕ → Bool) → fullBy low high (maskBelow acc (length Q)) ≡ maskBelow (allOffered Q acc) (length Q)
+unfolding fullBy allOffered
+full-halves Q low high small lows highs acc =
+    ap₂ bitAnd (lows (a % 256) (omega arith)) (highs (a / 256) (omega (arith, bound)))
+    ∙ mask-and (λ p. within (kids p % 256) (a % 256)) (λ p. within (kids p / 256) (a / 256)) (length Q)
+    ∙ mask-agree (λ p. within (kids p % 256) (a % 256) && within (kids p / 256) (a / 256)) (λ p. allOf (λ c. not (hangsFrom Q p c) || acc c) (upFrom 0 (length Q))) (length Q)
+    (λ p h. sym (within-halves (kids p) a) ∙ subset-all (hangsFrom Q p) acc (length Q) a (λ c k. mask-below acc (length Q) c k))
+  where
+    a : ℕ
+    a = maskBelow acc (length Q)
+
+    kids : ℕ → ℕ
+    kids p = maskBelow (hangsFrom Q p) (length Q)
+
+    bound : maskBelow acc (length Q) < 2 ^ 16
+    bound = lt-of-lt-of-le (mask-lt acc (length Q)) (pow-mono small)
+
+-- ---- one node
+
+module _ (S : Summary) (Q : Pattern) (fitting allowed low high : List ℕ) (deep : ℕ) (N : NodeSets S Q fitting allowed low high deep) where
+  pub meets-mask : (x n : ℕ) (acc : ℕ → Bool) → x < length S → n ≤ maxPosition
+      → meetsBy fitting allowed low high x n (maskBelow acc (length Q)) ≡ maskBelow (meets S Q x n acc) (length Q)
+  unfolding meetsBy meets allOffered
+  meets-mask x n acc h k =
+      ap₂ bitAnd (ap₂ bitAnd (N .fits x h) (N .may n k) ∙ mask-and fit (mayHold Q n) (length Q)) (N .full acc)
+      ∙ mask-and (λ p. fit p && mayHold Q n p) (allOffered Q acc) (length Q)
+    where
+      fit : ℕ → Bool
+      fit p = labelFits (patternLabel Q p) (summaryLabel S x)
+
+  pub offers-mask : (x n : ℕ) (acc : ℕ → Bool) → x < length S → n ≤ maxPosition
+      → offersBy fitting allowed low high deep x n (maskBelow acc (length Q)) ≡ maskBelow (offers S Q x n acc) (length Q)
+  unfolding offersBy offers
+  offers-mask x n acc h k =
+      ap₂ bitOr (meets-mask x n acc h k) (ap (λ (d : ℕ). bitAnd d (maskBelow acc (length Q))) (N .deeps) ∙ mask-and (descends Q) acc (length Q))
+      ∙ mask-or (meets S Q x n acc) (λ p. descends Q p && acc p) (length Q)
+
+-- with its filled-up children
+pub node-mask : (S : Summary) (Q : Pattern) (T : Sets) → ChainSets S Q T → (x n : ℕ) (g : ℕ → Bool) → x < length S → n ≤ maxPosition
+    → nodeBy T x n (maskBelow g (length Q)) ≡ maskBelow (offers S Q x n (union (closed S Q x) g)) (length Q)
+unfolding nodeBy
+node-mask S Q T C x n g h k =
+    ap (offersBy (T .fitting) (T .allowed) (T .low) (T .high) (T .deep) x n)
+    (ap (λ (d : ℕ). bitOr d (maskBelow g (length Q))) (C .closes x h) ∙ mask-or (closed S Q x) g (length Q))
+    ∙ offers-mask S Q (T .fitting) (T .allowed) (T .low) (T .high) (T .deep) (C .node) x n (union (closed S Q x) g) h k

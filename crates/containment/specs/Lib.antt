@@ -1,0 +1,6 @@
+pub mod Judging
+pub mod Prepared
+pub mod Room
+pub mod Sets
+pub mod Stepping
+pub mod Steps

@@ -1,0 +1,14 @@
+// Embeddings of the first pattern into the summary (document 01: placements), stepped and judged by masks, nothing laid out.
+
+pub mod decide;
+pub mod judge;
+pub mod sets;
+pub mod steps;
+
+// How far the trials have come: how many may still be tried and how many have passed; or one failed, or the limit was met with
+// more to try, each with how many were tried.
+pub enum Run {
+    Going(u64, u64),
+    Failed(u64),
+    Stopped(u64),
+}
