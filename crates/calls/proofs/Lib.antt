@@ -1,0 +1,5 @@
+pub mod AcceptedLaws
+pub mod AnswerLaws
+pub mod PathLaws
+pub mod ResultLaws
+pub mod NodesLaws
