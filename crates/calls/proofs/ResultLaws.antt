@@ -1,8 +1,8 @@
 -- Is it a result: the fields of an accepted list, read to the front of a column, are the model's list and keep the rules that matching
--- asks for; and what each arm of the call returns is the model's answer. Assumes nothing.
+-- asks for. Assumes nothing.
 use Prim.Native.Nat.{ℕ, _/_, _≤_, _<_}
 use mathlib.Core.Path.{_≡_, sym, ap, _∙_, subst, subst⁻¹}
-use mathlib.Core.Bool.{Bool, true, false}
+use mathlib.Core.Bool.{Bool}
 use mathlib.Core.List.{List}
 use native.Mathlib.Omega.{arith}
 use lib.ListN.{length, getD, take}
@@ -10,13 +10,11 @@ use Rattle.model.specs.Limits.{maxPosition}
 use Rattle.model.specs.Pattern.{Pattern, arity}
 use Rattle.model.specs.Tree.{Document}
 use Rattle.model.specs.Embeddings.{isResult}
-use Rattle.model.specs.Bytes.{caseOf, documentOf, listOf, writtenAtFront}
-use Rattle.model.specs.Questions.{selected, resultRefusal}
-use Rattle.model.specs.Calls.{TestAnswer, resultCall}
+use Rattle.model.specs.Bytes.{caseOf, listOf, writtenAtFront}
+use Rattle.model.specs.Questions.{selected}
 use Rattle.model.proofs.ListLaws.{mem-at}
 use Rattle.model.proofs.Bytes.{front-written}
 use Rattle.model.proofs.Questions.{AcceptedCase, ListFacts, selected-arity}
-use Rattle.model.proofs.Calls.{result-refused, result-accepted}
 use Rattle.questions.proofs.TableLaws.{list-count}
 
 -- ---- the list
@@ -34,9 +32,7 @@ module _ {k n : ℕ} {r : List ℕ} (L : ListFacts k n r) (out₀ : List ℕ) {o
     (e : i ≡ length r / 2) (f : out ≡ writtenAtFront (listOf r) out₀) where
   -- its fields are what stands in front
   pub list-stands : take i out ≡ listOf r
-  list-stands =
-      ap (λ (t : List ℕ). take i t) f
-      ∙ (ap (λ (j : ℕ). take j (writtenAtFront (listOf r) out₀)) (e ∙ sym (list-count r)) ∙ front-written (listOf r) out₀)
+  list-stands = (λ j. take ((e ∙ sym (list-count r)) j) (f j)) ∙ front-written (listOf r) out₀
 
   pub list-length : length (take i out) ≡ k
   list-length = ap length list-stands ∙ L .count
@@ -47,24 +43,8 @@ module _ {k n : ℕ} {r : List ℕ} (L : ListFacts k n r) (out₀ : List ℕ) {o
       let below : getD (listOf r) j 0 < n = L .below (getD (listOf r) j 0) member in
       subst⁻¹ (λ (t : List ℕ). getD t j 0 < count) list-stands (omega arith)
 
--- ---- the answer
+-- ---- the test
 
 -- the test of the tables that stand in the columns is the test of the model's
 pub result-told : {P Q : Pattern} {W X : Document} {r l : List ℕ} {t : Bool} → P ≡ Q → W ≡ X → r ≡ l → t ≡ isResult P W r → t ≡ isResult Q X l
 result-told p w r e = e ∙ (λ i. isResult (p i) (w i) (r i))
-
--- a test as a number
-abbrev told : Bool → ℕ
-told t = elim t as (λ _. ℕ) [ true ↦ 1 | false ↦ 0 ]
-
-module _ (b : List ℕ) (s : ℕ) (w r : List ℕ) {number : ℕ} (e : number ≡ resultRefusal b s w r) where
-  pub result-no : (number ≡ 0 → ⊥) → (number ≡ resultCall b s w r .refused) × (0 ≡ resultCall b s w r .holds)
-  result-no f =
-      let out = result-refused b s w r (λ z. f (e ∙ z)) in
-      (e ∙ sym (ap (λ (a : TestAnswer). a .refused) out), sym (ap (λ (a : TestAnswer). a .holds) out))
-
-  pub result-yes : number ≡ 0 → {test : Bool} → test ≡ isResult (selected (caseOf b) s) (documentOf w) (listOf r)
-      → (0 ≡ resultCall b s w r .refused) × (told test ≡ resultCall b s w r .holds)
-  result-yes z t =
-      let out = result-accepted b s w r (sym e ∙ z) in
-      (sym (ap (λ (a : TestAnswer). a .refused) out), ap told t ∙ sym (ap (λ (a : TestAnswer). a .holds) out))

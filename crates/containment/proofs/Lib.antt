@@ -13,3 +13,4 @@ pub mod TableSets
 pub mod StepLoop
 pub mod Deciding
 pub mod CaseLaws
+pub mod AnswerLaws

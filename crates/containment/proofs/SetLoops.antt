@@ -1,34 +1,12 @@
--- Loops that make tables: a mask to which what passes a test is inserted, and a table that is filled from the front. Assumes nothing.
+-- The loop that fills a table from the front. Assumes nothing.
 use Prim.Native.Nat.{ℕ, _+_, _≤_, _<_}
 use mathlib.Core.Path.{_≡_, refl, sym, ap, _∙_}
-use mathlib.Core.Bool.{Bool}
 use mathlib.Core.List.{List, map}
 use native.Mathlib.Omega.{arith}
 use lib.ListN.{length, set, length-set}
-use Rattle.model.specs.Lists.{upFrom, maskBelow}
+use Rattle.model.specs.Lists.{upFrom}
 use Rattle.model.specs.Bytes.{writtenAtFront}
-use Rattle.bits.specs.Sets.{insertIf}
-use Rattle.bits.proofs.MaskLaws.{mask-start, mask-step}
 use Rattle.format.proofs.FrontLaws.{fill-none, fill-more}
-
--- ---- a mask
-
--- r holds what passes of the numbers below p
-pub record Inserting (test : ℕ → Bool) (m r p : ℕ) : Type 0 where
-  pub top : p ≤ m
-  pub mask : r ≡ maskBelow test p
-
-module _ {test : ℕ → Bool} {m : ℕ} where
-  pub inserting-start : Inserting test m 0 0
-  inserting-start = record { top = omega arith; mask = sym (mask-start test) }
-
-  pub inserting-step : {r p s : ℕ} (t : Bool) → Inserting test m r p → p < m → t ≡ test p → s ≡ insertIf t r p → Inserting test m s (p + 1)
-  inserting-step {r} {p} t v h e q = record { top = omega arith; mask = q ∙ mask-step test p r t (v .mask) e }
-
-  pub inserting-end : {r p : ℕ} → Inserting test m r p → m ≤ p → r ≡ maskBelow test m
-  inserting-end {r} {p} v h = let l : p ≤ m = v .top in let e : p ≡ m = omega arith in v .mask ∙ ap (maskBelow test) e
-
--- ---- a table
 
 -- t holds f's values at the places before x
 pub record Filling (f : ℕ → ℕ) (m : ℕ) (start t : List ℕ) (x : ℕ) : Type 0 where

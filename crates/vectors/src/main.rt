@@ -1,44 +1,118 @@
-// Runs test vectors through the calls' refusals, one printed line each; reference/README.md lays out the vectors.
+// Runs test vectors through the calls, one printed line each; reference/README.md lays out the vectors and the lines. Of a verdict
+// and of a layout only the refusal is printed.
 
+mod print;
 mod read;
 
-use questions::refusals::fits_refusal;
-use questions::refusals::layout_refusal;
-use questions::refusals::nodes_refusal;
-use questions::refusals::paths_refusal;
-use questions::refusals::result_refusal;
-use questions::refusals::verdict_refusal;
 use read::Head;
+use calls::fits::fits_call;
+use calls::nodes::nodes_call;
+use calls::paths::paths_call;
+use calls::result::result_call;
+use questions::refusals::{layout_refusal, verdict_refusal};
 
-// A number of the vector as a length; none here comes near the largest.
+// A number of the vector as a length.
 fn size(n: u64) -> usize {
     n as usize
 }
 
-// The refusal of one vector.
-fn refused(h: Head, case: &[u8], document: &[u8], list: &[u8]) -> u64 {
-    let call = h.call;
-    if call == 1 {
-        return verdict_refusal(case, h.limit, h.tally, size(h.length));
-    }
-    if call == 2 {
-        return fits_refusal(case, document);
-    }
-    if call == 3 {
-        return result_refusal(case, h.selection, document, list);
-    }
-    if call == 4 {
-        return nodes_refusal(case, h.selection, document, h.position, size(h.length));
-    }
-    if call == 5 {
-        return paths_refusal(case, h.selection);
-    }
-    layout_refusal(case, h.selection, list, size(h.length))
+fn wide(n: usize) -> u64 {
+    n as u64
 }
 
-fn print_line(n: u64) {
-    io::print_decimal(1, n);
-    io::write_all(1, b"\n");
+fn run_verdict(h: Head, case: &[u8]) {
+    print::word(b"verdict refused");
+    print::number(verdict_refusal(case, h.limit, h.tally, size(h.length)));
+    print::word(b"\n");
+}
+
+fn run_fits(case: &[u8], document: &[u8]) {
+    let r = fits_call(case, document);
+    print::word(b"fits refused");
+    print::number(r.refused);
+    print::word(b" holds");
+    print::number(r.holds);
+    print::word(b"\n");
+}
+
+fn run_result(h: Head, case: &[u8], document: &[u8], list: &[u8]) {
+    let r = result_call(case, h.selection, document, list);
+    print::word(b"result refused");
+    print::number(r.refused);
+    print::word(b" holds");
+    print::number(r.holds);
+    print::word(b"\n");
+}
+
+fn run_nodes(h: Head, case: &[u8], document: &[u8], answer: &mut [u8]) {
+    let r = nodes_call(case, h.selection, document, h.position, answer);
+    print::word(b"nodes refused");
+    print::number(r.refused);
+    print::word(b" count");
+    print::number(r.count);
+    print::lent(wide(answer.len()), print::hash(answer));
+}
+
+fn print_all(numbers: &[u64]) {
+    for i in 0..numbers.len() {
+        print::number(numbers[i]);
+    }
+}
+
+fn run_paths(h: Head, case: &[u8]) {
+    let r = paths_call(case, h.selection);
+    let masks = r.masks;
+    let counts = r.counts;
+    print::word(b"paths refused");
+    print::number(r.refused);
+    print::word(b" masks");
+    print_all(&masks);
+    print::word(b" counts");
+    print_all(&counts);
+    print::word(b"\n");
+}
+
+fn run_layout(h: Head, case: &[u8], list: &[u8]) {
+    print::word(b"layout refused");
+    print::number(layout_refusal(case, h.selection, list, size(h.length)));
+    print::word(b"\n");
+}
+
+// A buffer filled with a pattern is lent. A length beyond the room here is cut to it.
+fn with_answer(h: Head, case: &[u8], document: &[u8]) {
+    let mut answer = [170u8; 70000];
+    let n = size(h.length);
+    if n <= 70000 {
+        run_nodes(h, case, document, &mut answer[..n]);
+        return;
+    }
+    run_nodes(h, case, document, &mut answer);
+}
+
+// The line of one vector.
+fn line(h: Head, case: &[u8], document: &[u8], list: &[u8]) {
+    let call = h.call;
+    if call == 1 {
+        run_verdict(h, case);
+        return;
+    }
+    if call == 2 {
+        run_fits(case, document);
+        return;
+    }
+    if call == 3 {
+        run_result(h, case, document, list);
+        return;
+    }
+    if call == 4 {
+        with_answer(h, case, document);
+        return;
+    }
+    if call == 5 {
+        run_paths(h, case);
+        return;
+    }
+    run_layout(h, case, list);
 }
 
 // One vector; false where there is no further one.
@@ -60,7 +134,7 @@ fn vector(case: &mut [u8], document: &mut [u8], list: &mut [u8]) -> bool {
     if list.len() < l {
         return false;
     }
-    print_line(refused(h, &case[..c], &document[..d], &list[..l]));
+    line(h, &case[..c], &document[..d], &list[..l]);
     true
 }
 

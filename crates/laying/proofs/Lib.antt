@@ -1,0 +1,4 @@
+pub mod AcceptedLaws
+pub mod LaidLaws
+pub mod TableLaws
+pub mod CallLaws

@@ -1,0 +1,47 @@
+// What a vector's line is made of: words, numbers and the hash of a buffer or table afterwards.
+
+use std::num::wrapping_add_u64;
+
+pub fn word(text: &[u8]) {
+    io::write_all(1, text);
+}
+
+// A space and a number.
+pub fn number(n: u64) {
+    io::write_all(1, b" ");
+    io::print_decimal(1, n);
+}
+
+// The length and the hash of what was lent, and the line's end.
+pub fn lent(length: u64, hash: u64) {
+    word(b" length");
+    number(length);
+    word(b" hash ");
+    io::print_hex(1, hash, 16);
+    word(b"\n");
+}
+
+// h times 2^40 + 435, wrapping.
+fn times_prime(h: u64) -> u64 {
+    let a = wrapping_add_u64(h << 40, h << 8);
+    let b = wrapping_add_u64(h << 7, h << 5);
+    let c = wrapping_add_u64(h << 4, h << 1);
+    wrapping_add_u64(wrapping_add_u64(a, b), wrapping_add_u64(c, h))
+}
+
+// FNV-1a, one byte further.
+fn hash_byte(h: u64, byte: u64) -> u64 {
+    times_prime(h ^ byte)
+}
+
+fn wide8(x: u8) -> u64 {
+    x as u64
+}
+
+pub fn hash(bytes: &[u8]) -> u64 {
+    let mut h: u64 = 14695981039346656037;
+    for i in 0..bytes.len() {
+        h = hash_byte(h, wide8(bytes[i]));
+    }
+    h
+}
