@@ -4,12 +4,13 @@
 mod print;
 mod read;
 
-use read::Head;
 use calls::fits::fits_call;
 use calls::nodes::nodes_call;
 use calls::paths::paths_call;
 use calls::result::result_call;
-use questions::refusals::{layout_refusal, verdict_refusal};
+use questions::refusals::layout_refusal;
+use questions::refusals::verdict_refusal;
+use read::Head;
 
 // A number of the vector as a length.
 fn size(n: u64) -> usize {
