@@ -31,3 +31,4 @@ pub mod Tally
 pub mod Decision
 pub mod Demands
 pub mod Examples
+pub mod Misreadings
