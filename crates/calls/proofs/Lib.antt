@@ -1,4 +1,4 @@
-pub mod AcceptedLaws
+pub mod LentLaws
 pub mod AnswerLaws
 pub mod PathLaws
 pub mod ResultLaws

@@ -23,7 +23,8 @@ use Rattle.matching.specs.Tables.{shapeFrom, Lent}
 use Rattle.matching.specs.Outcomes.{standMask}
 use Rattle.matching.proofs.Shapes.{shape-columns}
 use Rattle.matching.proofs.ColumnAnswers.{standMask-shape, standMask-path}
-use Rattle.calls.proofs.AcceptedLaws.{DocumentColumns, SummaryColumns, PatternColumns, summary-as-document, columns-lent}
+use Rattle.questions.proofs.AcceptedLaws.{DocumentColumns, SummaryColumns, PatternColumns, summary-as-document}
+use Rattle.calls.proofs.LentLaws.{columns-lent}
 
 -- where a node stands in the summary read as a document are its paths
 pub masks-read : {S : Summary} {parents labels strongs : List ℕ} {n : ℕ} {P : Pattern} {qparents qlabels edges positions : List ℕ} {m : ℕ}

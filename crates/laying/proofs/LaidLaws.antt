@@ -21,7 +21,7 @@ use Rattle.questions.proofs.TableLaws.{list-count}
 use Rattle.canonical.specs.Given.{Placed}
 use Rattle.canonical.specs.LaidOut.{Lent, LaidOut}
 use Rattle.laying.specs.Table.{columns, laidColumns}
-use Rattle.laying.proofs.AcceptedLaws.{selected-size, SummaryColumns, PatternColumns}
+use Rattle.questions.proofs.AcceptedLaws.{selected-size, SummaryColumns, PatternColumns}
 
 -- ---- the list
 

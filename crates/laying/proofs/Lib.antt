@@ -1,4 +1,3 @@
-pub mod AcceptedLaws
 pub mod LaidLaws
 pub mod TableLaws
 pub mod CallLaws

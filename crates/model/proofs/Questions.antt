@@ -19,7 +19,7 @@ use Rattle.model.specs.Pattern.{PatternRecord, Pattern, noPatternRecord,
 use Rattle.model.specs.Embeddings.{placements}
 use Rattle.model.specs.Fitting.{parentRule}
 use Rattle.model.specs.Bytes.{Case, caseOf, documentOf, listOf, WholeCase, isWholeDocument, isWholeList}
-use Rattle.model.specs.Questions.{between, limitInRange, bufferLargeEnough, tableLargeEnough, caseWhole, countsInRange, summaryRecordKept, summaryKept, alike, siblingsDiffer, patternRecordKept, patternKept, patternsKept, positionsOnce, positionsKept, tallyInRange, documentRecordKept, documentKept, listInRange, selectionGiven, selected, positionGiven, isPlacement, Question, ask, refusal, caseQuestions, verdictRefusal, fitsRefusal, resultRefusal, nodesRefusal, pathsRefusal, layoutRefusal}
+use Rattle.model.specs.Questions.{between, limitInRange, bufferLargeEnough, tableLargeEnough, caseWhole, countsInRange, summaryRecordKept, summaryKept, alike, siblingsDiffer, patternRecordKept, patternKept, patternsKept, positionsOnce, positionsKept, tallyInRange, documentRecordKept, documentKept, listInRange, patternGiven, selected, positionGiven, isPlacement, Question, ask, refusal, caseQuestions, verdictRefusal, fitsRefusal, resultRefusal, nodesRefusal, pathsRefusal, layoutRefusal}
 use Rattle.model.specs.Facts.{SummaryFacts, PatternFacts, CaseFacts}
 use Rattle.model.proofs.ListLaws.{by-bool, and-intro, and-left, and-right, not-both, true-or-false, all-elim, all-below, any-elim, mem-upFrom, upFrom-mem, same-eq, first-hit}
 use Rattle.model.proofs.TreeLaws.{length-asDocument}
@@ -414,9 +414,9 @@ list-facts k n r e =
     }
 
 -- 12: the selection
-pub selection-given : (s : ℕ) → selectionGiven s ≡ true → (s ≡ 1) ⊎ (s ≡ 2)
-unfolding selectionGiven
-selection-given s e = go (true-or-false (eqb s 1)) (between-facts 1 2 s e)
+pub pattern-given : (s : ℕ) → patternGiven s ≡ true → (s ≡ 1) ⊎ (s ≡ 2)
+unfolding patternGiven
+pattern-given s e = go (true-or-false (eqb s 1)) (between-facts 1 2 s e)
   where
     go : (eqb s 1 ≡ true) ⊎ (eqb s 1 ≡ false) → (1 ≤ s) × (s ≤ 2) → (s ≡ 1) ⊎ (s ≡ 2)
     go (inl y) r = inl (eqb-true s 1 y)
@@ -483,12 +483,12 @@ unfolding resultRefusal
 accepted-result b s w r e =
     let k : ℕ = arity (selected (caseOf b) s) in
     let y =
-    asked b [] (ask 10 (documentKept w) ∷ ask 12 (selectionGiven s) ∷ ask 11 (listInRange k (length (documentOf w)) r) ∷ [])
+    asked b [] (ask 10 (documentKept w) ∷ ask 12 (patternGiven s) ∷ ask 11 (listInRange k (length (documentOf w)) r) ∷ [])
     tt (omega arith, (omega arith, (omega arith, tt))) e in
     record {
       case = y .1;
       document = document-facts w (y .2 .0);
-      selection = selection-given s (y .2 .1 .0);
+      selection = pattern-given s (y .2 .1 .0);
       list = list-facts k (length (documentOf w)) r (y .2 .1 .1 .0);
     }
 
@@ -507,12 +507,12 @@ accepted-nodes b s w p bufferBytes e =
     asked b (ask 2 (bufferLargeEnough bufferBytes) ∷ []) (ask 10 (documentKept w) ∷ ask 12 (positionGiven (caseOf b) s p) ∷ [])
     (omega arith, tt) (omega arith, (omega arith, tt)) e in
     let given : positionGiven (caseOf b) s p ≡ true = y .2 .1 .0 in
-    let range = between-facts 1 (arity (selected (caseOf b) s)) p (and-right (selectionGiven s) _ given) in
+    let range = between-facts 1 (arity (selected (caseOf b) s)) p (and-right (patternGiven s) _ given) in
     record {
       case = y .1;
       buffer = leb-true minBuffer bufferBytes (y .0 .0);
       document = document-facts w (y .2 .0);
-      selection = selection-given s (and-left _ _ given);
+      selection = pattern-given s (and-left _ _ given);
       positionLow = range .0;
       positionHigh = range .1;
     }
@@ -524,8 +524,8 @@ pub record PathsFacts (b : List ℕ) (s : ℕ) : Type 0 where
 pub accepted-paths : (b : List ℕ) (s : ℕ) → pathsRefusal b s ≡ 0 → PathsFacts b s
 unfolding pathsRefusal
 accepted-paths b s e =
-    let y = asked b [] (ask 12 (selectionGiven s) ∷ []) tt (omega arith, tt) e in
-    record { case = y .1; selection = selection-given s (y .2 .0) }
+    let y = asked b [] (ask 12 (patternGiven s) ∷ []) tt (omega arith, tt) e in
+    record { case = y .1; selection = pattern-given s (y .2 .0) }
 
 pub record LayoutFacts (b : List ℕ) (s : ℕ) (l : List ℕ) (tableRecords : ℕ) : Type 0 where
   pub case : AcceptedCase b
@@ -538,12 +538,12 @@ pub accepted-layout : (b : List ℕ) (s : ℕ) (l : List ℕ) (tableRecords : �
 unfolding layoutRefusal tableLargeEnough isPlacement
 accepted-layout b s l tableRecords e =
     let y =
-    asked b (ask 2 (tableLargeEnough tableRecords) ∷ []) (ask 12 (selectionGiven s) ∷ ask 13 (isPlacement (caseOf b) s l) ∷ [])
+    asked b (ask 2 (tableLargeEnough tableRecords) ∷ []) (ask 12 (patternGiven s) ∷ ask 13 (isPlacement (caseOf b) s l) ∷ [])
     (omega arith, tt) (omega arith, (omega arith, tt)) e in
     record {
       case = y .1;
       table = leb-true minTable tableRecords (y .0 .0);
-      selection = selection-given s (y .2 .0);
+      selection = pattern-given s (y .2 .0);
       wholeList = and-left _ _ (y .2 .1 .0);
       placement = placement-given (caseOf b) s l (y .2 .1 .0);
     }

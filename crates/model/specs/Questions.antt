@@ -90,15 +90,15 @@ unfoldable pub listInRange : ℕ → ℕ → List ℕ → Bool
 listInRange k n b = isWholeList b && eqb (length (listOf b)) k && allOf (λ v. ltb v n) (listOf b)
 
 -- 12. Is the selection 1 or 2 and, where given, the position 1 to k?
-unfoldable pub selectionGiven : ℕ → Bool
-selectionGiven s = between 1 2 s
+unfoldable pub patternGiven : ℕ → Bool
+patternGiven s = between 1 2 s
 
 -- the selection that a number gives
 abbrev pub selected : Case → ℕ → Pattern
 selected c s = elim (eqb s 1) [ true ↦ c .first | false ↦ c .second ]
 
 unfoldable pub positionGiven : Case → ℕ → ℕ → Bool
-positionGiven c s p = selectionGiven s && between 1 (arity (selected c s)) p
+positionGiven c s p = patternGiven s && between 1 (arity (selected c s)) p
 
 -- 13. Is the list a placement of that selection?
 unfoldable pub isPlacement : Case → ℕ → List ℕ → Bool
@@ -136,7 +136,7 @@ fitsRefusal b w = refusal (caseQuestions b ++ ask 10 (documentKept w) ∷ [])
 unfoldable pub resultRefusal : List ℕ → ℕ → List ℕ → List ℕ → ℕ
 resultRefusal b s w r =
     refusal
-    (caseQuestions b ++ ask 10 (documentKept w) ∷ ask 12 (selectionGiven s)
+    (caseQuestions b ++ ask 10 (documentKept w) ∷ ask 12 (patternGiven s)
     ∷ ask 11 (listInRange (arity (selected (caseOf b) s)) (length (documentOf w)) r) ∷ [])
 
 -- Nodes at a position: 2 to 8, 10, 12
@@ -146,10 +146,10 @@ nodesRefusal b s w p bufferBytes =
 
 -- Paths of each node: 3 to 8, 12
 unfoldable pub pathsRefusal : List ℕ → ℕ → ℕ
-pathsRefusal b s = refusal (caseQuestions b ++ ask 12 (selectionGiven s) ∷ [])
+pathsRefusal b s = refusal (caseQuestions b ++ ask 12 (patternGiven s) ∷ [])
 
 -- Lay out a trial: 2 to 8, 12, 13
 unfoldable pub layoutRefusal : List ℕ → ℕ → List ℕ → ℕ → ℕ
 layoutRefusal b s l tableRecords =
     refusal
-    (ask 2 (tableLargeEnough tableRecords) ∷ caseQuestions b ++ ask 12 (selectionGiven s) ∷ ask 13 (isPlacement (caseOf b) s l) ∷ [])
+    (ask 2 (tableLargeEnough tableRecords) ∷ caseQuestions b ++ ask 12 (patternGiven s) ∷ ask 13 (isPlacement (caseOf b) s l) ∷ [])

@@ -7,3 +7,4 @@ pub mod PatternLaws
 pub mod DocumentLaws
 pub mod RefusalLaws
 pub mod EmbeddingLaws
+pub mod AcceptedLaws

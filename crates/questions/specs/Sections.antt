@@ -3,13 +3,7 @@ use Prim.Native.Nat.{ℕ, _<_}
 use mathlib.Core.Bool.{true, false}
 use mathlib.Core.List.{List}
 use lib.Dec.{eqb}
-use Rattle.model.specs.Limits.{patternWidth}
-use Rattle.model.specs.Pattern.{Pattern}
-use Rattle.model.specs.Bytes.{field, patternRecordAt, section, firstAt, secondAt, WholeSection}
-
--- the pattern whose count is field `at`
-abbrev pub patternAt : List ℕ → ℕ → Pattern
-patternAt b at = section patternRecordAt patternWidth b at
+use Rattle.model.specs.Bytes.{field, firstAt, secondAt, WholeSection}
 
 -- where the section of the pattern that a number gives begins
 abbrev pub selectedAt : List ℕ → ℕ → ℕ

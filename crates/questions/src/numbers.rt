@@ -1,7 +1,7 @@
 // The questions on numbers alone: 1, 2, 9 and, of the pattern's number, 12.
 
 ghost use mathlib.Core.Path.{_≡_};
-ghost use Rattle.model.specs.Questions.{limitInRange, bufferLargeEnough, tableLargeEnough, tallyInRange, selectionGiven};
+ghost use Rattle.model.specs.Questions.{limitInRange, bufferLargeEnough, tableLargeEnough, tallyInRange, patternGiven};
 use crate::limits::MAX_LIMIT;
 use crate::limits::MAX_TALLY;
 use crate::limits::MIN_BUFFER;
@@ -37,8 +37,8 @@ pub fn tally_in_range(tally: u64, limit: u64) -> bool
 }
 
 // 12. Is the pattern's number 1 or 2?
-pub fn selection_given(number: u64) -> bool
-    ensures { λ r. ⌜ r ≡ selectionGiven number ⌝ }
+pub fn pattern_given(number: u64) -> bool
+    ensures { λ r. ⌜ r ≡ patternGiven number ⌝ }
 {
     between(1, 2, number)
 }

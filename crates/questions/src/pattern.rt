@@ -11,12 +11,13 @@ ghost use Rattle.model.specs.Lists.{countOf};
 ghost use Rattle.model.specs.Pattern.{PatternRecord, noPatternRecord, patternParent, patternLabel, position as positionOf, arity as arityOf};
 ghost use Rattle.model.specs.Bytes.{caseOf, isWholeCase, WholeSection};
 ghost use Rattle.model.specs.Questions.{patternRecordKept, patternKept, patternsKept, positionsOnce, positionsKept, positionGiven};
-ghost use Rattle.questions.specs.Sections.{patternAt, selectedAt, InSection};
+ghost use Rattle.format.specs.Tables.{patternAt};
+ghost use Rattle.questions.specs.Sections.{selectedAt, InSection};
 use crate::case::first_at;
 use crate::case::second_at;
 use crate::limits::MAX_POSITION;
 use crate::limits::PATTERN_WIDTH;
-use crate::numbers::selection_given;
+use crate::numbers::pattern_given;
 use crate::rules::between;
 use crate::rules::flag_rule;
 use crate::rules::parent_rule;
@@ -176,7 +177,7 @@ pub fn position_given(b: &[u8], selection: u64, position: u64) -> bool
     requires { ⌜ isWholeCase (now b) ≡ true ⌝ }
     ensures { λ r. ⌜ r ≡ positionGiven (caseOf (now (b .entry))) selection position ⌝ }
 {
-    if !selection_given(selection) {
+    if !pattern_given(selection) {
         return false;
     }
     let k = arity(b, selected_at(b, selection));

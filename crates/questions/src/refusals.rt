@@ -10,7 +10,7 @@ use crate::embedding::is_embedding_list;
 use crate::list::list_in_range;
 use crate::numbers::buffer_large_enough;
 use crate::numbers::limit_in_range;
-use crate::numbers::selection_given;
+use crate::numbers::pattern_given;
 use crate::numbers::table_large_enough;
 use crate::numbers::tally_in_range;
 use crate::pattern::arity;
@@ -92,7 +92,7 @@ pub fn result_refusal(b: &[u8], selection: u64, w: &[u8], r: &[u8]) -> u64
     if !document_kept(w) {
         return 10;
     }
-    if !selection_given(selection) {
+    if !pattern_given(selection) {
         return 12;
     }
     let k = arity(b, selected_at(b, selection));
@@ -130,7 +130,7 @@ pub fn paths_refusal(b: &[u8], selection: u64) -> u64
     if refused != 0 {
         return refused;
     }
-    if !selection_given(selection) {
+    if !pattern_given(selection) {
         return 12;
     }
     0
@@ -147,7 +147,7 @@ pub fn layout_refusal(b: &[u8], selection: u64, l: &[u8], table: usize) -> u64
     if refused != 0 {
         return refused;
     }
-    if !selection_given(selection) {
+    if !pattern_given(selection) {
         return 12;
     }
     if !is_embedding_list(b, selection, l) {

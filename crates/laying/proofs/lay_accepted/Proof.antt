@@ -10,7 +10,7 @@ use Rattle.model.specs.Bytes.{caseOf, listOf}
 use Rattle.model.specs.Questions.{selected}
 use Rattle.model.proofs.Questions.{LayoutFacts, accepted-layout}
 use Rattle.laying.specs.Table.{Columns, columns, recordsOf}
-use Rattle.laying.proofs.AcceptedLaws.{accepted-whole, summary-fits, accepted-pattern, pattern-fits, SummaryColumns, PatternColumns, summary-columns, pattern-columns}
+use Rattle.questions.proofs.AcceptedLaws.{accepted-whole, summary-fits, accepted-pattern, pattern-fits, SummaryColumns, PatternColumns, summary-columns, pattern-columns}
 use Rattle.laying.proofs.LaidLaws.{list-fits, list-placed, list-back, read-placed, read-laid, laid-columns}
 use Rattle.laying.proofs.TableLaws.{records-within}
 use Rattle.laying.proofs.lay_accepted.Statement.{statement}
@@ -47,7 +47,7 @@ summary-there c = summary-columns (facts (start c) .case) (c .read-summary .ensu
 pattern-there : (c : tie.After-read-pattern)
     → PatternColumns (selected (caseOf (now (begun c .args .case))) (begun c .args .selection)) (c .read-pattern .last .1 .1 .0) (c .read-pattern .last .1 .1 .1 .0)
     (c .read-pattern .last .1 .1 .1 .1 .0) (c .read-pattern .last .1 .1 .1 .1 .1 .0) (c .read-pattern .result)
-pattern-there c = pattern-columns (facts (begun c) .case) (begun c .args .selection) _ (chosen c .selected-at .ensures) (c .read-pattern .ensures) (search needs)
+pattern-there c = pattern-columns (facts (begun c) .case) (begun c .args .selection) _ (chosen c .selected-at .ensures) (c .read-pattern .ensures) (search needs) (search needs) (search needs) (search needs)
 
 list-there : (c : tie.After-read-list) → take (patterned c .read-pattern .result) (c .read-list .last .1 .0) ≡ listOf (now (begun (patterned c) .args .list))
 list-there c = list-back (facts (begun (patterned c))) _ (pattern-there (patterned c)) (c .read-list .ensures .1)

@@ -13,7 +13,7 @@ use Rattle.model.specs.Fitting.{fits}
 use Rattle.model.proofs.Questions.{FitsFacts, accepted-fits}
 use Rattle.format.specs.Tables.{documentFrom, summaryFrom, SummaryRead, DocumentRead}
 use Rattle.format.proofs.ReadLaws.{summary-back, document-back}
-use Rattle.calls.proofs.AcceptedLaws.{accepted-summary, summary-fits, accepted-document, document-fits, summary-columns, document-columns}
+use Rattle.questions.proofs.AcceptedLaws.{accepted-summary, summary-fits, accepted-document, document-fits, summary-columns, document-columns}
 use Rattle.calls.proofs.fits.accepted_fits.Statement.{statement}
 use Rattle.calls.proofs.fits.accepted_fits.Tie as tie
 

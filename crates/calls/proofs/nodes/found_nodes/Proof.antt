@@ -8,7 +8,8 @@ use Rattle.model.specs.Limits.{maxDocument}
 use Rattle.model.specs.Pattern.{Pattern, arity}
 use Rattle.model.specs.Bytes.{caseOf, documentOf}
 use Rattle.model.specs.Questions.{selected}
-use Rattle.calls.proofs.AcceptedLaws.{PatternColumns, DocumentColumns, accepted-whole, accepted-pattern, pattern-fits, pattern-columns, accepted-document, document-fits, document-columns, columns-lent}
+use Rattle.questions.proofs.AcceptedLaws.{PatternColumns, DocumentColumns, accepted-whole, accepted-pattern, pattern-fits, pattern-columns, accepted-document, document-fits, document-columns}
+use Rattle.calls.proofs.LentLaws.{columns-lent}
 use Rattle.calls.proofs.NodesLaws.{nodes-found}
 use Rattle.calls.proofs.nodes.found_nodes.Statement.{statement}
 use Rattle.calls.proofs.nodes.found_nodes.Tie as tie

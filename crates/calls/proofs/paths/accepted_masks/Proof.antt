@@ -6,7 +6,8 @@ use denote.Ref.{now}
 use Rattle.model.specs.Bytes.{field, caseOf}
 use Rattle.model.specs.Questions.{selected}
 use Rattle.model.proofs.Questions.{AcceptedCase, accepted-paths}
-use Rattle.calls.proofs.AcceptedLaws.{accepted-whole, accepted-summary, summary-fits, accepted-pattern, pattern-fits, SummaryColumns, PatternColumns, summary-columns, pattern-columns, summary-as-document, columns-lent}
+use Rattle.questions.proofs.AcceptedLaws.{accepted-whole, accepted-summary, summary-fits, accepted-pattern, pattern-fits, SummaryColumns, PatternColumns, summary-columns, pattern-columns, summary-as-document}
+use Rattle.calls.proofs.LentLaws.{columns-lent}
 use Rattle.calls.proofs.PathLaws.{masks-read}
 use Rattle.calls.proofs.paths.accepted_masks.Statement.{statement}
 use Rattle.calls.proofs.paths.accepted_masks.Tie as tie

@@ -11,7 +11,8 @@ use Rattle.model.specs.Pattern.{arity}
 use Rattle.model.specs.Bytes.{caseOf, documentOf}
 use Rattle.model.specs.Questions.{selected}
 use Rattle.model.proofs.Questions.{ResultFacts, accepted-result}
-use Rattle.calls.proofs.AcceptedLaws.{PatternColumns, DocumentColumns, accepted-whole, accepted-pattern, pattern-fits, pattern-columns, accepted-document, document-fits, document-columns, columns-lent}
+use Rattle.questions.proofs.AcceptedLaws.{PatternColumns, DocumentColumns, accepted-whole, accepted-pattern, pattern-fits, pattern-columns, accepted-document, document-fits, document-columns}
+use Rattle.calls.proofs.LentLaws.{columns-lent}
 use Rattle.calls.proofs.ResultLaws.{list-fits, list-stands, list-length, list-below, result-told}
 use Rattle.calls.proofs.result.accepted_result.Statement.{statement}
 use Rattle.calls.proofs.result.accepted_result.Tie as tie

@@ -8,12 +8,12 @@ use Rattle.questions.proofs.PatternLaws.{selected-pattern}
 use Rattle.questions.proofs.pattern.position_given.Statement.{statement}
 use Rattle.questions.proofs.pattern.position_given.Tie as tie
 
-selection-given-requires : tie.Need-selection-given-requires
-selection-given-requires c κs = search needs
+pattern-given-requires : tie.Need-pattern-given-requires
+pattern-given-requires c κs = search needs
 
 returns : tie.Need-returns
 unfolding positionGiven
-returns c = rw (said-no _ _ (c .before .selection-given .ensures) (c .if1 .taken))
+returns c = rw (said-no _ _ (c .before .pattern-given .ensures) (c .if1 .taken))
 
 selected-at-requires : tie.Need-selected-at-requires
 selected-at-requires c κs = search needs
@@ -26,13 +26,13 @@ between-requires c κs = search needs
 
 returns-2 : tie.Need-returns-2
 unfolding positionGiven
-returns-2 c = rw (said-yes _ _ (c .before .before .before .before .selection-given .ensures) (c .before .before .before .if1 .left), selected-pattern _ _ _ (c .before .before .selected-at .ensures), ← c .before .arity .ensures .0) (c .between .ensures)
+returns-2 c = rw (said-yes _ _ (c .before .before .before .before .pattern-given .ensures) (c .before .before .before .if1 .left), selected-pattern _ _ _ (c .before .before .selected-at .ensures), ← c .before .arity .ensures .0) (c .between .ensures)
 
 pub position-given-spec : {M : Type 1} → statement M
 position-given-spec =
     tie.close
     (tie.spec
-    selection-given-requires
+    pattern-given-requires
     returns
     selected-at-requires
     arity-requires

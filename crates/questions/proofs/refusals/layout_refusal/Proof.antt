@@ -26,8 +26,8 @@ returns-2 c =
     sym (refusal-yes _ _ (said-yes _ _ (c1 .before .table-large-enough .ensures) (c1 .if1 .left))
     ∙ case-refused _ _ _ (c .before .case-refusal .ensures) (c .if2 .taken))
 
-selection-given-requires : tie.Need-selection-given-requires
-selection-given-requires c κs = search needs
+pattern-given-requires : tie.Need-pattern-given-requires
+pattern-given-requires c κs = search needs
 
 returns-3 : tie.Need-returns-3
 unfolding layoutRefusal
@@ -36,7 +36,7 @@ returns-3 c =
     let c1 = c2 .before .before in
     sym (refusal-yes _ _ (said-yes _ _ (c1 .before .table-large-enough .ensures) (c1 .if1 .left))
     ∙ case-accepted _ _ _ (c2 .before .case-refusal .ensures) (c2 .if2 .left)
-    ∙ refusal-no _ _ (said-no _ _ (c .before .selection-given .ensures) (c .if3 .taken)))
+    ∙ refusal-no _ _ (said-no _ _ (c .before .pattern-given .ensures) (c .if3 .taken)))
 
 is-embedding-list-requires : tie.Need-is-embedding-list-requires
 is-embedding-list-requires c κs = sym (c .before .before .before .case-refusal .ensures) ∙ c .before .before .if2 .left
@@ -49,7 +49,7 @@ returns-4 c =
     let c1 = c2 .before .before in
     sym (refusal-yes _ _ (said-yes _ _ (c1 .before .table-large-enough .ensures) (c1 .if1 .left))
     ∙ case-accepted _ _ _ (c2 .before .case-refusal .ensures) (c2 .if2 .left)
-    ∙ refusal-yes _ _ (said-yes _ _ (c3 .before .selection-given .ensures) (c3 .if3 .left))
+    ∙ refusal-yes _ _ (said-yes _ _ (c3 .before .pattern-given .ensures) (c3 .if3 .left))
     ∙ refusal-no _ _ (said-no _ _ (c .before .is-embedding-list .ensures) (c .if4 .taken)))
 
 returns-5 : tie.Need-returns-5
@@ -60,7 +60,7 @@ returns-5 c =
     let c1 = c2 .before .before in
     sym (refusal-yes _ _ (said-yes _ _ (c1 .before .table-large-enough .ensures) (c1 .if1 .left))
     ∙ case-accepted _ _ _ (c2 .before .case-refusal .ensures) (c2 .if2 .left)
-    ∙ refusal-yes _ _ (said-yes _ _ (c3 .before .selection-given .ensures) (c3 .if3 .left))
+    ∙ refusal-yes _ _ (said-yes _ _ (c3 .before .pattern-given .ensures) (c3 .if3 .left))
     ∙ all-yes-accepted _ (said-yes _ _ (c .before .is-embedding-list .ensures) (c .if4 .left), tt))
 
 pub layout-refusal-spec : {M : Type 1} → statement M
@@ -71,7 +71,7 @@ layout-refusal-spec =
     returns
     case-refusal-requires
     returns-2
-    selection-given-requires
+    pattern-given-requires
     returns-3
     is-embedding-list-requires
     returns-4

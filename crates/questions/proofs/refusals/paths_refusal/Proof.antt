@@ -16,23 +16,23 @@ returns : tie.Need-returns
 unfolding pathsRefusal
 returns c = sym (case-refused _ _ _ (c .before .case-refusal .ensures) (c .if1 .taken))
 
-selection-given-requires : tie.Need-selection-given-requires
-selection-given-requires c κs = search needs
+pattern-given-requires : tie.Need-pattern-given-requires
+pattern-given-requires c κs = search needs
 
 returns-2 : tie.Need-returns-2
 unfolding pathsRefusal
 returns-2 c =
     let c1 = c .before .before in
     sym (case-accepted _ _ _ (c1 .before .case-refusal .ensures) (c1 .if1 .left)
-    ∙ refusal-no _ _ (said-no _ _ (c .before .selection-given .ensures) (c .if2 .taken)))
+    ∙ refusal-no _ _ (said-no _ _ (c .before .pattern-given .ensures) (c .if2 .taken)))
 
 returns-3 : tie.Need-returns-3
 unfolding pathsRefusal
 returns-3 c =
     let c1 = c .before .before in
     sym (case-accepted _ _ _ (c1 .before .case-refusal .ensures) (c1 .if1 .left)
-    ∙ all-yes-accepted _ (said-yes _ _ (c .before .selection-given .ensures) (c .if2 .left), tt))
+    ∙ all-yes-accepted _ (said-yes _ _ (c .before .pattern-given .ensures) (c .if2 .left), tt))
 
 pub paths-refusal-spec : {M : Type 1} → statement M
 paths-refusal-spec =
-    tie.close (tie.spec case-refusal-requires returns selection-given-requires returns-2 returns-3)
+    tie.close (tie.spec case-refusal-requires returns pattern-given-requires returns-2 returns-3)

@@ -29,8 +29,8 @@ returns-2 c =
     sym (case-accepted _ _ _ (c1 .before .case-refusal .ensures) (c1 .if1 .left)
     ∙ refusal-no _ _ (said-no _ _ (c .before .document-kept .ensures) (c .if2 .taken)))
 
-selection-given-requires : tie.Need-selection-given-requires
-selection-given-requires c κs = search needs
+pattern-given-requires : tie.Need-pattern-given-requires
+pattern-given-requires c κs = search needs
 
 returns-3 : tie.Need-returns-3
 unfolding resultRefusal
@@ -39,7 +39,7 @@ returns-3 c =
     let c1 = c2 .before .before in
     sym (case-accepted _ _ _ (c1 .before .case-refusal .ensures) (c1 .if1 .left)
     ∙ refusal-yes _ _ (said-yes _ _ (c2 .before .document-kept .ensures) (c2 .if2 .left))
-    ∙ refusal-no _ _ (said-no _ _ (c .before .selection-given .ensures) (c .if3 .taken)))
+    ∙ refusal-no _ _ (said-no _ _ (c .before .pattern-given .ensures) (c .if3 .taken)))
 
 selected-at-requires : tie.Need-selected-at-requires
 selected-at-requires c κs =
@@ -71,7 +71,7 @@ returns-4 c =
     list-asked _ (c .before .before .before .before .before .before .before .before .before .before .before .before .before .before .args .selection) _ _ _ _ _ _ (given .selected-at .ensures) (c .before .before .before .arity .ensures .0) (c .before .before .field .ensures .0) (c .before .list-in-range .ensures) in
     sym (case-accepted _ _ _ (c1 .before .case-refusal .ensures) (c1 .if1 .left)
     ∙ refusal-yes _ _ (said-yes _ _ (c2 .before .document-kept .ensures) (c2 .if2 .left))
-    ∙ refusal-yes _ _ (said-yes _ _ (c3 .before .selection-given .ensures) (c3 .if3 .left))
+    ∙ refusal-yes _ _ (said-yes _ _ (c3 .before .pattern-given .ensures) (c3 .if3 .left))
     ∙ refusal-no _ _ (said-no _ _ asked (c .if4 .taken)))
 
 returns-5 : tie.Need-returns-5
@@ -85,7 +85,7 @@ returns-5 c =
     list-asked _ (c .before .before .before .before .before .before .before .before .before .before .before .before .before .before .args .selection) _ _ _ _ _ _ (given .selected-at .ensures) (c .before .before .before .arity .ensures .0) (c .before .before .field .ensures .0) (c .before .list-in-range .ensures) in
     sym (case-accepted _ _ _ (c1 .before .case-refusal .ensures) (c1 .if1 .left)
     ∙ refusal-yes _ _ (said-yes _ _ (c2 .before .document-kept .ensures) (c2 .if2 .left))
-    ∙ refusal-yes _ _ (said-yes _ _ (c3 .before .selection-given .ensures) (c3 .if3 .left))
+    ∙ refusal-yes _ _ (said-yes _ _ (c3 .before .pattern-given .ensures) (c3 .if3 .left))
     ∙ all-yes-accepted _ (said-yes _ _ asked (c .if4 .left), tt))
 
 pub result-refusal-spec : {M : Type 1} → statement M
@@ -96,7 +96,7 @@ result-refusal-spec =
     returns
     document-kept-requires
     returns-2
-    selection-given-requires
+    pattern-given-requires
     returns-3
     selected-at-requires
     arity-requires

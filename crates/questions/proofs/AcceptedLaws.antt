@@ -20,13 +20,11 @@ use Rattle.model.proofs.Questions.{AcceptedCase, DocumentFacts, selected-facts}
 use Rattle.format.specs.Tables.{documentFrom, summaryFrom, patternFrom, patternAt, SummaryRead, PatternRead, DocumentRead}
 use Rattle.format.proofs.TableLaws.{summary-document}
 use Rattle.format.proofs.ReadLaws.{summary-back, pattern-back, document-back}
 use Rattle.questions.specs.Sections.{selectedAt}
 use Rattle.questions.proofs.TableLaws.{summary-count, pattern-count, document-count}
 use Rattle.questions.proofs.CaseLaws.{selected-section}
 use Rattle.questions.proofs.PatternLaws.{selected-pattern}
 use Rattle.questions.proofs.DocumentLaws.{whole-document}
-use Rattle.matching.specs.Tables.{Lent}
-use Rattle.matching.proofs.Shapes.{shape-sym, shape-tree, shape-columns}
 
 -- ---- sections and counts: what reading requires
 
@@ -41,7 +39,7 @@ module _ {b : List ℕ} (A : AcceptedCase b) where
   summary-fits = subst (λ (n : ℕ). n ≤ maxSummary) (summary-count b) (A .facts .summarySize)
 
   -- the pattern that a number gives
-  selected-size : (s : ℕ) → length (selected (caseOf b) s) ≤ maxPattern
+  pub selected-size : (s : ℕ) → length (selected (caseOf b) s) ≤ maxPattern
   selected-size s =
       by-bool (λ (t : Bool). length {A = PatternRecord} (elim t as (λ _. Pattern) [ true ↦ caseOf b .first | false ↦ caseOf b .second ]) ≤ maxPattern) (eqb s 1)
       (A .facts .firstSize) (A .facts .secondSize)
@@ -157,19 +155,4 @@ summary-as-document {S} {parents} {labels} {strongs} {n} C =
       few = C .few;
       parentRows = C .parentRows;
       labelRows = C .labelRows;
-    }
-
--- what matching is lent
-pub columns-lent : {limit : ℕ} {W : Document} {parents labels : List ℕ} {n : ℕ} {P : Pattern} {qparents qlabels edges positions : List ℕ} {m : ℕ}
-    → DocumentColumns limit W parents labels n → PatternColumns P qparents qlabels edges positions m → Lent parents labels n qparents qlabels edges m
-columns-lent {limit} {W} {parents} {labels} {n} {P} {qparents} {qlabels} {edges} {positions} {m} D Q =
-    record {
-      tree = D .tree;
-      pattern = shape-tree (shape-sym (shape-columns qparents qlabels edges positions m)) (Q .facts .tree);
-      parentRows = D .parentRows;
-      labelRows = D .labelRows;
-      patternParents = Q .parentRows;
-      patternLabels = Q .labelRows;
-      patternEdges = Q .edgeRows;
-      few = Q .few;
     }
