@@ -1,11 +1,13 @@
-//! `generate boundaries`, `generate random SEED COUNT` and
-//! `generate cases SEED COUNT` write test vectors to standard output.
+//! `generate boundaries`, `generate random SEED COUNT`, `generate cases SEED
+//! COUNT` and `generate layouts SEED COUNT` write test vectors to standard
+//! output.
 
 #![forbid(unsafe_code)]
 
 mod boundaries;
 mod cases;
 mod changes;
+mod layouts;
 #[cfg(test)]
 mod meaning;
 mod plan;
@@ -19,7 +21,8 @@ use std::process::ExitCode;
 
 const USAGE: &str = "usage: generate boundaries
        generate random SEED COUNT
-       generate cases SEED COUNT";
+       generate cases SEED COUNT
+       generate layouts SEED COUNT";
 
 fn main() -> ExitCode {
     let words: Vec<String> = std::env::args().skip(1).collect();
@@ -28,6 +31,7 @@ fn main() -> ExitCode {
         ["boundaries"] => Some(boundaries::boundaries()),
         ["random", seed, count] => seeded(seed, count, random::random),
         ["cases", seed, count] => seeded(seed, count, cases::cases),
+        ["layouts", seed, count] => seeded(seed, count, layouts::layouts),
         _ => None,
     };
     match vectors {
