@@ -1,6 +1,7 @@
 // Runs test vectors through the calls, one printed line each; reference/README.md lays out the vectors and the lines. Of a verdict
-// and of a layout only the refusal is printed.
+// only the refusal is printed. Of an accepted layout the document laid out is tested by two other calls before its line is printed.
 
+mod check;
 mod print;
 mod read;
 
@@ -8,7 +9,7 @@ use calls::fits::fits_call;
 use calls::nodes::nodes_call;
 use calls::paths::paths_call;
 use calls::result::result_call;
-use questions::refusals::layout_refusal;
+use laying::layout_call;
 use questions::refusals::verdict_refusal;
 use read::Head;
 
@@ -73,10 +74,25 @@ fn run_paths(h: Head, case: &[u8]) {
     print::word(b"\n");
 }
 
-fn run_layout(h: Head, case: &[u8], list: &[u8]) {
-    print::word(b"layout refused");
-    print::number(layout_refusal(case, h.selection, list, size(h.length)));
-    print::word(b"\n");
+// The word "unchecked" makes the line another than the reference's: what was laid out does not fit, or the pattern's own nodes are
+// no result in it.
+fn run_layout(
+    h: Head,
+    case: &[u8],
+    list: &[u8],
+    parent: &mut [u16],
+    at: &mut [u16],
+    label: &mut [u16],
+) {
+    let r = layout_call(case, h.selection, list, parent, at, label);
+    print::word(b"layout");
+    let kept = check::layout_kept(r, case, h.selection, list, parent, at, label);
+    print::word_unless(kept, b" unchecked");
+    print::word(b" refused");
+    print::number(r.refused);
+    print::word(b" count");
+    print::number(r.count);
+    print::lent(wide(parent.len()), print::hash_table(parent, at, label));
 }
 
 // A buffer filled with a pattern is lent. A length beyond the room here is cut to it.
@@ -88,6 +104,26 @@ fn with_answer(h: Head, case: &[u8], document: &[u8]) {
         return;
     }
     run_nodes(h, case, document, &mut answer);
+}
+
+// A table whose fields are filled with the same pattern is lent, in three columns; it is cut likewise.
+fn with_table(h: Head, case: &[u8], list: &[u8]) {
+    let mut parent = [43690u16; 8192];
+    let mut at = [43690u16; 8192];
+    let mut label = [43690u16; 8192];
+    let n = size(h.length);
+    if n <= 8192 {
+        run_layout(
+            h,
+            case,
+            list,
+            &mut parent[..n],
+            &mut at[..n],
+            &mut label[..n],
+        );
+        return;
+    }
+    run_layout(h, case, list, &mut parent, &mut at, &mut label);
 }
 
 // The line of one vector.
@@ -113,7 +149,7 @@ fn line(h: Head, case: &[u8], document: &[u8], list: &[u8]) {
         run_paths(h, case);
         return;
     }
-    run_layout(h, case, list);
+    with_table(h, case, list);
 }
 
 // One vector; false where there is no further one.

@@ -2,8 +2,18 @@
 
 use std::num::wrapping_add_u64;
 
+// FNV-1a of no bytes.
+const HASH_OF_NOTHING: u64 = 14695981039346656037;
+
 pub fn word(text: &[u8]) {
     io::write_all(1, text);
+}
+
+// A word that is printed where something does not hold.
+pub fn word_unless(holds: bool, text: &[u8]) {
+    if !holds {
+        word(text);
+    }
 }
 
 // A space and a number.
@@ -38,10 +48,39 @@ fn wide8(x: u8) -> u64 {
     x as u64
 }
 
+// The hash of a buffer.
 pub fn hash(bytes: &[u8]) -> u64 {
-    let mut h: u64 = 14695981039346656037;
+    let mut h = HASH_OF_NOTHING;
     for i in 0..bytes.len() {
         h = hash_byte(h, wide8(bytes[i]));
+    }
+    h
+}
+
+// A 16-bit field further, low byte first.
+fn hash_field(h: u64, field: u64) -> u64 {
+    hash_byte(hash_byte(h, field % 256), field / 256)
+}
+
+fn wide16(x: u16) -> u64 {
+    x as u64
+}
+
+// Number i of a column, or 0 where it ends before.
+fn element(column: &[u16], i: usize) -> u64 {
+    if column.len() <= i {
+        return 0;
+    }
+    wide16(column[i])
+}
+
+// The hash of a table in columns, record by record.
+pub fn hash_table(parent: &[u16], at: &[u16], label: &[u16]) -> u64 {
+    let mut h = HASH_OF_NOTHING;
+    for i in 0..parent.len() {
+        h = hash_field(h, element(parent, i));
+        h = hash_field(h, element(at, i));
+        h = hash_field(h, element(label, i));
     }
     h
 }

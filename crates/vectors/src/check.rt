@@ -1,0 +1,154 @@
+// The test of a laid-out document by two other calls: it fits the summary, and the pattern's own nodes at positions 1 to k are a
+// result in it. The layout call does not return own nodes; they are read off its table.
+
+use calls::fits::fits_call;
+use calls::result::result_call;
+use format::field::field;
+use format::write::write_shown;
+use laying::CountAnswer;
+ghost use Prim.Native.Nat.{_+_, _*_, _<_, _≤_};
+ghost use lib.ListN.{length};
+
+// Field i, or 0 where the bytes end before it.
+fn field_of(b: &[u8], i: usize) -> usize
+    ensures { λ r. ⌜ r < 65536 ⌝ }
+{
+    if b.len() / 2 <= i {
+        return 0;
+    }
+    field(b, i)
+}
+
+// The field that holds the count of the pattern that a number gives.
+fn pattern_at(case: &[u8], selection: u64) -> usize
+    ensures { λ r. ⌜ r < 1000000 ⌝ }
+{
+    let first = 1 + 3 * field_of(case, 0);
+    if selection == 1 {
+        return first;
+    }
+    first + 1 + 4 * field_of(case, first)
+}
+
+fn wide(x: u16) -> usize {
+    x as usize
+}
+
+// The first document node after v that is on summary node s; the column's length where there is none.
+fn next_on(at: &[u16], v: usize, s: usize) -> usize {
+    for i in 0..at.len() {
+        if v < i {
+            if wide(at[i]) == s {
+                return i;
+            }
+        }
+    }
+    at.len()
+}
+
+// The own node of pattern node q, whose image is s, given that of the pattern node before it: chains stand in table order, and of
+// the nodes of a chain the last alone is on its pattern node's image.
+fn own_node(at: &[u16], q: usize, s: usize, before: usize) -> usize {
+    if q == 0 {
+        return 0;
+    }
+    next_on(at, before, s)
+}
+
+// Node v stands at position p, if that is one.
+fn hold(own: &mut [u16], p: usize, v: usize) {
+    if p == 0 {
+        return;
+    }
+    if own.len() < p {
+        return;
+    }
+    own[p - 1] = (v % 65536) as u16;
+}
+
+fn larger(a: usize, b: usize) -> usize {
+    if a < b {
+        return b;
+    }
+    a
+}
+
+// The own nodes at positions 1 to k go to the front of own. The result is k.
+fn own_nodes(case: &[u8], selection: u64, list: &[u8], at: &[u16], own: &mut [u16]) -> usize {
+    let start = pattern_at(case, selection);
+    let m = field_of(case, start);
+    let mut v = 0;
+    let mut k = 0;
+    for q in 0..m {
+        v = own_node(at, q, field_of(list, q), v);
+        let p = field_of(case, start + 4 * q + 4);
+        hold(own, p, v);
+        k = larger(k, p);
+    }
+    k
+}
+
+// Both calls hold of a document and a list.
+fn both_hold(case: &[u8], selection: u64, document: &[u8], list: &[u8]) -> bool {
+    let fits = fits_call(case, document);
+    let result = result_call(case, selection, document, list);
+    if fits.holds != 1 {
+        return false;
+    }
+    result.holds == 1
+}
+
+// The same of a document of n nodes and a list of k, which are shown as "not included" shows them.
+fn shown_holds(case: &[u8], selection: u64, shown: &[u8], n: usize, k: usize) -> bool
+    requires { ⌜ 4 + 4 * n + 2 * k ≤ length (now shown) ⌝ }
+{
+    let end = 2 + 4 * n;
+    let from = end + 2;
+    let to = from + 2 * k;
+    both_hold(case, selection, &shown[..end], &shown[from..to])
+}
+
+// The same of the document in the first n records of a table, and its own nodes.
+fn laid_holds(
+    case: &[u8],
+    selection: u64,
+    list: &[u8],
+    parent: &[u16],
+    at: &[u16],
+    label: &[u16],
+    n: usize,
+) -> bool {
+    if 1024 < n {
+        return false;
+    }
+    if parent.len() < n {
+        return false;
+    }
+    if label.len() < n {
+        return false;
+    }
+    let mut own = [0u16; 8];
+    let k = own_nodes(case, selection, list, at, &mut own);
+    if 8 < k {
+        return false;
+    }
+    let mut shown = [0u8; 4116];
+    write_shown(parent, label, n, &own, k, &mut shown);
+    shown_holds(case, selection, &shown, n, k)
+}
+
+// A layout call kept what it says: where it is accepted, both calls hold of what it laid out.
+pub fn layout_kept(
+    r: CountAnswer,
+    case: &[u8],
+    selection: u64,
+    list: &[u8],
+    parent: &[u16],
+    at: &[u16],
+    label: &[u16],
+) -> bool {
+    if r.refused != 0 {
+        return true;
+    }
+    laid_holds(case, selection, list, parent, at, label, r.count as usize)
+}
