@@ -7,11 +7,13 @@
 //! * `trials`: placements in order, and the trial volume of each.
 //! * `calls`: the six calls and their questions in order.
 //! * `vectors`: test vectors, and running one.
+//! * `generate`: test vectors at every boundary, and random ones.
 
 #![forbid(unsafe_code)]
 
 pub mod calls;
 pub mod embedding;
+pub mod generate;
 pub mod records;
 pub mod trials;
 pub mod vectors;

@@ -1,12 +1,12 @@
 //! What the answers mean, tried on random plans: a verdict's answer against
 //! fitting volumes, and the calls against each other.
 
-use crate::plan::{put_fields, put_section, Plan};
-use crate::prng::Prng;
-use crate::random::{around_embedding, result, selections};
-use crate::trees;
-use reference::calls::{INCLUDED, NOT_INCLUDED};
-use reference::*;
+use super::plan::{put_fields, put_section, Plan};
+use super::prng::Prng;
+use super::random::{around_embedding, result, selections};
+use super::trees;
+use crate::calls::{INCLUDED, NOT_INCLUDED};
+use crate::*;
 
 fn volume_bytes(rows: &[[u16; 2]]) -> Vec<u8> {
     let mut bytes = Vec::new();

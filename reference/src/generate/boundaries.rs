@@ -1,8 +1,8 @@
 //! Every boundary of every question, through all six calls.
 
-use crate::changes::{changes, long_changes, Change};
-use crate::plan::{questions, OutlineRow, Plan, SelectionRow, CALLS};
-use reference::vectors::{Vector, FITS, IS_RESULT, LAYOUT, NODES_AT};
+use super::changes::{changes, long_changes, Change};
+use super::plan::{questions, OutlineRow, Plan, SelectionRow, CALLS};
+use crate::vectors::{Vector, FITS, IS_RESULT, LAYOUT, NODES_AT};
 
 pub fn boundaries() -> Vec<Vector> {
     let (small, long) = (changes(), long_changes());
@@ -268,8 +268,8 @@ fn chain(label: fn(u16) -> u16) -> Vec<OutlineRow> {
 
 #[cfg(test)]
 mod tests {
+    use super::super::plan::questions;
     use super::*;
-    use crate::plan::questions;
 
     #[test]
     fn plans_are_accepted() {

@@ -1,10 +1,10 @@
 //! Random calls, accepted and nearly accepted.
 
-use crate::changes::{changes, Change};
-use crate::plan::{least_length, Plan, SelectionRow, VolumeRow, CALLS};
-use crate::prng::Prng;
-use crate::trees::{self, Freedom};
-use reference::vectors::{Vector, LAYOUT, VERDICT};
+use super::changes::{changes, Change};
+use super::plan::{least_length, Plan, SelectionRow, VolumeRow, CALLS};
+use super::prng::Prng;
+use super::trees::{self, Freedom};
+use crate::vectors::{Vector, LAYOUT, VERDICT};
 
 /// Verdicts that would take more trials than this get a limit below it, so
 /// that thousands of vectors take seconds.
@@ -206,13 +206,13 @@ fn placement(prng: &mut Prng, plan: &Plan) -> Vec<u16> {
 /// A limit around the answer's own rank, or anything that is not too long.
 fn limit(prng: &mut Prng, plan: &Plan) -> u64 {
     let mut answer = [0; 4_096];
-    let got = reference::verdict(&plan.case_bytes(), TRIALS_MOST, &mut 0, &mut answer);
+    let got = crate::verdict(&plan.case_bytes(), TRIALS_MOST, &mut 0, &mut answer);
     let around = [got.tried, got.tried.saturating_sub(1).max(1), got.tried + 1][prng.below(3)];
     match prng.below(4) {
         0 => 1 + prng.next() % 10,
         1 => 1 + prng.next() % TRIALS_MOST,
         2 => around.clamp(1, TRIALS_MOST),
-        _ if got.kind != reference::calls::STOPPED => 1_000_000,
+        _ if got.kind != crate::calls::STOPPED => 1_000_000,
         _ => TRIALS_MOST,
     }
 }

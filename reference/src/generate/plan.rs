@@ -1,7 +1,7 @@
 //! A call being built: rows of numbers that still can be spoilt, and how they
 //! become a vector.
 
-use reference::vectors::{Vector, FITS, IS_RESULT, LAYOUT, NODES_AT, PATHS, VERDICT};
+use crate::vectors::{Vector, FITS, IS_RESULT, LAYOUT, NODES_AT, PATHS, VERDICT};
 
 pub const CALLS: [u32; 6] = [VERDICT, FITS, IS_RESULT, NODES_AT, PATHS, LAYOUT];
 

@@ -1,11 +1,11 @@
 //! Random verdict cases near the limits: 64 outline nodes, 16 selection
 //! nodes, no placement or thousands, failing first, in the middle or last.
 
-use crate::plan::{OutlineRow, Plan, SelectionRow};
-use crate::prng::Prng;
-use crate::trees::{self, Freedom};
-use reference::calls::{NOT_INCLUDED, STOPPED};
-use reference::vectors::{Vector, VERDICT};
+use super::plan::{OutlineRow, Plan, SelectionRow};
+use super::prng::Prng;
+use super::trees::{self, Freedom};
+use crate::calls::{NOT_INCLUDED, STOPPED};
+use crate::vectors::{Vector, VERDICT};
 
 /// Most verdicts are found within this many trials, so that a thousand cases
 /// take seconds.
@@ -36,7 +36,7 @@ fn one(prng: &mut Prng, index: usize) -> Vector {
 /// the greatest limit is taken only where the answer comes early.
 fn limit(prng: &mut Prng, plan: &Plan) -> u64 {
     let mut answer = [0; 4_096];
-    let got = reference::verdict(&plan.case_bytes(), TRIALS_MOST, &mut 0, &mut answer);
+    let got = crate::verdict(&plan.case_bytes(), TRIALS_MOST, &mut 0, &mut answer);
     match prng.below(6) {
         0 => got.tried.max(1),
         1 => got.tried.saturating_sub(1).max(1),
@@ -91,7 +91,7 @@ fn related(prng: &mut Prng, outline: Vec<OutlineRow>, mut first: Vec<SelectionRo
     for _ in 0..prng.between(1, 8) {
         plan.selections[1] = second(prng, &plan);
         let mut answer = [0; 4_096];
-        let got = reference::verdict(&plan.case_bytes(), 200, &mut 0, &mut answer);
+        let got = crate::verdict(&plan.case_bytes(), 200, &mut 0, &mut answer);
         if got.kind == NOT_INCLUDED && got.tried > 1 {
             break;
         }

@@ -1,9 +1,9 @@
 //! Changes to a plan: those that break one question, and those that move a
 //! number to a bound where it is still accepted.
 
-use crate::plan::{least_length, questions, Plan, SelectionRow};
-use reference::records::{CASE_BYTES, OUTLINE_NODES, SELECTION_NODES, VOLUME_NODES};
-use reference::vectors::{IS_RESULT, LAYOUT, NODES_AT};
+use super::plan::{least_length, questions, Plan, SelectionRow};
+use crate::records::{CASE_BYTES, OUTLINE_NODES, SELECTION_NODES, VOLUME_NODES};
+use crate::vectors::{IS_RESULT, LAYOUT, NODES_AT};
 
 const TALLY_MOST: u64 = 1_000_000_000_000;
 

@@ -1,11 +1,11 @@
 //! Random layouts near the limits, all accepted: trials of hundreds of nodes,
 //! every fourth as large as a trial can be.
 
-use crate::plan::{least_length, OutlineRow, Plan, SelectionRow};
-use crate::prng::Prng;
-use crate::trees;
-use reference::records::{OUTLINE_NODES, SELECTION_NODES};
-use reference::vectors::{Vector, LAYOUT};
+use super::plan::{least_length, OutlineRow, Plan, SelectionRow};
+use super::prng::Prng;
+use super::trees;
+use crate::records::{OUTLINE_NODES, SELECTION_NODES};
+use crate::vectors::{Vector, LAYOUT};
 
 pub fn layouts(seed: u64, count: usize) -> Vec<Vector> {
     let mut prng = Prng::new(seed);
@@ -124,7 +124,7 @@ fn large(prng: &mut Prng) -> Placed {
 #[cfg(test)]
 mod tests {
     use super::*;
-    use reference::calls::{layout, NodeRecord};
+    use crate::calls::{layout, NodeRecord};
 
     fn node_count(vector: &Vector) -> u64 {
         let mut table = vec![NodeRecord::default(); vector.length as usize];

@@ -4,17 +4,7 @@
 
 #![forbid(unsafe_code)]
 
-mod boundaries;
-mod cases;
-mod changes;
-mod layouts;
-#[cfg(test)]
-mod meaning;
-mod plan;
-mod prng;
-mod random;
-mod trees;
-
+use reference::generate::{boundaries, cases, layouts, random};
 use reference::vectors::Vector;
 use std::io::{self, Write};
 use std::process::ExitCode;
@@ -28,10 +18,10 @@ fn main() -> ExitCode {
     let words: Vec<String> = std::env::args().skip(1).collect();
     let words: Vec<&str> = words.iter().map(String::as_str).collect();
     let vectors = match words[..] {
-        ["boundaries"] => Some(boundaries::boundaries()),
-        ["random", seed, count] => seeded(seed, count, random::random),
-        ["cases", seed, count] => seeded(seed, count, cases::cases),
-        ["layouts", seed, count] => seeded(seed, count, layouts::layouts),
+        ["boundaries"] => Some(boundaries()),
+        ["random", seed, count] => seeded(seed, count, random),
+        ["cases", seed, count] => seeded(seed, count, cases),
+        ["layouts", seed, count] => seeded(seed, count, layouts),
         _ => None,
     };
     match vectors {

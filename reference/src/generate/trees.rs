@@ -1,9 +1,9 @@
 //! Random outlines, selections and volumes as rows.
 
-use crate::plan::{OutlineRow, SelectionRow, VolumeRow};
-use crate::prng::Prng;
-use reference::embedding::{has, Shape};
-use reference::records::{SelectionNode, VolumeNode, SELECTION_NODES, VOLUME_NODES};
+use super::plan::{OutlineRow, SelectionRow, VolumeRow};
+use super::prng::Prng;
+use crate::embedding::{has, Shape};
+use crate::records::{SelectionNode, VolumeNode, SELECTION_NODES, VOLUME_NODES};
 
 /// An outline of some size, from a chain to a bush. Few labels make equal
 /// ones on a path common.

@@ -1,0 +1,20 @@
+//! Test vectors, drawn from a seed or at every boundary of every question.
+//! `changes` has every way to break a question, `boundaries` applies them
+//! singly and in pairs, `trees` draws outlines, selections and volumes, and
+//! `random`, `cases` and `layouts` put them together.
+
+mod boundaries;
+mod cases;
+mod changes;
+mod layouts;
+#[cfg(test)]
+mod meaning;
+mod plan;
+mod prng;
+mod random;
+mod trees;
+
+pub use boundaries::boundaries;
+pub use cases::cases;
+pub use layouts::layouts;
+pub use random::random;
