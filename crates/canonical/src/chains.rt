@@ -1,14 +1,14 @@
 // The chains: for each further pattern node in table order, new document nodes from its parent's own node down to its image.
 
 use crate::table::append;
-use crate::table::image_of;
-use crate::table::own_of;
-use crate::table::pattern_parent;
 use crate::table::root;
-use crate::table::summary_parent;
 use format::nodes::DocumentNode;
 use format::nodes::PatternNode;
 use format::nodes::SummaryNode;
+use format::nodes::image_of;
+use format::nodes::own_of;
+use format::nodes::pattern_parent;
+use format::nodes::summary_parent;
 ghost use mathlib.Core.Path.{_≡_};
 ghost use mathlib.Core.List.{List};
 ghost use Prim.Native.Nat.{ℕ, _≤_};

@@ -1,11 +1,11 @@
 // Filling up: document nodes are visited in number order, appended ones too, and each gets the children that strong edges ask for.
 
 use crate::table::append;
-use crate::table::number;
-use crate::table::summary_of;
 use bits::has64;
 use format::nodes::DocumentNode;
 use format::nodes::SummaryNode;
+use format::nodes::number;
+use format::nodes::summary_of;
 ghost use mathlib.Core.Path.{_≡_};
 ghost use mathlib.Core.List.{List, [], _∷_};
 ghost use Prim.Native.Nat.{ℕ, _≤_, _<_};

@@ -1,7 +1,7 @@
 // Labels: each document node has the label of its summary node.
 
-use crate::table::summary_of;
 use format::nodes::DocumentNode;
+use format::nodes::summary_of;
 ghost use mathlib.Core.Path.{_≡_};
 ghost use Prim.Native.Nat.{ℕ, _≤_, _<_};
 ghost use lib.ListN.{length, getD};

@@ -3,6 +3,9 @@
 
 use format::nodes::DocumentNode;
 use format::nodes::SummaryNode;
+use format::nodes::number;
+use format::nodes::summary_of;
+use format::nodes::summary_parent;
 ghost use mathlib.Core.Path.{_≡_};
 ghost use mathlib.Core.Bool.{_&&_};
 ghost use Prim.Native.Nat.{_≤_, _<_};
@@ -15,30 +18,14 @@ ghost use Rattle.model.specs.Fitting.{childLabelled, nextPath, pathMap};
 ghost use Rattle.format.specs.Tables.{recordFrom, documentFrom};
 ghost use Rattle.fitting.specs.Steps.{plainFrom};
 
-// A table's entry as a number.
-pub fn wide(x: u16) -> usize
-    ensures { λ r. ⌜ r ≡ x ⌝ }
-{
-    x as usize
-}
-
-// The path map's entry for a document node.
-pub fn summary_of(path: &[u16], v: DocumentNode) -> SummaryNode
-    requires { ⌜ v .0 < length (now path) ⌝ }
-    ensures { λ r. ⌜ r .0 ≡ getD (now (path .entry)) (v .0) 0 ⌝ }
-{
-    let i = v.0;
-    SummaryNode(wide(path[i]))
-}
-
 // Summary node t has parent s and label l.
 fn is_labelled(parents: &[u16], labels: &[u16], t: SummaryNode, s: SummaryNode, l: u16) -> bool
     requires { ⌜ (t .0 < length (now parents)) × (t .0 < length (now labels)) ⌝ }
     ensures { λ r. ⌜ r ≡ (eqb (getD (now (parents .entry)) (t .0) 0) (s .0) && eqb (getD (now (labels .entry)) (t .0) 0) l) ⌝ }
 {
     let i = t.0;
-    let p = wide(parents[i]);
-    if p == s.0 { labels[i] == l } else { false }
+    let p = summary_parent(parents, t);
+    if p.0 == s.0 { labels[i] == l } else { false }
 }
 
 // The child of s with label l, or n where s has none. The root is nobody's child.
@@ -76,7 +63,7 @@ fn path_of(
         }
         return SummaryNode(n);
     }
-    let p = wide(docparents[i]);
+    let p = number(docparents, i);
     child_labelled(
         parents,
         labels,

@@ -1,9 +1,9 @@
 // The strong edges by masks: a row for each document node, with the paths of its children, and one for each summary node, with its
 // strong children.
 
-use crate::paths::summary_of;
-use crate::paths::wide;
 use format::nodes::DocumentNode;
+use format::nodes::number;
+use format::nodes::summary_of;
 ghost use mathlib.Core.Path.{_≡_};
 ghost use Prim.Native.Nat.{ℕ, _≤_, _<_};
 ghost use lib.Bits.{bitAnd};
@@ -22,8 +22,8 @@ pub fn child_paths(docparents: &[u16], path: &[u16], count: usize, kids: &mut [u
     ensures { λ _. ⌜ Gathered (now (docparents .entry)) (givesPath (now (path .entry))) count (now (kids .exit)) ⌝ }
 {
     for v in 1..count {
-        let p = wide(docparents[v]);
-        kids[p] = bits::insert64(kids[p], wide(path[v]));
+        let p = number(docparents, v);
+        kids[p] = bits::insert64(kids[p], summary_of(path, DocumentNode(v)).0);
     }
 }
 
@@ -35,7 +35,7 @@ pub fn strong_children(parents: &[u16], strongs: &[u16], n: usize, needed: &mut 
     ensures { λ _. ⌜ Gathered (now (parents .entry)) (givesStrong (now (strongs .entry))) n (now (needed .exit)) ⌝ }
 {
     for t in 1..n {
-        let p = wide(parents[t]);
+        let p = number(parents, t);
         needed[p] = bits::insert_if64(needed[p], t, strongs[t] == 1);
     }
 }

@@ -1,5 +1,9 @@
 // Node numbers. The nodes of summaries, documents and patterns are numbered independently, and one is never passed off as
-// another: each kind of number has a type of its own.
+// another: each kind of number has a type of its own, and a column of numbers is read by what it maps to what.
+
+ghost use mathlib.Core.Path.{_≡_};
+ghost use Prim.Native.Nat.{_<_};
+ghost use lib.ListN.{length, getD};
 
 // The number of a summary node (document 01: outline node).
 pub struct SummaryNode(pub usize);
@@ -9,3 +13,51 @@ pub struct DocumentNode(pub usize);
 
 // The number of a pattern node (document 01: selection node).
 pub struct PatternNode(pub usize);
+
+// Number i of a column.
+pub fn number(column: &[u16], i: usize) -> usize
+    requires { ⌜ i < length (now column) ⌝ }
+    ensures { λ r. ⌜ r ≡ getD (now (column .entry)) i 0 ⌝ }
+{
+    column[i] as usize
+}
+
+// The summary node that a document node is on.
+pub fn summary_of(at: &[u16], v: DocumentNode) -> SummaryNode
+    requires { ⌜ v .0 < length (now at) ⌝ }
+    ensures { λ r. ⌜ r .0 ≡ getD (now (at .entry)) (v .0) 0 ⌝ }
+{
+    SummaryNode(number(at, v.0))
+}
+
+// The parent of a summary node.
+pub fn summary_parent(parents: &[u16], s: SummaryNode) -> SummaryNode
+    requires { ⌜ s .0 < length (now parents) ⌝ }
+    ensures { λ r. ⌜ r .0 ≡ getD (now (parents .entry)) (s .0) 0 ⌝ }
+{
+    SummaryNode(number(parents, s.0))
+}
+
+// The parent of a pattern node.
+pub fn pattern_parent(parents: &[u16], q: PatternNode) -> PatternNode
+    requires { ⌜ q .0 < length (now parents) ⌝ }
+    ensures { λ r. ⌜ r .0 ≡ getD (now (parents .entry)) (q .0) 0 ⌝ }
+{
+    PatternNode(number(parents, q.0))
+}
+
+// The summary node that an embedding takes a pattern node to.
+pub fn image_of(images: &[u16], q: PatternNode) -> SummaryNode
+    requires { ⌜ q .0 < length (now images) ⌝ }
+    ensures { λ r. ⌜ r .0 ≡ getD (now (images .entry)) (q .0) 0 ⌝ }
+{
+    SummaryNode(number(images, q.0))
+}
+
+// The own node of a pattern node in a canonical document.
+pub fn own_of(own: &[u16], q: PatternNode) -> DocumentNode
+    requires { ⌜ q .0 < length (now own) ⌝ }
+    ensures { λ r. ⌜ r .0 ≡ getD (now (own .entry)) (q .0) 0 ⌝ }
+{
+    DocumentNode(number(own, q.0))
+}

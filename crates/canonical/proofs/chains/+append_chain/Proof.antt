@@ -5,6 +5,7 @@ use borrow.Author.Needs.{needs}
 use native.Mathlib.Omega.{arith}
 use borrow.Fn.Kinds.{In}
 use borrow.Fn.PlainCycle.{Measures, is, falls, and}
+use Rattle.format.proofs.nodes.summary_parent.Reads as summary-parent-reads
 use Rattle.canonical.proofs.ColumnLaws.{roomy-same}
 use Rattle.canonical.proofs.ChainLaws.{hung-none, parent-within, parent-less, hanging-up, node-small, hung-longer, hung-room, hung-inside, hung-next}
 use Rattle.canonical.proofs.chains.append_chain.Reads as append-chain
@@ -12,7 +13,6 @@ use Rattle.canonical.proofs.chains.append_chain.Kinds as append-chain-k
 use Rattle.canonical.proofs.chains.+append_chain.Lts-append_chain as lts
 use Rattle.canonical.proofs.chains.hangs_from.Reads as hangs-from-reads
 use Rattle.canonical.proofs.table.append.Reads as append-reads
-use Rattle.canonical.proofs.table.summary_parent.Reads as summary-parent-reads
 use Rattle.canonical.proofs.chains.+append_chain.{statement}
 use Rattle.canonical.proofs.chains.+append_chain.Tie.{close}
 

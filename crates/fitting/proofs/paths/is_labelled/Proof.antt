@@ -5,14 +5,8 @@ use borrow.Author.Needs.{needs}
 use Rattle.fitting.proofs.paths.is_labelled.Statement.{statement}
 use Rattle.fitting.proofs.paths.is_labelled.Tie as tie
 
-mul-wide : tie.Need-mul-wide
-mul-wide c = search needs
-
-shared-slice-read-wide : tie.Need-shared-slice-read-wide
-shared-slice-read-wide c = search needs
-
-wide-requires : tie.Need-wide-requires
-wide-requires c κs = search needs
+summary-parent-requires : tie.Need-summary-parent-requires
+summary-parent-requires c κs = search needs
 
 mul-result : tie.Need-mul-result
 mul-result c = search needs
@@ -21,18 +15,16 @@ shared-slice-read-result : tie.Need-shared-slice-read-result
 shared-slice-read-result c = search needs
 
 returns : tie.Need-returns
-returns c = rw (eq-eqb _ _ (sym (c .before .before .before .wide .ensures) ∙ c .before .if1 .taken))
+returns c = rw (eq-eqb _ _ (sym (c .before .before .before .before .summary-parent .ensures) ∙ c .before .if1 .taken))
 
 returns-2 : tie.Need-returns-2
-returns-2 c = rw (ne-eqb _ _ (λ q. c .if1 .left (c .before .before .wide .ensures ∙ q)))
+returns-2 c = rw (ne-eqb _ _ (λ q. c .if1 .left (c .before .before .before .summary-parent .ensures ∙ q)))
 
 pub is-labelled-spec : {M : Type 1} → statement M
 is-labelled-spec =
     tie.close
     (tie.spec
-    mul-wide
-    shared-slice-read-wide
-    wide-requires
+    summary-parent-requires
     mul-result
     shared-slice-read-result
     returns

@@ -25,17 +25,11 @@ returns-2 c =
     let a = start .args in
     (root-other (now (a .parents)) (now (a .labels)) (a .n) (now (a .docparents)) (now (a .doclabels)) (now (a .path)) (a .v .0) (c .before .before .before .if1 .taken) (start .pre .0 .0) (c .if2 .left), search needs)
 
-mul-wide : tie.Need-mul-wide
-mul-wide c = search needs
-
-shared-slice-read-wide : tie.Need-shared-slice-read-wide
-shared-slice-read-wide c = search needs
-
-wide-requires : tie.Need-wide-requires
-wide-requires c κs = search needs
+number-requires : tie.Need-number-requires
+number-requires c κs = search needs
 
 summary-of-requires : tie.Need-summary-of-requires
-summary-of-requires c κs = omega (arith, c .before .before .before .before .before .before .before .before .pre .1 .1 (omega arith))
+summary-of-requires c κs = omega (arith, c .before .before .before .before .before .before .before .pre .1 .1 (omega arith))
 
 mul-child-labelled : tie.Need-mul-child-labelled
 mul-child-labelled c = search needs
@@ -49,11 +43,11 @@ child-labelled-requires c κs = search needs
 returns-3 : tie.Need-returns-3
 returns-3 c =
     let parent = c .before .before .before in
-    let other = parent .before .before in
+    let other = parent .before in
     let start = other .before .before .before .before .before .before in
     let a = start .args in (
       next-entry (now (a .parents)) (now (a .labels)) (a .n) (now (a .docparents)) (now (a .doclabels)) (now (a .path)) (a .v .0) _ _ _ (omega arith) (search needs)
-          (start .pre .1 .1 (omega arith)) (parent .wide .ensures) (c .before .before .summary-of .ensures) (c .child-labelled .ensures .0),
+          (start .pre .1 .1 (omega arith)) (parent .number .ensures) (c .before .before .summary-of .ensures) (c .child-labelled .ensures .0),
       c .child-labelled .ensures .1,
     )
 
@@ -65,9 +59,7 @@ path-of-spec =
     shared-slice-read-if2-2
     returns
     returns-2
-    mul-wide
-    shared-slice-read-wide
-    wide-requires
+    number-requires
     summary-of-requires
     mul-child-labelled
     shared-slice-read-child-labelled

@@ -18,23 +18,17 @@ abbrev μ-loop : tie.MeasureT-loop
 μ-loop docparents path count kids₀ v₀ kids v = count - v
 
 -- the parent's row is in the table
-room : (c : tie.After-wide Inv-loop μ-loop) → c .wide .result < length (c .before .before .before .loop .kids)
+room : (c : tie.After-number Inv-loop μ-loop) → c .number .result < length (c .before .before .loop .kids)
 room c =
-    let turn = c .before .before in
+    let turn = c .before in
     let start = turn .before .before .before .before .before in
-    gathering-room (turn .before .loop .inv) (start .pre .1 .0) (search needs) (turn .loop-test .taken) (c .wide .ensures)
+    gathering-room (turn .before .loop .inv) (start .pre .1 .0) (search needs) (turn .loop-test .taken) (c .number .ensures)
 
 loop-holds : tie.Need-loop-holds Inv-loop μ-loop
 loop-holds c = let start = c .before .before .before in gathering-start (start .pre .1 .0 .inhabited) (start .pre .1 .1 .1)
 
-mul-wide : tie.Need-mul-wide Inv-loop μ-loop
-mul-wide c = search needs
-
-shared-slice-read-wide : tie.Need-shared-slice-read-wide Inv-loop μ-loop
-shared-slice-read-wide c = search needs
-
-wide-requires : tie.Need-wide-requires Inv-loop μ-loop
-wide-requires c κs = search needs
+number-requires : tie.Need-number-requires Inv-loop μ-loop
+number-requires c κs = search needs
 
 mul-insert64 : tie.Need-mul-insert64 Inv-loop μ-loop
 mul-insert64 c = omega (arith, room c)
@@ -42,26 +36,20 @@ mul-insert64 c = omega (arith, room c)
 slice-read-insert64 : tie.Need-slice-read-insert64 Inv-loop μ-loop
 slice-read-insert64 c = room (c .before)
 
-mul-wide-2 : tie.Need-mul-wide-2 Inv-loop μ-loop
-mul-wide-2 c = search needs
-
-shared-slice-read-wide-2 : tie.Need-shared-slice-read-wide-2 Inv-loop μ-loop
-shared-slice-read-wide-2 c = search needs
-
-wide-requires-2 : tie.Need-wide-requires-2 Inv-loop μ-loop
-wide-requires-2 c κs = search needs
+summary-of-requires : tie.Need-summary-of-requires Inv-loop μ-loop
+summary-of-requires c κs = search needs
 
 insert64-requires : tie.Need-insert64-requires Inv-loop μ-loop
 insert64-requires c κs =
-    let turn = c .before .before .before .before .before in
+    let turn = c .before .before .before in
     let start = turn .before .before .before .before .before in
     omega (arith, start .pre .1 .1 .0 (turn .before .loop .v) (turn .loop-test .taken))
 
 mul-kids : tie.Need-mul-kids Inv-loop μ-loop
-mul-kids c = omega (arith, room (c .before .before .before .before))
+mul-kids c = omega (arith, room (c .before .before .before))
 
 slice-write-kids : tie.Need-slice-write-kids Inv-loop μ-loop
-slice-write-kids c = room (c .before .before .before .before)
+slice-write-kids c = room (c .before .before .before)
 
 add-v : tie.Need-add-v Inv-loop μ-loop
 add-v c = search needs
@@ -71,11 +59,11 @@ loop-less c = search needs
 
 loop-again : tie.Need-loop-again Inv-loop μ-loop
 loop-again c =
-    let parent = c .before .before .before .before in
-    let turn = parent .before .before in
+    let parent = c .before .before .before in
+    let turn = parent .before in
     let start = turn .before .before .before .before .before in
-    gathering-put _ (turn .before .loop .inv) (start .pre .1 .0) (search needs) (turn .loop-test .taken) (parent .wide .ensures) (c .insert64 .ensures)
-    (λ t. ap (eqb t) (sym (c .before .wide2 .ensures)))
+    gathering-put _ (turn .before .loop .inv) (start .pre .1 .0) (search needs) (turn .loop-test .taken) (parent .number .ensures) (c .insert64 .ensures)
+    (λ t. ap (eqb t) (sym (c .before .summary-of .ensures)))
 
 same-length : tie.Need-same-length Inv-loop μ-loop
 same-length c = c .before .loop .inv .size
@@ -90,14 +78,10 @@ child-paths-spec =
     Inv-loop
     μ-loop
     loop-holds
-    mul-wide
-    shared-slice-read-wide
-    wide-requires
+    number-requires
     mul-insert64
     slice-read-insert64
-    mul-wide-2
-    shared-slice-read-wide-2
-    wide-requires-2
+    summary-of-requires
     insert64-requires
     mul-kids
     slice-write-kids

@@ -17,23 +17,17 @@ abbrev μ-loop : tie.MeasureT-loop
 μ-loop parents strongs n needed₀ t₀ needed t = n - t
 
 -- the parent's row is in the table
-room : (c : tie.After-wide Inv-loop μ-loop) → c .wide .result < length (c .before .before .before .loop .needed)
+room : (c : tie.After-number Inv-loop μ-loop) → c .number .result < length (c .before .before .loop .needed)
 room c =
-    let turn = c .before .before in
+    let turn = c .before in
     let start = turn .before .before .before .before .before in
-    gathering-room (turn .before .loop .inv) (start .pre .1 .0) (search needs) (turn .loop-test .taken) (c .wide .ensures)
+    gathering-room (turn .before .loop .inv) (start .pre .1 .0) (search needs) (turn .loop-test .taken) (c .number .ensures)
 
 loop-holds : tie.Need-loop-holds Inv-loop μ-loop
 loop-holds c = let start = c .before .before .before in gathering-start (start .pre .1 .0 .inhabited) (start .pre .1 .1)
 
-mul-wide : tie.Need-mul-wide Inv-loop μ-loop
-mul-wide c = search needs
-
-shared-slice-read-wide : tie.Need-shared-slice-read-wide Inv-loop μ-loop
-shared-slice-read-wide c = search needs
-
-wide-requires : tie.Need-wide-requires Inv-loop μ-loop
-wide-requires c κs = search needs
+number-requires : tie.Need-number-requires Inv-loop μ-loop
+number-requires c κs = search needs
 
 mul-insert-if64 : tie.Need-mul-insert-if64 Inv-loop μ-loop
 mul-insert-if64 c = omega (arith, room c)
@@ -65,9 +59,9 @@ loop-less c = search needs
 loop-again : tie.Need-loop-again Inv-loop μ-loop
 loop-again c =
     let parent = c .before .before .before in
-    let turn = parent .before .before in
+    let turn = parent .before in
     let start = turn .before .before .before .before .before in
-    gathering-step _ _ (turn .before .loop .inv) (start .pre .1 .0) (search needs) (turn .loop-test .taken) (parent .wide .ensures) (c .insert-if64 .ensures) (λ t. refl)
+    gathering-step _ _ (turn .before .loop .inv) (start .pre .1 .0) (search needs) (turn .loop-test .taken) (parent .number .ensures) (c .insert-if64 .ensures) (λ t. refl)
 
 same-length : tie.Need-same-length Inv-loop μ-loop
 same-length c = c .before .loop .inv .size
@@ -82,9 +76,7 @@ strong-children-spec =
     Inv-loop
     μ-loop
     loop-holds
-    mul-wide
-    shared-slice-read-wide
-    wide-requires
+    number-requires
     mul-insert-if64
     slice-read-insert-if64
     mul-insert-if64-2

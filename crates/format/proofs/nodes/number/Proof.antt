@@ -1,8 +1,8 @@
--- `canonical::table::number` meets its contract: a number of the column is below 2 ^ 16. Assumes nothing.
+-- `format::nodes::number` meets its contract: a number of the column is below 2 ^ 16. Assumes nothing.
 use borrow.Author.Needs.{needs}
 use native.Mathlib.Omega.{arith}
-use Rattle.canonical.proofs.table.number.Statement.{statement}
-use Rattle.canonical.proofs.table.number.Tie as tie
+use Rattle.format.proofs.nodes.number.Statement.{statement}
+use Rattle.format.proofs.nodes.number.Tie as tie
 
 mul-result : tie.Need-mul-result
 mul-result c = search needs
