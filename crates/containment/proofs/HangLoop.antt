@@ -19,50 +19,41 @@ rooted-le {n} {parent} t x h = go (eq-zero-or-pos x)
     go (inl z) = let e : parent x ≡ 0 = ap parent z ∙ t .root in omega arith
     go (inr p) = let l : parent x < x = t .earlier x p h in omega arith
 
--- h is offered to x, which stands on the way up from b
-pub record HangInv (up fitting closed allowed low high : List ℕ) (deep a b n g h x : ℕ) : Type 0 where
-  pub room : ChainRoom up fitting closed allowed low high
-  pub inside : x < length up
-  pub climbs : Climbing (setsOf up fitting closed allowed low high deep) a (hangBy (setsOf up fitting closed allowed low high deep) a b n g) x h
+-- h is offered to x, which stands on the way up from x₀, to which h₀ was offered
+pub record HangInv (T : Sets) (a h₀ x₀ h x : ℕ) : Type 0 where
+  pub room : ChainRoom (T .up) (T .fitting) (T .closed) (T .allowed) (T .low) (T .high)
+  pub inside : x < length (T .up)
+  pub climbs : (whole : ℕ) → Climbing T a whole x₀ h₀ → Climbing T a whole x h
 
 -- a node's offer does not look at the parents
 node-same : (T : Sets) (x k e : ℕ) → nodeBy (setsOf [] (T .fitting) (T .closed) (T .allowed) (T .low) (T .high) (T .deep)) x k e ≡ nodeBy T x k e
 unfolding nodeBy
 node-same T x k e = refl
 
-module _ {up fitting closed allowed low high : List ℕ} {deep a b n g : ℕ} where
-  pub hang-start : {h x : ℕ} → ChainRoom up fitting closed allowed low high → b < length up → h ≡ nodeBy (setsOf [] fitting closed allowed low high deep) b n g → x ≡ getD up b 0
-      → HangInv up fitting closed allowed low high deep a b n g h x
-  hang-start {h} {x} R l p q =
-      let k : getD up b 0 ≤ b = rooted-le (R .tree) b l in
-      record {
-        room = R;
-        inside = omega arith;
-        climbs = subst₂ (λ (y i : ℕ). Climbing T a (hangBy T a b n g) y i) (sym q) (sym (p ∙ node-same T b n g)) (climbing-start T a b n g k);
-      }
-    where
-      T : Sets
-      T = setsOf up fitting closed allowed low high deep
+module _ {T : Sets} {a : ℕ} where
+  pub hang-start : {b h x : ℕ} → ChainRoom (T .up) (T .fitting) (T .closed) (T .allowed) (T .low) (T .high) → b < length (T .up) → x ≡ getD (T .up) b 0 → HangInv T a h x h x
+  hang-start {b} {h} {x} R l q =
+      let k : getD (T .up) b 0 ≤ b = rooted-le (R .tree) b l in
+      record { room = R; inside = omega arith; climbs = λ whole c. c }
 
-  pub hang-less : {h x y : ℕ} → HangInv up fitting closed allowed low high deep a b n g h x → a < x → y ≡ getD up x 0 → y < x
-  hang-less {h} {x} {y} v l q = let k : getD up x 0 < x = v .room .tree .earlier x (omega arith) (v .inside) in omega arith
+  pub hang-less : {h₀ x₀ h x y : ℕ} → HangInv T a h₀ x₀ h x → a < x → y ≡ getD (T .up) x 0 → y < x
+  hang-less {h₀} {x₀} {h} {x} {y} v l q = let k : getD (T .up) x 0 < x = v .room .tree .earlier x (omega arith) (v .inside) in omega arith
 
-  pub hang-step : {h x i y : ℕ} → HangInv up fitting closed allowed low high deep a b n g h x → a < x → i ≡ nodeBy (setsOf [] fitting closed allowed low high deep) x 0 h → y ≡ getD up x 0
-      → HangInv up fitting closed allowed low high deep a b n g i y
-  hang-step {h} {x} {i} {y} v l p q =
-      let k : getD up x 0 < x = v .room .tree .earlier x (omega arith) (v .inside) in
-      let m : x < length up = v .inside in
+  pub hang-step : {h₀ x₀ h x i y : ℕ} → HangInv T a h₀ x₀ h x → a < x → i ≡ nodeBy (setsOf [] (T .fitting) (T .closed) (T .allowed) (T .low) (T .high) (T .deep)) x 0 h
+      → y ≡ getD (T .up) x 0 → HangInv T a h₀ x₀ i y
+  hang-step {h₀} {x₀} {h} {x} {i} {y} v l p q =
+      let k : getD (T .up) x 0 < x = v .room .tree .earlier x (omega arith) (v .inside) in
+      let m : x < length (T .up) = v .inside in
       record {
         room = v .room;
         inside = omega arith;
-        climbs = subst₂ (λ (z j : ℕ). Climbing T a (hangBy T a b n g) z j) (sym q) (sym (p ∙ node-same T x 0 h)) (climbing-step T a (hangBy T a b n g) x h l k (v .climbs));
+        climbs = λ whole c. subst₂ (Climbing T a whole) (sym q) (sym (p ∙ node-same T x 0 h)) (climbing-step T a whole x h l k (v .climbs whole c));
       }
-    where
-      T : Sets
-      T = setsOf up fitting closed allowed low high deep
 
-  pub hang-end : {h x : ℕ} → HangInv up fitting closed allowed low high deep a b n g h x → x ≤ a → h ≡ hangBy (setsOf up fitting closed allowed low high deep) a b n g
-  hang-end {h} {x} v l = climbing-end T a (hangBy T a b n g) x h l (v .climbs)
-    where
-      T : Sets
-      T = setsOf up fitting closed allowed low high deep
+  -- the climb began above b, which holds position n and from which g hangs
+  pub hang-end : {b h₀ x₀ h x : ℕ} (n g : ℕ) → HangInv T a h₀ x₀ h x → x ≤ a → b < length (T .up)
+      → h₀ ≡ nodeBy (setsOf [] (T .fitting) (T .closed) (T .allowed) (T .low) (T .high) (T .deep)) b n g → x₀ ≡ getD (T .up) b 0 → h ≡ hangBy T a b n g
+  hang-end {b} {h₀} {x₀} {h} {x} n g v l d p q =
+      climbing-end T a (hangBy T a b n g) x h l
+      (v .climbs (hangBy T a b n g)
+      (subst₂ (Climbing T a (hangBy T a b n g)) (sym q) (sym (p ∙ node-same T b n g)) (climbing-start T a b n g (rooted-le (v .room .tree) b d))))

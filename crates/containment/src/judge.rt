@@ -1,6 +1,12 @@
 // The quick test of an embedding by masks. Sets of the second pattern's nodes are 16-bit masks.
 
 use bits::has16;
+use format::nodes::PatternNode;
+use format::nodes::SummaryNode;
+use format::nodes::image_of;
+use format::nodes::number;
+use format::nodes::pattern_parent;
+use format::nodes::summary_parent;
 ghost use mathlib.Core.Path.{_≡_};
 ghost use Prim.Native.Nat.{_≤_, _<_};
 ghost use lib.Bits.{bitOr};
@@ -8,20 +14,6 @@ ghost use lib.ListN.{length, getD, set as setAt};
 ghost use mathlib.Core.List.{[]};
 ghost use Rattle.containment.specs.Judging.{fullBy, meetsBy, offersBy, setsOf, nodeBy, hangBy, passBy, givenBy, judgeBy};
 ghost use Rattle.containment.specs.Room.{NodeRoom, ChainRoom, JudgeRoom};
-
-pub fn wide(x: u16) -> usize
-    ensures { λ r. ⌜ r ≡ x ⌝ }
-{
-    x as usize
-}
-
-// An entry of a table as an index.
-pub fn entry(t: &[u16], i: usize) -> usize
-    requires { ⌜ i < length (now t) ⌝ }
-    ensures { λ r. ⌜ r ≡ getD (now (t .entry)) i 0 ⌝ }
-{
-    wide(t[i])
-}
 
 // The pattern nodes all of whose children are in acc.
 pub fn full(low: &[u16], high: &[u16], acc: u16) -> u16
@@ -37,14 +29,15 @@ pub fn met(
     allowed: &[u16],
     low: &[u16],
     high: &[u16],
-    x: usize,
+    x: SummaryNode,
     n: usize,
     acc: u16,
 ) -> u16
-    requires { ⌜ (x < length (now fitting)) × (n < length (now allowed)) × (256 ≤ length (now low)) × (256 ≤ length (now high)) ⌝ }
-    ensures { λ r. ⌜ r ≡ meetsBy (now (fitting .entry)) (now (allowed .entry)) (now (low .entry)) (now (high .entry)) x n acc ⌝ }
+    requires { ⌜ (x .0 < length (now fitting)) × (n < length (now allowed)) × (256 ≤ length (now low)) × (256 ≤ length (now high)) ⌝ }
+    ensures { λ r. ⌜ r ≡ meetsBy (now (fitting .entry)) (now (allowed .entry)) (now (low .entry)) (now (high .entry)) (x .0) n acc ⌝ }
 {
-    fitting[x] & allowed[n] & full(low, high, acc)
+    let i = x.0;
+    fitting[i] & allowed[n] & full(low, high, acc)
 }
 
 // What is offered to the node above x.
@@ -54,12 +47,12 @@ pub fn offered(
     low: &[u16],
     high: &[u16],
     deep: u16,
-    x: usize,
+    x: SummaryNode,
     n: usize,
     acc: u16,
 ) -> u16
-    requires { ⌜ (x < length (now fitting)) × (n < length (now allowed)) × (256 ≤ length (now low)) × (256 ≤ length (now high)) ⌝ }
-    ensures { λ r. ⌜ r ≡ offersBy (now (fitting .entry)) (now (allowed .entry)) (now (low .entry)) (now (high .entry)) deep x n acc ⌝ }
+    requires { ⌜ (x .0 < length (now fitting)) × (n < length (now allowed)) × (256 ≤ length (now low)) × (256 ≤ length (now high)) ⌝ }
+    ensures { λ r. ⌜ r ≡ offersBy (now (fitting .entry)) (now (allowed .entry)) (now (low .entry)) (now (high .entry)) deep (x .0) n acc ⌝ }
 {
     met(fitting, allowed, low, high, x, n, acc) | (deep & acc)
 }
@@ -72,14 +65,15 @@ fn node(
     low: &[u16],
     high: &[u16],
     deep: u16,
-    x: usize,
+    x: SummaryNode,
     n: usize,
     g: u16,
 ) -> u16
-    requires { ⌜ NodeRoom (now fitting) (now closed) (now allowed) (now low) (now high) x n ⌝ }
-    ensures { λ r. ⌜ r ≡ nodeBy (setsOf [] (now (fitting .entry)) (now (closed .entry)) (now (allowed .entry)) (now (low .entry)) (now (high .entry)) deep) x n g ⌝ }
+    requires { ⌜ NodeRoom (now fitting) (now closed) (now allowed) (now low) (now high) (x .0) n ⌝ }
+    ensures { λ r. ⌜ r ≡ nodeBy (setsOf [] (now (fitting .entry)) (now (closed .entry)) (now (allowed .entry)) (now (low .entry)) (now (high .entry)) deep) (x .0) n g ⌝ }
 {
-    offered(fitting, allowed, low, high, deep, x, n, closed[x] | g)
+    let i = x.0;
+    offered(fitting, allowed, low, high, deep, x, n, closed[i] | g)
 }
 
 // What the chain from below a down to b offers, where b holds position n and g hangs from it.
@@ -91,19 +85,19 @@ fn hang(
     low: &[u16],
     high: &[u16],
     deep: u16,
-    a: usize,
-    b: usize,
+    a: SummaryNode,
+    b: SummaryNode,
     n: usize,
     g: u16,
 ) -> u16
-    requires { ⌜ (ChainRoom (now up) (now fitting) (now closed) (now allowed) (now low) (now high)) × (b < length (now up)) × (n < length (now allowed)) ⌝ }
-    ensures { λ r. ⌜ r ≡ hangBy (setsOf (now (up .entry)) (now (fitting .entry)) (now (closed .entry)) (now (allowed .entry)) (now (low .entry)) (now (high .entry)) deep) a b n g ⌝ }
+    requires { ⌜ (ChainRoom (now up) (now fitting) (now closed) (now allowed) (now low) (now high)) × (b .0 < length (now up)) × (n < length (now allowed)) ⌝ }
+    ensures { λ r. ⌜ r ≡ hangBy (setsOf (now (up .entry)) (now (fitting .entry)) (now (closed .entry)) (now (allowed .entry)) (now (low .entry)) (now (high .entry)) deep) (a .0) (b .0) n g ⌝ }
 {
     let mut h = node(fitting, closed, allowed, low, high, deep, b, n, g);
-    let mut x = entry(up, b);
-    while a < x {
+    let mut x = summary_parent(up, b);
+    while a.0 < x.0 {
         h = node(fitting, closed, allowed, low, high, deep, x, 0, h);
-        x = entry(up, x);
+        x = summary_parent(up, x);
     }
     h
 }
@@ -120,13 +114,13 @@ fn pass(
     parents: &[u16],
     positions: &[u16],
     images: &[u16],
-    c: usize,
+    c: PatternNode,
     e: u16,
 ) -> u16
-    requires { ⌜ (JudgeRoom (now up) (now fitting) (now closed) (now allowed) (now low) (now high) (now parents) (now positions) (now images)) × (0 < c) × (c < length (now parents)) ⌝ }
-    ensures { λ r. ⌜ r ≡ passBy (setsOf (now (up .entry)) (now (fitting .entry)) (now (closed .entry)) (now (allowed .entry)) (now (low .entry)) (now (high .entry)) deep) (now (parents .entry)) (now (positions .entry)) (now (images .entry)) c e ⌝ }
+    requires { ⌜ (JudgeRoom (now up) (now fitting) (now closed) (now allowed) (now low) (now high) (now parents) (now positions) (now images)) × (0 < c .0) × (c .0 < length (now parents)) ⌝ }
+    ensures { λ r. ⌜ r ≡ passBy (setsOf (now (up .entry)) (now (fitting .entry)) (now (closed .entry)) (now (allowed .entry)) (now (low .entry)) (now (high .entry)) deep) (now (parents .entry)) (now (positions .entry)) (now (images .entry)) (c .0) e ⌝ }
 {
-    let a = entry(images, entry(parents, c));
+    let a = image_of(images, pattern_parent(parents, c));
     hang(
         up,
         fitting,
@@ -136,8 +130,8 @@ fn pass(
         high,
         deep,
         a,
-        entry(images, c),
-        entry(positions, c),
+        image_of(images, c),
+        number(positions, c.0),
         e,
     )
 }
@@ -181,10 +175,10 @@ fn given(
             parents,
             positions,
             images,
-            c,
+            PatternNode(c),
             t[c],
         );
-        join(&mut t, entry(parents, c), set);
+        join(&mut t, number(parents, c), set);
     }
     t[0]
 }
@@ -223,8 +217,8 @@ pub fn judge(
             allowed,
             low,
             high,
-            0,
-            entry(positions, 0),
+            SummaryNode(0),
+            number(positions, 0),
             closed[0] | g,
         ),
         0,

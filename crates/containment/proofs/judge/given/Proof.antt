@@ -38,13 +38,13 @@ pass-requires c κs = search needs
 slice-aggregate-join : tie.Need-slice-aggregate-join Inv-loop μ-loop
 slice-aggregate-join c = search needs
 
-entry-requires : tie.Need-entry-requires Inv-loop μ-loop
-entry-requires c κs = search needs
+number-requires : tie.Need-number-requires Inv-loop μ-loop
+number-requires c κs = search needs
 
 join-requires : tie.Need-join-requires Inv-loop μ-loop
 join-requires c κs =
     let l = c .before .before .before .before .loop in
-    let k : c .entry .result < l .c - 1 = parent-lt (l .inv .0) (omega arith) (omega arith) (c .entry .ensures) in
+    let k : c .number .result < l .c - 1 = parent-lt (l .inv .0) (omega arith) (omega arith) (c .number .ensures) in
     omega arith
 
 loop-less : tie.Need-loop-less Inv-loop μ-loop
@@ -55,7 +55,7 @@ loop-again c =
     let l = c .before .before .before .before .before .before .loop in (
       l .inv .0,
       gathering-step (l .c - 1) (c .before .join .last .0) (l .inv .1) (c .before .before .before .before .before .loop-test .taken) refl
-          (join-turn _ _ _ _ _ _ _ (c .before .before .entry .ensures) (c .before .before .before .before .pass .ensures) (c .before .join .ensures)) (c .before .join .kept .0),
+          (join-turn _ _ _ _ _ _ _ (c .before .before .number .ensures) (c .before .before .before .before .pass .ensures) (c .before .join .ensures)) (c .before .join .kept .0),
     )
 
 array-read-result : tie.Need-array-read-result Inv-loop μ-loop
@@ -77,7 +77,7 @@ given-spec =
     array-read-pass
     pass-requires
     slice-aggregate-join
-    entry-requires
+    number-requires
     join-requires
     loop-less
     loop-again

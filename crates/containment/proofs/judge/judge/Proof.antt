@@ -10,8 +10,8 @@ use Rattle.containment.proofs.judge.judge.Tie as tie
 given-requires : tie.Need-given-requires
 given-requires c κs = search needs
 
-entry-requires : tie.Need-entry-requires
-entry-requires c κs = search needs
+number-requires : tie.Need-number-requires
+number-requires c κs = search needs
 
 shared-slice-read-met : tie.Need-shared-slice-read-met
 shared-slice-read-met c = search needs
@@ -20,21 +20,21 @@ met-requires : tie.Need-met-requires
 met-requires c κs =
     let R = c .before .before .before .before .before .before .before .before .before .before .before .before .pre in
     let i = R .chain .tree .inhabited in
-    (omega (arith, R .chain .fits), position-lt R (R .tree .inhabited) (c .before .entry .ensures), R .chain .lows, R .chain .highs)
+    (omega (arith, R .chain .fits), position-lt R (R .tree .inhabited) (c .before .number .ensures), R .chain .lows, R .chain .highs)
 
 has16-requires : tie.Need-has16-requires
 has16-requires c κs = search needs
 
 returns : tie.Need-returns
 unfolding judgeBy
-returns c = cc (c .has16 .ensures, c .before .met .ensures, c .before .before .before .entry .ensures, c .before .before .before .before .given .ensures)
+returns c = rw (c .has16 .ensures, c .before .met .ensures, c .before .before .before .number .ensures, c .before .before .before .before .given .ensures)
 
 pub judge-spec : {M : Type 1} → statement M
 judge-spec =
     tie.close
     (tie.spec
     given-requires
-    entry-requires
+    number-requires
     shared-slice-read-met
     met-requires
     has16-requires
