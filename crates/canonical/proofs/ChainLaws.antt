@@ -14,7 +14,7 @@ use Rattle.model.specs.Summary.{Summary, asDocument, summaryParent}
 use Rattle.model.specs.Canonical.{Spot, chain, appendChain}
 use Rattle.model.proofs.ListLaws.{length-snoc}
 use Rattle.model.proofs.TreeLaws.{below-cases, child-lt, length-asDocument}
-use Rattle.model.proofs.Chains.{AtOrBelow, Way, end, step, below-way, chain-way}
+use Rattle.model.proofs.Chains.{AtOrBelow, end, step, way-append, at-or-below-way, chain-way}
 use Rattle.model.proofs.Segment.{chainSpot, append-chain}
 use Rattle.canonical.specs.Columns.{Tables, Columns, appended}
 use Rattle.canonical.specs.Given.{Hanging, HangsFrom, Hung}
@@ -22,19 +22,11 @@ use Rattle.canonical.proofs.ColumnLaws.{columns-by, columns-append}
 
 -- ---- a chain from its lower end
 
-way-snoc : {D : Document} {a b : ℕ} {xs : List ℕ} (c : ℕ) → Way D b a xs → Child D b c → Way D c a (xs ++ c ∷ [])
-way-snoc {D} c (end p) k = step (subst (λ (x : ℕ). Child D x c) (sym p) k) (end refl)
-way-snoc c (step j w) k = step j (way-snoc c w k)
-
-way-to : {D : Document} {a b : ℕ} → AtOrBelow D a b → (xs : List ℕ) × Way D b a xs
-way-to (inl p) = ([], end p)
-way-to (inr d) = let r = below-way d in (r .0 ∷ r .1, step (r .2) (r .3))
-
 -- the chain down to a child of b is the chain down to b and the child
 chain-snoc : (S : Summary) (a b c : ℕ) → IsTree (asDocument S) → AtOrBelow (asDocument S) a b → Child (asDocument S) b c → chain S a c ≡ chain S a b ++ c ∷ []
 chain-snoc S a b c t r k =
-    let w = way-to r in
-    chain-way S t (way-snoc c (w .1) k) ∙ ap (λ (xs : List ℕ). xs ++ c ∷ []) (sym (chain-way S t (w .1)))
+    let w = at-or-below-way r in
+    chain-way S t (way-append (w .1) (step k (end refl))) ∙ ap (λ (xs : List ℕ). xs ++ c ∷ []) (sym (chain-way S t (w .1)))
 
 -- what is below a node is reached from its parent
 climb : {D : Document} {a b : ℕ} → AtOrBelow D a b → (a ≡ b → ⊥) → AtOrBelow D a (parentOf D b) × Child D (parentOf D b) b

@@ -267,9 +267,10 @@ module _ {spots : List Spot} {base now : Tables} {count : ℕ} (c : Columns spot
               let q : count ≡ length spots = c .counted in
               omega arith
 
-front-first : (b : List ℕ) → minTable ≤ length b → set b 0 0 ≡ writtenAtFront (0 ∷ []) b
+-- the first entry alone is written
+pub front-one : (b : List ℕ) (x : ℕ) → 0 < length b → set b 0 x ≡ writtenAtFront (x ∷ []) b
 unfolding writtenAtFront
-front-first b h = front-set [] b 0 (omega arith)
+front-one b x h = front-set [] b x h
 
 -- two tables over one base
 pub columns-same : {spots later : List Spot} {base now then : Tables} {count n : ℕ} → Columns spots base now count → Columns later base then n → SameLengths then now
@@ -284,9 +285,9 @@ columns-root {base} r =
       fits = omega arith;
       room = r;
       inside = λ i h. first i h;
-      parent = front-first (base .parent) (r .parent);
-      at = front-first (base .at) (r .at);
-      kids = front-first (base .kids) (r .kids) ∙ ap (λ (w : List ℕ). writtenAtFront w (base .kids)) (sym root-masks);
+      parent = front-one (base .parent) 0 (omega (arith, r .parent));
+      at = front-one (base .at) 0 (omega (arith, r .at));
+      kids = front-one (base .kids) 0 (omega (arith, r .kids)) ∙ ap (λ (w : List ℕ). writtenAtFront w (base .kids)) (sym root-masks);
     }
   where
     first : (i : ℕ) → i < 1 → spotParent (rootSpot ∷ []) i < 1

@@ -4,7 +4,7 @@ use Prim.Native.Nat.{ℕ, suc, _+_, _-_, _≤_, _<_}
 use mathlib.Core.Path.{_≡_, refl, sym, ap, ap₂, _∙_, subst}
 use mathlib.Core.Bool.{Bool, true, false}
 use mathlib.Core.Logic.{inr}
-use mathlib.Core.List.{List, [], _∷_, _++_, tail}
+use mathlib.Core.List.{List, [], _∷_, _++_}
 use native.Mathlib.Omega.{arith}
 use native.Mathlib.Numerals.{add-one}
 use lib.Dec.{ltb}
@@ -19,10 +19,12 @@ use Rattle.model.specs.Bytes.{writtenAtFront}
 use Rattle.model.specs.Canonical.{Spot, rootSpot, chain, appendChain, Layout, layNode, layNodes, rootLayout, chains}
 use Rattle.model.proofs.ListLaws.{length-snoc}
 use Rattle.model.proofs.TreeLaws.{edge-below}
+use Rattle.model.proofs.ChainPhase.{drop-one}
 use Rattle.model.proofs.Bytes.{front-length}
 use Rattle.format.proofs.FrontLaws.{front-getD, front-set}
 use Rattle.canonical.specs.Columns.{Tables, Columns}
 use Rattle.canonical.specs.Given.{Hanging, Hung, Chained}
+use Rattle.canonical.proofs.ColumnLaws.{front-one}
 use Rattle.canonical.proofs.ChainLaws.{append-length}
 
 lay-grows : (es : List ℕ) (S : Summary) (l : Layout) (rs : List PatternRecord) → length (l .spots) ≤ length (layNodes es S l rs .spots)
@@ -36,10 +38,6 @@ lay-grows es S l (r ∷ rs) =
     let k : length (appendChain q (l .spots) v xs) ≤ length (layNodes es S (layNode es S l r) rs .spots) = lay-grows es S (layNode es S l r) rs in
     omega arith
 
-drop-one : (P : Pattern) → drop 1 P ≡ tail P
-drop-one [] = refl
-drop-one (r ∷ rs) = refl
-
 -- q pattern nodes are laid out: the columns have the nodes so far, own has the own nodes so far, and the rest leads to the layout
 pub record Laying (S : Summary) (P : Pattern) (es : List ℕ) (base now : Tables) (own₀ own : List ℕ) (q count : ℕ) : Type 0 where
   pub layout : Layout
@@ -49,10 +47,6 @@ pub record Laying (S : Summary) (P : Pattern) (es : List ℕ) (base now : Tables
   pub ownInside : (p : ℕ) → p < q → imageIn (layout .own) p < count
   pub ownRoom : length P ≤ length own₀
   pub rest : layNodes es S layout (drop q P) ≡ chains S P es
-
-front-one : (b : List ℕ) (x : ℕ) → 0 < length b → set b 0 x ≡ writtenAtFront (x ∷ []) b
-unfolding writtenAtFront
-front-one b x h = front-set [] b x h
 
 pub laying-start : (S : Summary) (P : Pattern) (es : List ℕ) {base now : Tables} {count : ℕ} (own : List ℕ) → Columns (rootSpot ∷ []) base now count → 0 < length P → length P ≤ length own
     → Laying S P es base now own (set own 0 0) 1 count

@@ -357,7 +357,7 @@ layNode-laid : (S : Summary) (es : List ℕ) (l : Layout) (r : PatternRecord) �
 unfolding layNode
 layNode-laid S es l r = refl
 
-drop-one : (P : Pattern) → drop 1 P ≡ tail P
+pub drop-one : (P : Pattern) → drop 1 P ≡ tail P
 drop-one [] = refl
 drop-one (r ∷ rs) = refl
 

@@ -35,7 +35,7 @@ pub data Way (D : Document) (b : ℕ) : ℕ → List ℕ → Type 0 where
   step : {a x : ℕ} {xs : List ℕ} → Child D a x → Way D b x xs → Way D b a (x ∷ xs)
 
 -- a way goes on below where another ends
-way-append : {D : Document} {a b c : ℕ} {xs ys : List ℕ} → Way D b a xs → Way D c b ys → Way D c a (xs ++ ys)
+pub way-append : {D : Document} {a b c : ℕ} {xs ys : List ℕ} → Way D b a xs → Way D c b ys → Way D c a (xs ++ ys)
 way-append {D} {c = c} {ys = ys} (end p) w = subst (λ (x : ℕ). Way D c x ys) (sym p) w
 way-append (step k v) w = step k (way-append v w)
 
@@ -46,7 +46,7 @@ below-way {D} {a} (down {b = m} {c = b} d c) =
     let r : (x : ℕ) × (xs : List ℕ) × Child D a x × Way D m x xs = below-way d in
     (r .0, r .1 ++ b ∷ [], r .2, way-append (r .3) (step c (end refl)))
 
-at-or-below-way : {D : Document} {a b : ℕ} → AtOrBelow D a b → (xs : List ℕ) × Way D b a xs
+pub at-or-below-way : {D : Document} {a b : ℕ} → AtOrBelow D a b → (xs : List ℕ) × Way D b a xs
 at-or-below-way (inl p) = ([], end p)
 at-or-below-way (inr d) = let r = below-way d in (r .0 ∷ r .1, step (r .2) (r .3))
 
