@@ -10,7 +10,6 @@ use questions::refusals::paths_refusal;
 ghost use mathlib.Core.Path.{_≡_};
 ghost use mathlib.Core.List.{map};
 ghost use lib.Count.{trailingZeros};
-ghost use lib.ListN.{length};
 ghost use Rattle.model.specs.Lists.{upFrom};
 ghost use Rattle.model.specs.Embeddings.{pathMask};
 ghost use Rattle.model.specs.Bytes.{caseOf};
@@ -42,18 +41,6 @@ fn accepted_masks(case: &[u8], selection: u64) -> [u64; 16]
     path_masks(&parents, &labels, n, &qparents, &qlabels, &edges, m)
 }
 
-// Sixteen counts, in the answer's width.
-fn widened(counts: &[usize]) -> [u64; 16]
-    requires { ⌜ length (now counts) ≡ 16 ⌝ }
-    ensures { λ r. ⌜ r ≡ now (counts .entry) ⌝ }
-{
-    let mut r = [0u64; 16];
-    for q in 0..16 {
-        r[q] = counts[q] as u64;
-    }
-    r
-}
-
 // Which paths may each node of the pattern take, and how many?
 pub fn paths_call(case: &[u8], selection: u64) -> PathsAnswer
     ensures { λ r. ⌜ (r .refused ≡ pathsCall (now (case .entry)) selection .refused) × (r .masks ≡ pathsCall (now (case .entry)) selection .masks) × (r .counts ≡ pathsCall (now (case .entry)) selection .counts) ⌝ }
@@ -68,8 +55,7 @@ pub fn paths_call(case: &[u8], selection: u64) -> PathsAnswer
         };
     }
     let masks = accepted_masks(case, selection);
-    let found = path_counts(&masks);
-    let counts = widened(&found);
+    let counts = path_counts(&masks);
     PathsAnswer {
         refused: 0,
         masks,

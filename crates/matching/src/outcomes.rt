@@ -206,13 +206,13 @@ pub fn path_masks(
 }
 
 // How many paths each of sixteen masks holds.
-pub fn path_counts(masks: &[u64]) -> [usize; 16]
+pub fn path_counts(masks: &[u64]) -> [u64; 16]
     requires { ⌜ length (now masks) ≡ 16 ⌝ }
     ensures { λ r. ⌜ r ≡ map ones (now (masks .entry)) ⌝ }
 {
-    let mut r = [0usize; 16];
+    let mut r = [0u64; 16];
     for q in 0..16 {
-        r[q] = bits::count64(masks[q]);
+        r[q] = bits::count64(masks[q]) as u64;
     }
     r
 }

@@ -1,7 +1,6 @@
 -- `calls::paths::paths_call` meets its contract: a refusal is the definition's, and an accepted call answers each node's paths and the
 -- number of ones in each mask. Assumes nothing.
 use borrow.Author.Needs.{needs}
-use mathlib.Core.Path.{_∙_}
 use denote.Ref.{now}
 use Rattle.calls.proofs.PathLaws.{refused-fields, accepted-fields}
 use Rattle.calls.proofs.paths.paths_call.Statement.{statement}
@@ -24,19 +23,12 @@ slice-aggregate-path-counts c = search needs
 path-counts-requires : tie.Need-path-counts-requires
 path-counts-requires c κs = search needs
 
-slice-aggregate-widened : tie.Need-slice-aggregate-widened
-slice-aggregate-widened c = search needs
-
-widened-requires : tie.Need-widened-requires
-widened-requires c κs = search needs
-
 returns-2 : tie.Need-returns-2
 returns-2 c =
-    let counted = c .before .before in
-    let found = counted .before .before in
+    let found = c .before .before in
     let e = found .before in
     let a = e .before .before .before .args in
-    accepted-fields (now (a .case)) (a .selection) (e .before .paths-refusal .ensures) (e .if1 .left) (found .accepted-masks .ensures) (c .widened .ensures ∙ counted .path-counts .ensures)
+    accepted-fields (now (a .case)) (a .selection) (e .before .paths-refusal .ensures) (e .if1 .left) (found .accepted-masks .ensures) (c .path-counts .ensures)
 
 pub paths-call-spec : {M : Type 1} → statement M
 paths-call-spec =
@@ -47,6 +39,4 @@ paths-call-spec =
     accepted-masks-requires
     slice-aggregate-path-counts
     path-counts-requires
-    slice-aggregate-widened
-    widened-requires
     returns-2)
