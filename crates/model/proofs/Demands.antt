@@ -4,7 +4,7 @@ use Prim.Native.Nat.{ℕ, suc, _+_, _*_, _≤_, _<_}
 use mathlib.Core.Path.{_≡_, refl, sym, ap, _∙_, subst}
 use mathlib.Core.Bool.{Bool, true, false, true≢false}
 use mathlib.Core.Logic.{_↔_, Iff·trans, Iff·symm}
-use mathlib.Core.List.{List, [], _++_, map, List·Memᴰ, List·Memᴰ·head, Memᴰ·append-right}
+use mathlib.Core.List.{List, [], _++_, map, List·Memᴰ}
 use native.Mathlib.Omega.{arith}
 use native.Mathlib.Nat.{zero-add}
 use lib.Count.{ones}
@@ -31,7 +31,7 @@ use Rattle.model.proofs.ReturnNodes.{length-returnNodes}
 use Rattle.model.proofs.Results.{result-exact, nodes-at-exact, nodes-at-ascending, path-mask-exact, path-mask-beyond, path-count-ones}
 use Rattle.model.proofs.Fitting.{fits-exact}
 use Rattle.model.proofs.Decision.{trial-fits, trial-result, trial-small, contained-exact, contained-or-counter, counter-exact, failing-trial}
-use Rattle.model.proofs.Verdict.{IsIncluded, IsNotIncluded, IsStopped, few-included, few-not-included, more-stopped, more-never-included, not-included-iff, stopped-iff, judge-not-included, included-or-not, not-or-stopped, verdict-judge, verdict-tried}
+use Rattle.model.proofs.Verdict.{IsIncluded, IsNotIncluded, IsStopped, few-included, few-not-included, more-stopped, more-never-included, not-included-iff, stopped-iff, included-or-not, not-or-stopped, verdict-judge, verdict-tried, verdict-shown}
 use Rattle.model.proofs.Questions.{accepted-verdict, accepted-fits, accepted-result, accepted-nodes, accepted-paths, accepted-layout, selected-facts}
 use Rattle.model.proofs.Calls.{verdict-accepted, fits-accepted, result-accepted, nodes-accepted, paths-accepted, layout-accepted, length-counted, verdict-length, layout-length}
 use Rattle.model.proofs.Bytes.{front-none, length-document}
@@ -213,9 +213,8 @@ module _ (c : Case) (f : CaseFacts c) (L : ℕ) where
   -- the trial that "not included" shows is a counter-example of at most 1,009 nodes
   shows : (n : ℕ) (es : List ℕ) → verdict S P Q L ≡ notIncluded n es → CounterExample S P Q (canonical S P es) (ownResult S P es) × (length (canonical S P es) ≤ maxCanonical)
   shows n es e =
-      let k = judge-not-included (passes S P Q) L trials n es (sym (verdict-judge S P Q L) ∙ e) in
-      let m : List·Memᴰ es trials = subst (λ (l : List (List ℕ)). List·Memᴰ es l) (sym (k .0 .split)) (Memᴰ·append-right (k .0 .before) (List·Memᴰ·head refl)) in
-      (failing-trial (f .summary) (f .first) (f .second) m (k .0 .fails), trial-small (f .summary) (f .first) m (f .summarySize) (f .firstSize))
+      let k = verdict-shown S P Q L n es e in
+      (failing-trial (f .summary) (f .first) (f .second) (k .0) (k .1), trial-small (f .summary) (f .first) (k .0) (f .summarySize) (f .firstSize))
 
   accepted-shows : (tally : ℕ) (buffer : List ℕ) → kindOf (verdict S P Q L) ≡ kindNotIncluded → Shown S P Q buffer (verdictAccepted c L tally buffer .buffer)
   unfolding verdictAccepted

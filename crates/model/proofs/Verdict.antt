@@ -4,7 +4,7 @@ use Prim.Native.Nat.{ℕ, zero, suc, _+_, _-_, _≤_, _<_}
 use mathlib.Core.Path.{_≡_, refl, sym, ap, _∙_, subst}
 use mathlib.Core.Bool.{Bool, true, false}
 use mathlib.Core.Logic.{_⊎_, inl, inr, _↔_, ⊎-elim}
-use mathlib.Core.List.{List, [], _∷_, _++_, List·Memᴰ, List·Memᴰ·head, List·Memᴰ·tail, List·Memᴰ·not-nil, List·Memᴰ·cases-cons, Memᴰ·append-left}
+use mathlib.Core.List.{List, [], _∷_, _++_, List·Memᴰ, List·Memᴰ·head, List·Memᴰ·tail, List·Memᴰ·not-nil, List·Memᴰ·cases-cons, Memᴰ·append-left, Memᴰ·append-right}
 use native.Mathlib.Omega.{arith}
 use native.Mathlib.Nat.{zero-add, not-suc-le-zero, le-of-suc-le-suc}
 use lib.ListN.{length, take, drop, take-append-drop, length-append}
@@ -371,3 +371,9 @@ verdict-judge S P Q L = refl
 pub verdict-tried : (S : Summary) (P Q : Pattern) (L : ℕ) → triedOf (verdict S P Q L) ≤ L
 unfolding verdict
 verdict-tried S P Q L = tried-limit (passes S P Q) L (placements S P)
+
+-- the placement that "not included" shows is one of them, and its trial does not pass
+pub verdict-shown : (S : Summary) (P Q : Pattern) (L n : ℕ) (es : List ℕ) → verdict S P Q L ≡ notIncluded n es → List·Memᴰ es (placements S P) × (passes S P Q es ≡ false)
+verdict-shown S P Q L n es e =
+    let k = judge-not-included (passes S P Q) L (placements S P) n es (sym (verdict-judge S P Q L) ∙ e) in
+    (subst (λ (l : List (List ℕ)). List·Memᴰ es l) (sym (k .0 .split)) (Memᴰ·append-right (k .0 .before) (List·Memᴰ·head refl)), k .0 .fails)

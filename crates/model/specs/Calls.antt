@@ -37,6 +37,19 @@ pub record VerdictAnswer : Type 0 where
   pub kind : ℕ
   pub tried : ℕ
 
+-- its number and values in each case: a refusal, included, not included, stopped
+abbrev pub refusedAnswer : ℕ → VerdictAnswer
+refusedAnswer number = record { refused = number; kind = 0; tried = 0 }
+
+abbrev pub includedAnswer : ℕ → VerdictAnswer
+includedAnswer n = record { refused = 0; kind = kindIncluded; tried = n }
+
+abbrev pub notIncludedAnswer : ℕ → VerdictAnswer
+notIncludedAnswer n = record { refused = 0; kind = kindNotIncluded; tried = n }
+
+abbrev pub stoppedAnswer : ℕ → VerdictAnswer
+stoppedAnswer n = record { refused = 0; kind = kindStopped; tried = n }
+
 pub record VerdictOutcome : Type 0 where
   pub answer : VerdictAnswer
   pub buffer : List ℕ
@@ -58,7 +71,7 @@ verdictAccepted c L tally buffer =
     }
 
 unfoldable pub verdictRefused : ℕ → ℕ → List ℕ → VerdictOutcome
-verdictRefused number tally buffer = record { answer = record { refused = number; kind = 0; tried = 0 }; buffer = buffer; tally = tally }
+verdictRefused number tally buffer = record { answer = refusedAnswer number; buffer = buffer; tally = tally }
 
 -- Verdict: case, limit, tally, answer buffer
 unfoldable pub verdictCall : List ℕ → ℕ → ℕ → List ℕ → VerdictOutcome
