@@ -1,1 +1,3 @@
 pub mod ShownLaws
+pub mod VerdictLaws
+pub mod CallLaws

@@ -7,6 +7,8 @@ use Rattle.model.specs.Bytes.{caseOf}
 use Rattle.model.specs.Questions.{verdictRefusal}
 use Rattle.model.specs.Calls.{VerdictAnswer, refusedAnswer, includedAnswer, notIncludedAnswer, stoppedAnswer, VerdictOutcome, verdictCall}
 use Rattle.model.specs.Demands.{Demand3}
+use Rattle.containment.specs.declared.Containment.{Containment}
+use Rattle.containment.specs.declared.Containment.the-variants as run
 use Rattle.deciding.specs.declared.Answer.{Answer}
 use Rattle.deciding.specs.declared.Answer.the-variants.{Refused, Contained, NotContained, Stopped}
 
@@ -25,3 +27,14 @@ outcomeOf answer after total = record { answer = valuesOf answer; buffer = after
 pub record Answered (b : List ℕ) (L tally : ℕ) (before after : List ℕ) (answer : Answer) (total : ℕ) : Type 0 where
   pub outcome : outcomeOf answer after total ≡ verdictCall b L tally before
   pub demand3 : verdictRefusal b L tally (length before) ≡ 0 → Demand3 (caseOf b) L tally before (outcomeOf answer after total)
+
+-- the answer that a verdict over columns is, and its tried
+abbrev pub asAnswer : Containment → Answer
+asAnswer (run.Contained tried) = Contained tried
+asAnswer (run.NotContained tried) = NotContained tried
+asAnswer (run.Stopped tried) = Stopped tried
+
+abbrev pub triedIn : Containment → ℕ
+triedIn (run.Contained tried) = tried
+triedIn (run.NotContained tried) = tried
+triedIn (run.Stopped tried) = tried

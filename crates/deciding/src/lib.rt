@@ -22,7 +22,7 @@ ghost use Rattle.format.specs.Tables.{summaryFrom, patternFrom};
 ghost use Rattle.matching.specs.Outcomes.{holderOf};
 ghost use Rattle.containment.specs.Answer.{caseFrom, CaseLent};
 ghost use Rattle.deciding.specs.Shown.{ownAt, shownTrial, Showable, Told};
-ghost use Rattle.deciding.specs.Outcome.{Answered};
+ghost use Rattle.deciding.specs.Outcome.{asAnswer, triedIn, Answered};
 
 // The answer of the call: refused, with the number; or document 01's verdict with how many were tried: included, not included,
 // stopped.
@@ -145,7 +145,18 @@ fn decide(
         return r;
     };
     show(
-        parents, labels, strongs, n, pparents, plabels, pedges, ppositions, m, k, &images, answer,
+        parents,
+        labels,
+        strongs,
+        n,
+        pparents,
+        plabels,
+        pedges,
+        ppositions,
+        m,
+        k,
+        &images,
+        answer,
     );
     Containment::NotContained(tried)
 }
@@ -207,6 +218,28 @@ fn accepted(case: &[u8], limit: u64, answer: &mut [u8]) -> Containment
     )
 }
 
+// The answer that a verdict is.
+fn answer_of(r: Containment) -> Answer
+    ensures { λ a. ⌜ a ≡ asAnswer r ⌝ }
+{
+    match r {
+        Containment::Contained(tried) => Answer::Contained(tried),
+        Containment::NotContained(tried) => Answer::NotContained(tried),
+        Containment::Stopped(tried) => Answer::Stopped(tried),
+    }
+}
+
+// How many were tried.
+fn tried_of(r: Containment) -> u64
+    ensures { λ n. ⌜ n ≡ triedIn r ⌝ }
+{
+    match r {
+        Containment::Contained(tried) => tried,
+        Containment::NotContained(tried) => tried,
+        Containment::Stopped(tried) => tried,
+    }
+}
+
 // Verdict: any bytes, any numbers and a buffer of any length may be given. A refusal alters nothing; else the tally grows by tried,
 // and "not included" writes what it shows to the front of the answer buffer.
 pub fn verdict_call(case: &[u8], limit: u64, tally: u64, answer: &mut [u8]) -> Decided
@@ -220,18 +253,8 @@ pub fn verdict_call(case: &[u8], limit: u64, tally: u64, answer: &mut [u8]) -> D
         };
     }
     let r = accepted(case, limit, answer);
-    match r {
-        Containment::Contained(tried) => Decided {
-            answer: Answer::Contained(tried),
-            tally: tally + tried,
-        },
-        Containment::NotContained(tried) => Decided {
-            answer: Answer::NotContained(tried),
-            tally: tally + tried,
-        },
-        Containment::Stopped(tried) => Decided {
-            answer: Answer::Stopped(tried),
-            tally: tally + tried,
-        },
+    Decided {
+        answer: answer_of(r),
+        tally: tally + tried_of(r),
     }
 }

@@ -1,70 +1,54 @@
+-- `deciding::verdict_call` meets its contract: it returns before anything is written where a question refuses, and else the verdict
+-- that is told is the model's outcome. Assumes nothing.
+use Prim.Native.Nat.{_≤_}
+use mathlib.Core.Path.{_≡_, sym, _∙_}
+use native.Mathlib.Omega.{arith}
+use denote.Ref.{now}
+use lib.ListN.{length}
 use borrow.Author.Needs.{needs}
+use Rattle.model.specs.Questions.{verdictRefusal}
+use Rattle.model.proofs.Questions.{accepted-verdict}
+use Rattle.deciding.proofs.CallLaws.{answered-refused, tally-fits, answered-accepted}
 use Rattle.deciding.proofs.verdict_call.Statement.{statement}
 use Rattle.deciding.proofs.verdict_call.Tie as tie
-use Rattle.deciding.proofs.verdict_call.Reads as reads
-use Rattle.deciding.proofs.verdict_call.Lts as lts
-use Rattle.deciding.proofs.accepted.Reads as accepted-reads
-use Rattle.questions.proofs.refusals.verdict_refusal.Reads as verdict-refusal-reads
 
--- src/lib.rt:215:9
+abbrev start : tie.After-verdict-refusal → tie.Start
+start c = c .before .before .before
+
+-- no question refuses
+none : (c : tie.Else1)
+    → verdictRefusal (now (start (c .before) .args .case)) (start (c .before) .args .limit) (start (c .before) .args .tally) (length (now (start (c .before) .args .answer))) ≡ 0
+none c = sym (c .before .verdict-refusal .ensures) ∙ c .if1 .left
+
 verdict-refusal-requires : tie.Need-verdict-refusal-requires
 verdict-refusal-requires c κs = search needs
 
--- src/lib.rt:217:9
 returns : tie.Need-returns
-returns c = search needs
+returns c = answered-refused _ _ _ _ (c .before .verdict-refusal .ensures) (c .if1 .taken)
 
--- src/lib.rt:222:9
 accepted-requires : tie.Need-accepted-requires
-accepted-requires c κs = search needs
+accepted-requires c κs =
+    let f = accepted-verdict _ _ _ _ (none (c .before)) in
+    (f .case, f .buffer)
 
--- src/lib.rt:224:32
-enum-known-r : tie.Need-enum-known-r
-enum-known-r c = search needs
+answer-of-requires : tie.Need-answer-of-requires
+answer-of-requires c κs = search needs
 
--- src/lib.rt:226:20
-add-t17 : tie.Need-add-t17
-add-t17 c = search needs
+tried-of-requires : tie.Need-tried-of-requires
+tried-of-requires c κs = search needs
 
--- src/lib.rt:228:35
-enum-known-r-2 : tie.Need-enum-known-r-2
-enum-known-r-2 c = search needs
+add-t14 : tie.Need-add-t14
+add-t14 c =
+    let d = c .before .before .before .before in
+    omega (arith, tally-fits _ _ _ _ (none (d .before .before)) (d .accepted .ensures) (c .tried-of .ensures))
 
--- src/lib.rt:230:20
-add-t19 : tie.Need-add-t19
-add-t19 c = search needs
-
--- src/lib.rt:232:30
-enum-known-r-3 : tie.Need-enum-known-r-3
-enum-known-r-3 c = search needs
-
--- src/lib.rt:234:20
-add-t21 : tie.Need-add-t21
-add-t21 c = search needs
-
--- src/lib.rt:212:1
 same-length : tie.Need-same-length
 same-length c = search needs
 
--- src/lib.rt:212:1
 returns-2 : tie.Need-returns-2
-returns-2 c = search needs
-
--- src/lib.rt:212:1
-same-length-2 : tie.Need-same-length-2
-same-length-2 c = search needs
-
--- src/lib.rt:212:1
-returns-3 : tie.Need-returns-3
-returns-3 c = search needs
-
--- src/lib.rt:212:1
-same-length-3 : tie.Need-same-length-3
-same-length-3 c = search needs
-
--- src/lib.rt:212:1
-returns-4 : tie.Need-returns-4
-returns-4 c = search needs
+returns-2 c =
+    let d = c .before .before .before .before in
+    answered-accepted _ _ _ _ (none (d .before .before)) (d .accepted .ensures) (c .before .answer-of .ensures) (c .tried-of .ensures)
 
 pub verdict-call-spec : {M : Type 1} → statement M
 verdict-call-spec =
@@ -73,15 +57,8 @@ verdict-call-spec =
     verdict-refusal-requires
     returns
     accepted-requires
-    enum-known-r
-    add-t17
-    enum-known-r-2
-    add-t19
-    enum-known-r-3
-    add-t21
+    answer-of-requires
+    tried-of-requires
+    add-t14
     same-length
-    returns-2
-    same-length-2
-    returns-3
-    same-length-3
-    returns-4)
+    returns-2)
