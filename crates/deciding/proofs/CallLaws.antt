@@ -11,7 +11,7 @@ use Rattle.model.specs.Facts.{CaseFacts}
 use Rattle.model.specs.Verdict.{Verdict, included, notIncluded, stopped, triedOf}
 use Rattle.model.specs.Bytes.{Case, caseOf, firstAt}
 use Rattle.model.specs.Questions.{verdictRefusal}
-use Rattle.model.specs.Calls.{VerdictAnswer, refusedAnswer, kindOf, verdictAccepted, verdictCall}
+use Rattle.model.specs.Calls.{refusedAnswer, kindOf, verdictAccepted, verdictCall}
 use Rattle.model.specs.Demands.{Demand3}
 use Rattle.model.proofs.Questions.{AcceptedCase, accepted-verdict}
 use Rattle.model.proofs.Calls.{verdict-refused, verdict-accepted}

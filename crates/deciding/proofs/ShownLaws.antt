@@ -7,10 +7,9 @@ use native.Mathlib.Omega.{arith}
 use lib.ListN.{length, getD, take, length-map}
 use lib.Seq.{ext-getD}
 use Rattle.model.specs.Limits.{maxPattern, maxCanonical}
-use Rattle.model.specs.Lists.{upFrom}
 use Rattle.model.specs.Tree.{Document}
 use Rattle.model.specs.Summary.{Summary}
-use Rattle.model.specs.Pattern.{Pattern, arity, nodeAt, returnNodes}
+use Rattle.model.specs.Pattern.{Pattern, nodeAt, returnNodes}
 use Rattle.model.specs.Embeddings.{imageIn}
 use Rattle.model.specs.Canonical.{canonical, ownNodes, ownResult}
 use Rattle.model.specs.Bytes.{encodeDocument, encodeCounted, writtenAtFront}

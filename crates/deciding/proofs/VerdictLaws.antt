@@ -3,7 +3,7 @@
 use Prim.Native.Nat.{ℕ, _≤_}
 use mathlib.Core.Path.{_≡_, refl, sym, ap, ap₂, _∙_, subst}
 use mathlib.Core.Logic.{inl, inr}
-use mathlib.Core.List.{List, [], _∷_, List·Memᴰ}
+use mathlib.Core.List.{List, [], _∷_}
 use native.Mathlib.Omega.{arith}
 use denote.Enum.Declared.{tagOf}
 use types.Run.{OneOf}
@@ -11,20 +11,17 @@ use lib.ListN.{length, take}
 use Rattle.model.specs.Limits.{minBuffer, maxPosition}
 use Rattle.model.specs.Summary.{Summary}
 use Rattle.model.specs.Pattern.{Pattern, arity, Placement}
-use Rattle.model.specs.Facts.{CaseFacts}
-use Rattle.model.specs.Embeddings.{imageIn, placements}
+use Rattle.model.specs.Embeddings.{imageIn}
 use Rattle.model.specs.Verdict.{Verdict, included, notIncluded, stopped}
 use Rattle.model.specs.Bytes.{Case, writtenAtFront}
 use Rattle.model.specs.Calls.{shown}
 use Rattle.model.proofs.Bytes.{front-none, front-written}
 use Rattle.model.proofs.Decision.{placed}
 use Rattle.model.proofs.Verdict.{verdict-shown}
-use Rattle.format.specs.Tables.{summaryFrom, patternFrom}
 use Rattle.format.proofs.TableLaws.{length-patternFrom}
-use Rattle.canonical.specs.Given.{Placed}
 use Rattle.containment.specs.Answer.{answerOf, shownOf, caseFrom, verdictOf, CaseLent}
 use Rattle.containment.specs.declared.Containment.{Containment}
-use Rattle.containment.specs.declared.Containment.the-variants.{Contained, NotContained, Stopped}
+use Rattle.containment.specs.declared.Containment.the-variants.{NotContained}
 use Rattle.containment.proofs.Containment.{the-type}
 use Rattle.deciding.specs.Shown.{shownTrial, Showable, Told}
 

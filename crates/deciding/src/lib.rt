@@ -141,7 +141,7 @@ fn decide(
         &mut images,
         limit,
     );
-    let Containment::NotContained(tried) = r else {
+    let Containment::NotContained(rank) = r else {
         return r;
     };
     show(
@@ -158,7 +158,7 @@ fn decide(
         &images,
         answer,
     );
-    Containment::NotContained(tried)
+    Containment::NotContained(rank)
 }
 
 // The verdict on an accepted case: its tables are read into columns.

@@ -1,6 +1,5 @@
 -- `deciding::verdict_call` meets its contract: it returns before anything is written where a question refuses, and else the verdict
 -- that is told is the model's outcome. Assumes nothing.
-use Prim.Native.Nat.{_≤_}
 use mathlib.Core.Path.{_≡_, sym, _∙_}
 use native.Mathlib.Omega.{arith}
 use denote.Ref.{now}
