@@ -1,5 +1,5 @@
-// Runs test vectors through the calls, one printed line each; reference/README.md lays out the vectors and the lines. Of a verdict
-// only the refusal is printed. Of an accepted layout the document laid out is tested by two other calls before its line is printed.
+// Runs test vectors through the calls, one printed line each; reference/README.md lays out the vectors and the lines. Of an accepted
+// layout the document laid out is tested by two other calls before its line is printed.
 
 mod check;
 mod print;
@@ -9,8 +9,9 @@ use calls::fits::fits_call;
 use calls::nodes::nodes_call;
 use calls::paths::paths_call;
 use calls::result::result_call;
+use deciding::Answer;
+use deciding::verdict_call;
 use laying::layout_call;
-use questions::refusals::verdict_refusal;
 use read::Head;
 
 // A number of the vector as a length.
@@ -22,10 +23,33 @@ fn wide(n: usize) -> u64 {
     n as u64
 }
 
-fn run_verdict(h: Head, case: &[u8]) {
+fn print_verdict(refused: u64, kind: u64, tried: u64) {
     print::word(b"verdict refused");
-    print::number(verdict_refusal(case, h.limit, h.tally, size(h.length)));
-    print::word(b"\n");
+    print::number(refused);
+    print::word(b" kind");
+    print::number(kind);
+    print::word(b" tried");
+    print::number(tried);
+}
+
+// The number and values of an answer, as document 01 gives them.
+fn print_answer(a: Answer) {
+    match a {
+        Answer::Refused(number) => print_verdict(number, 0, 0),
+        Answer::Contained(tried) => print_verdict(0, 1, tried),
+        Answer::NotContained(tried) => print_verdict(0, 2, tried),
+        Answer::Stopped(tried) => print_verdict(0, 3, tried),
+    }
+}
+
+fn run_verdict(h: Head, case: &[u8], answer: &mut [u8]) {
+    let r = verdict_call(case, h.limit, h.tally, answer);
+    let tally = r.tally;
+    let a = r.answer;
+    print_answer(a);
+    print::word(b" tally");
+    print::number(tally);
+    print::lent(wide(answer.len()), print::hash(answer));
 }
 
 fn run_fits(case: &[u8], document: &[u8]) {
@@ -95,15 +119,25 @@ fn run_layout(
     print::lent(wide(parent.len()), print::hash_table(parent, at, label));
 }
 
+// A call that is lent an answer buffer.
+fn with_buffer(h: Head, case: &[u8], document: &[u8], answer: &mut [u8]) {
+    let call = h.call;
+    if call == 1 {
+        run_verdict(h, case, answer);
+        return;
+    }
+    run_nodes(h, case, document, answer);
+}
+
 // A buffer filled with a pattern is lent. A length beyond the room here is cut to it.
 fn with_answer(h: Head, case: &[u8], document: &[u8]) {
     let mut answer = [170u8; 70000];
     let n = size(h.length);
     if n <= 70000 {
-        run_nodes(h, case, document, &mut answer[..n]);
+        with_buffer(h, case, document, &mut answer[..n]);
         return;
     }
-    run_nodes(h, case, document, &mut answer);
+    with_buffer(h, case, document, &mut answer);
 }
 
 // A table whose fields are filled with the same pattern is lent, in three columns; it is cut likewise.
@@ -130,7 +164,7 @@ fn with_table(h: Head, case: &[u8], list: &[u8]) {
 fn line(h: Head, case: &[u8], document: &[u8], list: &[u8]) {
     let call = h.call;
     if call == 1 {
-        run_verdict(h, case);
+        with_answer(h, case, document);
         return;
     }
     if call == 2 {

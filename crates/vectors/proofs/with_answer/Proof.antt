@@ -6,7 +6,7 @@ use Rattle.vectors.proofs.with_answer.Statement.{statement}
 use Rattle.vectors.proofs.with_answer.Tie as tie
 use Rattle.vectors.proofs.with_answer.Reads as reads
 use Rattle.vectors.proofs.with_answer.Lts as lts
-use Rattle.vectors.proofs.run_nodes.Reads as run-nodes-reads
+use Rattle.vectors.proofs.with_buffer.Reads as with-buffer-reads
 use Rattle.vectors.proofs.size.Reads as size-reads
 
 -- src/main.rt:84:9
@@ -18,24 +18,24 @@ array-borrow-prefix-answer : tie.Need-array-borrow-prefix-answer
 array-borrow-prefix-answer c = search needs
 
 -- src/main.rt:86:38
-slice-aggregate-run-nodes : tie.Need-slice-aggregate-run-nodes
-slice-aggregate-run-nodes c = sym (length-take-le _ _ (omega arith))
+slice-aggregate-with-buffer : tie.Need-slice-aggregate-with-buffer
+slice-aggregate-with-buffer c = sym (length-take-le _ _ (omega arith))
 
 -- src/main.rt:86:9
-run-nodes-requires : tie.Need-run-nodes-requires
-run-nodes-requires c κs = search needs
+with-buffer-requires : tie.Need-with-buffer-requires
+with-buffer-requires c κs = search needs
 
 -- src/main.rt:87:9
 returns : tie.Need-returns
 returns c = search needs
 
 -- src/main.rt:89:34
-slice-aggregate-run-nodes-2 : tie.Need-slice-aggregate-run-nodes-2
-slice-aggregate-run-nodes-2 c = search needs
+slice-aggregate-with-buffer-2 : tie.Need-slice-aggregate-with-buffer-2
+slice-aggregate-with-buffer-2 c = search needs
 
 -- src/main.rt:89:5
-run-nodes-requires-2 : tie.Need-run-nodes-requires-2
-run-nodes-requires-2 c κs = search needs
+with-buffer-requires-2 : tie.Need-with-buffer-requires-2
+with-buffer-requires-2 c κs = search needs
 
 -- src/main.rt:82:1
 returns-2 : tie.Need-returns-2
@@ -47,9 +47,9 @@ with-answer-spec =
     (tie.spec
     size-requires
     array-borrow-prefix-answer
-    slice-aggregate-run-nodes
-    run-nodes-requires
+    slice-aggregate-with-buffer
+    with-buffer-requires
     returns
-    slice-aggregate-run-nodes-2
-    run-nodes-requires-2
+    slice-aggregate-with-buffer-2
+    with-buffer-requires-2
     returns-2)
