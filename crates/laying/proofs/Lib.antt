@@ -1,3 +1,4 @@
-pub mod LaidLaws
-pub mod TableLaws
 pub mod CallLaws
+pub mod LaidLaws
+pub mod RecordLaws
+pub mod TableLaws

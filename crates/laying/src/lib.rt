@@ -1,6 +1,8 @@
 // The call "lay out a trial" over a lent table that stands in three columns: of each record its parent, its summary node and its
 // label.
 
+pub mod laid;
+
 use canonical::lay_out;
 use format::column::read_list;
 use format::tables::read_pattern;

@@ -1,0 +1,57 @@
+-- `laying::laid::records_of` meets its contract: after i turns the first i records stand at the front. The measure is what is left of
+-- count. Assumes nothing.
+use Prim.Native.Nat.{_-_}
+use borrow.Author.Needs.{needs}
+use Rattle.laying.specs.Table.{columns}
+use Rattle.laying.proofs.RecordLaws.{Gathering, gather-start, gather-step, gather-end}
+use Rattle.laying.proofs.laid.records_of.Statement.{statement}
+use Rattle.laying.proofs.laid.records_of.Tie as tie
+
+abbrev Inv-loop : tie.InvT-loop
+Inv-loop parent at label count nodes₀ i₀ nodes i = Gathering (columns parent at label) count nodes i
+
+abbrev μ-loop : tie.MeasureT-loop
+μ-loop parent at label count nodes₀ i₀ nodes i = count - i
+
+blank-nodes-requires : tie.Need-blank-nodes-requires Inv-loop μ-loop
+blank-nodes-requires c κs = search needs
+
+loop-holds : tie.Need-loop-holds Inv-loop μ-loop
+loop-holds c = gather-start (search needs)
+
+record-at-requires : tie.Need-record-at-requires Inv-loop μ-loop
+record-at-requires c κs = search needs
+
+mul-nodes : tie.Need-mul-nodes Inv-loop μ-loop
+mul-nodes c = search needs
+
+array-set-from-nodes : tie.Need-array-set-from-nodes Inv-loop μ-loop
+array-set-from-nodes c = search needs
+
+add-i : tie.Need-add-i Inv-loop μ-loop
+add-i c = search needs
+
+loop-less : tie.Need-loop-less Inv-loop μ-loop
+loop-less c = search needs
+
+loop-again : tie.Need-loop-again Inv-loop μ-loop
+loop-again c = gather-step (c .before .before .loop .inv) (search needs) (c .before .loop-test .taken) (c .record-at .ensures)
+
+returns : tie.Need-returns Inv-loop μ-loop
+returns c = gather-end (c .before .loop .inv) (c .loop-test .left)
+
+pub records-of-spec : {M : Type 1} → statement M
+records-of-spec =
+    tie.close
+    (tie.spec
+    Inv-loop
+    μ-loop
+    blank-nodes-requires
+    loop-holds
+    record-at-requires
+    mul-nodes
+    array-set-from-nodes
+    add-i
+    loop-less
+    loop-again
+    returns)

@@ -1,0 +1,38 @@
+-- The call "lay out a trial" over a lent table of records: the records, and the layout by value.
+use Prim.Native.Nat.{ℕ}
+use mathlib.Core.Path.{_≡_}
+use mathlib.Core.Bool.{true, false}
+use mathlib.Core.List.{List, [], map}
+use lib.Dec.{eqb}
+use lib.ListN.{length, replicate}
+use Rattle.model.specs.Limits.{minTable}
+use Rattle.model.specs.Bytes.{caseOf, writtenAtFront}
+use Rattle.model.specs.Questions.{layoutRefusal}
+use Rattle.model.specs.Calls.{LaidRecord, laidRecord}
+use Rattle.laying.specs.Table.{laidNodes}
+use Rattle.laying.specs.declared.laid.NodeRecord.{NodeRecord}
+use Rattle.laying.specs.declared.laid.LaidOut.{LaidOut}
+
+-- a record of the model as the table holds it, and back
+abbrev pub nodeRecord : LaidRecord → NodeRecord
+nodeRecord r = record { parent = record { 0 = r .parent }; at = record { 0 = r .summaryNode }; label = r .label }
+
+abbrev pub recordOf : NodeRecord → LaidRecord
+recordOf r = record { parent = r .parent .0; summaryNode = r .at .0; label = r .label }
+
+-- an array of 1,024 records in which nothing stands, and one with records at its front
+unfoldable pub blankNodes : List NodeRecord
+blankNodes = replicate minTable (nodeRecord (record { parent = 0; summaryNode = 0; label = 0 }))
+
+unfoldable pub atFront : List LaidRecord → List NodeRecord
+atFront rs = writtenAtFront (map nodeRecord rs) blankNodes
+
+-- the records that are laid out, for a table of n records; a refusal lays out none
+unfoldable pub laidFor : List ℕ → ℕ → List ℕ → ℕ → List LaidRecord
+laidFor b s l n = elim (eqb (layoutRefusal b s l n) 0) [ true ↦ map (laidRecord (caseOf b .summary)) (laidNodes b s l) | false ↦ [] ]
+
+-- the layout by value
+pub record LaidBy (b : List ℕ) (s : ℕ) (l : List ℕ) (n : ℕ) (r : LaidOut) : Type 0 where
+  pub refusal : r .refused ≡ layoutRefusal b s l n
+  pub counted : r .count ≡ length (laidFor b s l n)
+  pub nodes : r .nodes ≡ atFront (laidFor b s l n)
