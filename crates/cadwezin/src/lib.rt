@@ -1,13 +1,76 @@
-// The calls in the forms that document 01 names: over a lent table of node records.
+// The calls, for C and Rust to link: each is exported under its own name. A slice passes as a pointer and a length, a lent struct as a
+// pointer. Any bytes, any numbers and buffers and tables of any length may be given; where a call is refused nothing is altered.
 
-use laying::CountAnswer;
+use calls::answers::CountAnswer;
+use calls::answers::PathsAnswer;
+use calls::answers::TestAnswer;
+use calls::fits::fits_call;
+use calls::nodes::nodes_call;
+use calls::paths::paths_call;
+use calls::result::result_call;
 use laying::laid::NodeRecord;
 use laying::laid::laid_out;
+ghost use mathlib.Core.Path.{_≡_};
+ghost use Rattle.model.specs.Calls.{fitsCall, resultCall, nodesCall, pathsCall};
 ghost use Rattle.cadwezin.specs.Table.{LayoutAnswered};
 
-// Lay out a canonical document: its nodes fill the front of the lent table, the rest is untouched, and the node count is the
-// result. Any bytes, any number and a table of any length may be given. Where the call is refused nothing is altered.
-pub fn layout(case: &[u8], selection: u64, list: &[u8], table: &mut [NodeRecord]) -> CountAnswer
+// Fits: does the document conform to the case's summary?
+#[no_mangle]
+pub extern "C" fn cadwezin_fits(case: &[u8], document: &[u8]) -> TestAnswer
+    ensures { λ r. ⌜ (r .refused ≡ fitsCall (now (case .entry)) (now (document .entry)) .refused)
+        × (r .holds ≡ fitsCall (now (case .entry)) (now (document .entry)) .holds) ⌝ }
+{
+    fits_call(case, document)
+}
+
+// Is the list a result of the pattern that selection names, in the document?
+#[no_mangle]
+pub extern "C" fn cadwezin_result(
+    case: &[u8],
+    selection: u64,
+    document: &[u8],
+    list: &[u8],
+) -> TestAnswer
+    ensures { λ r. ⌜ (r .refused ≡ resultCall (now (case .entry)) selection (now (document .entry)) (now (list .entry)) .refused)
+        × (r .holds ≡ resultCall (now (case .entry)) selection (now (document .entry)) (now (list .entry)) .holds) ⌝ }
+{
+    result_call(case, selection, document, list)
+}
+
+// The nodes at a position in any result, ascending after their count, go to the front of the answer buffer.
+#[no_mangle]
+pub extern "C" fn cadwezin_nodes(
+    case: &[u8],
+    selection: u64,
+    document: &[u8],
+    position: u64,
+    answer: &mut [u8],
+) -> CountAnswer
+    ensures answer { λ r. ⌜ (r .refused ≡ nodesCall (now (case .entry)) selection (now (document .entry)) position (now (answer .entry)) .answer .refused)
+        × (r .count ≡ nodesCall (now (case .entry)) selection (now (document .entry)) position (now (answer .entry)) .answer .count) ⌝ }
+    ensures buffer { λ _. ⌜ now (answer .exit) ≡ nodesCall (now (case .entry)) selection (now (document .entry)) position (now (answer .entry)) .buffer ⌝ }
+{
+    nodes_call(case, selection, document, position, answer)
+}
+
+// The paths of each node of the pattern that selection names.
+#[no_mangle]
+pub extern "C" fn cadwezin_paths(case: &[u8], selection: u64) -> PathsAnswer
+    ensures { λ r. ⌜ (r .refused ≡ pathsCall (now (case .entry)) selection .refused)
+        × (r .masks ≡ pathsCall (now (case .entry)) selection .masks)
+        × (r .counts ≡ pathsCall (now (case .entry)) selection .counts) ⌝ }
+{
+    paths_call(case, selection)
+}
+
+// Lay out a canonical document: its nodes fill the front of the lent table, and the node count is the result.
+#[no_mangle]
+pub extern "C" fn cadwezin_layout(
+    case: &[u8],
+    selection: u64,
+    list: &[u8],
+    table: &mut [NodeRecord],
+) -> CountAnswer
     ensures { λ r. ⌜ LayoutAnswered (now (case .entry)) selection (now (list .entry)) (now (table .entry)) (now (table .exit))
         (r .refused) (r .count) ⌝ }
 {

@@ -1,14 +1,17 @@
 // Node numbers. The nodes of summaries, documents and patterns are numbered independently, and one is never passed off as
 // another: each kind of number has a type of its own, and a column of numbers is read by what it maps to what.
+// The kinds that a lent table holds have C's layout.
 
 ghost use mathlib.Core.Path.{_≡_};
 ghost use Prim.Native.Nat.{_<_};
 ghost use lib.ListN.{length, getD};
 
 // The number of a summary node (document 01: outline node).
+#[repr(C)]
 pub struct SummaryNode(pub usize);
 
 // The number of a document node (document 01: volume node).
+#[repr(C)]
 pub struct DocumentNode(pub usize);
 
 // The number of a pattern node (document 01: selection node).

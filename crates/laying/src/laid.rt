@@ -13,6 +13,7 @@ ghost use Rattle.laying.specs.Table.{columns, recordAt, laidFrom};
 ghost use Rattle.laying.specs.Records.{nodeRecord, blankNodes, atFront, LaidBy};
 
 // A record of the lent table: its parent, its summary node (document 01: outline node) and its label.
+#[repr(C)]
 pub struct NodeRecord {
     pub parent: DocumentNode,
     pub at: SummaryNode,

@@ -1,4 +1,4 @@
--- `cadwezin::layout` meets its contract: a walk of its MIR, by hand. All that it knows of `laid_out` is that it meets its contract.
+-- `cadwezin::cadwezin_layout` meets its contract: a walk of its MIR, by hand. All that it knows of `laid_out` is that it meets its contract.
 -- The case and the list are copied for the call. The array of nodes that comes back is read as a row of elements, the table's borrow is opened, and the loop copies one record a turn (`Proof/Turn.antt`); when it is left, the borrow is closed at the table that is filled, which the model's is (`TableLaws.antt`).
 -- The loop and what runs after it are lemmas of their own (`leave`, `looping`): in one with the rest the checker meets its limit.
 -- Assumes nothing.
@@ -52,13 +52,13 @@ use denote.Exit.{yes}
 use Rattle.laying.specs.Records.{LaidBy}
 use Rattle.laying.specs.declared.laid.NodeRecord.{NodeRecord}
 use Rattle.laying.specs.declared.laid.LaidOut.{LaidOut}
-use Rattle.laying.specs.declared.CountAnswer.{CountAnswer}
+use Rattle.calls.specs.declared.answers.CountAnswer.{CountAnswer}
 use Rattle.laying.proofs.laid.NodeRecord as N
 use Rattle.laying.proofs.laid.NodeRecord.Laws as N′
 use Rattle.laying.proofs.laid.LaidOut as L
 use Rattle.laying.proofs.laid.LaidOut.Laws as L′
-use Rattle.laying.proofs.CountAnswer as A°
-use Rattle.laying.proofs.CountAnswer.Laws as A′
+use Rattle.calls.proofs.answers.CountAnswer as A°
+use Rattle.calls.proofs.answers.CountAnswer.Laws as A′
 use Rattle.laying.proofs.laid.laid_out as called
 use Rattle.laying.proofs.laid.laid_out.Symbol as called-def
 use Rattle.laying.proofs.laid.laid_out.Symbol.{name as #laid-out}
@@ -66,12 +66,12 @@ use Rattle.laying.proofs.laid.laid_out.Met as called-thm
 use Rattle.cadwezin.specs.Table.{LayoutAnswered}
 use Rattle.cadwezin.proofs.Elements.{array-out, array-in}
 use Rattle.cadwezin.proofs.TableLaws.{filled, filled-none, Filling, filled-length, laid-filling, laid-answered}
-use Rattle.cadwezin.proofs.layout.Key.{name as #layout}
-use Rattle.cadwezin.proofs.layout as layout
-use Rattle.cadwezin.proofs.layout.Statement as stated
-use Rattle.cadwezin.proofs.layout.Code as code
-use Rattle.cadwezin.proofs.layout.Code.Mir as text
-use Rattle.cadwezin.proofs.layout.Proof.Turn.{R, bytes, records, Upto, Nearer, Nearer-wf, En, At, turns}
+use Rattle.cadwezin.proofs.cadwezin_layout.Key.{name as #layout}
+use Rattle.cadwezin.proofs.cadwezin_layout as layout
+use Rattle.cadwezin.proofs.cadwezin_layout.Statement as stated
+use Rattle.cadwezin.proofs.cadwezin_layout.Code as code
+use Rattle.cadwezin.proofs.cadwezin_layout.Code.Mir as text
+use Rattle.cadwezin.proofs.cadwezin_layout.Proof.Turn.{R, bytes, records, Upto, Nearer, Nearer-wf, En, At, turns}
 
 abbrev stayed : Stays (layout.ended .signature .params) (layout.ended .kept)
 stayed = (stay-none-slice (0 ∷ []) tt (plain (λ _. u8)) yes, (stay-none (λ _. u64) yes, (stay-none-slice (1 ∷ []) tt (plain (λ _. u8)) yes, (stay-slice (2 ∷ []) tt (plain (λ _. R)), tt))))
@@ -258,9 +258,9 @@ layout-meets 𝓤 H A W at-mem run 𝓣 known =
     walk-meets 𝓤 H A layout.ended stayed W (goes 𝓤 H A W at-mem run) (layout.clauses 𝓤 H A at-mem run)
     (WpFn 𝓤 H (𝓣 .C) (𝓣 .Λ) code.function) (WpFn-mono 𝓤 H (W .laws) 𝓣 code.function) (layout-walks 𝓤 H A W at-mem run 𝓣 (fmOf 𝓤 H (W .laws) 𝓣) known)
 
-pub layout-spec : {M : Type 1} → stated.statement M
+pub cadwezin-layout-spec : {M : Type 1} → stated.statement M
 unfolding code.routine tablesOf
-layout-spec 𝓤 H 𝓜 𝓖 𝓡 =
+cadwezin-layout-spec 𝓤 H 𝓜 𝓖 𝓡 =
     entered 𝓤 H (tripleOf 𝓤 H (𝓖 .A) layout.signature (layout.spec 𝓤 H (𝓖 .A) (𝓜 .mem) (𝓡 .run)))
     (tables 𝓤 H 𝓜 𝓡 code.env .C) (tables 𝓤 H 𝓜 𝓡 code.env .Λ) #layout code.function (code.unfolded 𝓤 H 𝓜 𝓡)
     (layout-meets 𝓤 H (𝓖 .A) (givenOf 𝓤 H 𝓜 𝓖) (𝓜 .mem) (𝓡 .run) (tablesOf 𝓤 H 𝓜 (tables 𝓤 H 𝓜 𝓡 code.env))

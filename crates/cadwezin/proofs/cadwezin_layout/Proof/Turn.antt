@@ -1,4 +1,4 @@
--- A turn of `cadwezin::layout`'s loop: element i of the nodes is copied to element i of the table, and i goes up by one. How the loop is left is a hypothesis, over any postcondition: with the function's own the checker meets its limit.
+-- A turn of `cadwezin::cadwezin_layout`'s loop: element i of the nodes is copied to element i of the table, and i goes up by one. How the loop is left is a hypothesis, over any postcondition: with the function's own the checker meets its limit.
 -- Assumes `Given`.
 use mathlib.Core.Path.{_≡_, refl, sym}
 use Prim.Native.Nat.{ℕ, _+_, _*_, _-_, _≤_, _<_, _^_}
@@ -31,10 +31,10 @@ use Rattle.laying.specs.declared.laid.NodeRecord.{NodeRecord}
 use Rattle.laying.proofs.laid.NodeRecord as N
 use Rattle.laying.proofs.laid.NodeRecord.Laws as N′
 use Rattle.laying.proofs.laid.LaidOut.Laws as L′
-use Rattle.laying.proofs.CountAnswer.Laws as A′
+use Rattle.calls.proofs.answers.CountAnswer.Laws as A′
 use Rattle.cadwezin.proofs.TableLaws.{blank, filled, Filling, filled-length, filled-next}
 use Rattle.cadwezin.proofs.While.{whiles}
-use Rattle.cadwezin.proofs.layout.Code.Mir as text
+use Rattle.cadwezin.proofs.cadwezin_layout.Code.Mir as text
 
 abbrev pub R : RattleType
 R = N.the-row
