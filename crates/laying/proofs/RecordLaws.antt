@@ -12,13 +12,14 @@ use Rattle.model.specs.Lists.{upFrom}
 use Rattle.model.specs.Limits.{minTable, maxCanonical}
 use Rattle.model.specs.Canonical.{canonical}
 use Rattle.model.specs.Bytes.{caseOf, listOf, writtenAtFront}
-use Rattle.model.specs.Questions.{selected, tableLargeEnough, selectionGiven, isPlacement, ask, refusal, caseQuestions, layoutRefusal}
+use Rattle.model.specs.Questions.{selected, tableLargeEnough, patternGiven, isPlacement, ask, refusal, caseQuestions, layoutRefusal}
 use Rattle.model.specs.Calls.{LaidRecord, laidRecord}
 use Rattle.model.proofs.Bytes.{front-none}
 use Rattle.model.proofs.Calls.{by-number}
 use Rattle.model.proofs.Canonical.{canonical-small}
 use Rattle.model.proofs.Questions.{accepted-layout}
 use Rattle.format.proofs.FrontLaws.{fill-none, fill-more}
+use Rattle.format.specs.declared.nodes.SummaryNode.{SummaryNode}
 use Rattle.laying.specs.declared.laid.NodeRecord.{NodeRecord}
 use Rattle.laying.specs.declared.laid.LaidOut.{LaidOut}
 use Rattle.laying.specs.Table.{Columns, recordsOf, recordAt, laidFrom, laidNodes, laidColumns}
@@ -28,8 +29,8 @@ use Rattle.laying.proofs.TableLaws.{noRecord, front-laid}
 
 -- ---- records gathered from the columns
 
-pub record-made : {p a : ℕ} (t : Columns) (i : ℕ) → p ≡ getD (t .parent) i 0 → a ≡ getD (t .at) i 0
-    → _≡_ {A = NodeRecord} (record { parent = record { 0 = p }; at = record { 0 = a }; label = getD (t .label) i 0 }) (nodeRecord (recordAt t i))
+pub record-made : {p : ℕ} {a : SummaryNode} (t : Columns) (i : ℕ) → p ≡ getD (t .parent) i 0 → a .0 ≡ getD (t .at) i 0
+    → _≡_ {A = NodeRecord} (record { parent = record { 0 = p }; at = a; label = getD (t .label) i 0 }) (nodeRecord (recordAt t i))
 record-made t i p a = λ k. record { parent = record { 0 = p k }; at = record { 0 = a k }; label = getD (t .label) i 0 }
 
 pub length-blank : length blankNodes ≡ minTable
@@ -73,7 +74,7 @@ module _ (b : List ℕ) (s : ℕ) (l : List ℕ) where
   by-size : (n : ℕ) → minTable ≤ n → layoutRefusal b s l n ≡ layoutRefusal b s l minTable
   unfolding layoutRefusal tableLargeEnough
   by-size n h =
-      ap (λ (t : Bool). refusal (ask 2 t ∷ caseQuestions b ++ ask 12 (selectionGiven s) ∷ ask 13 (isPlacement (caseOf b) s l) ∷ []))
+      ap (λ (t : Bool). refusal (ask 2 t ∷ caseQuestions b ++ ask 12 (patternGiven s) ∷ ask 13 (isPlacement (caseOf b) s l) ∷ []))
       (le-leb minTable n h ∙ sym (le-leb minTable minTable (omega arith)))
 
   pub accepted-larger : (n : ℕ) → layoutRefusal b s l n ≡ 0 → layoutRefusal b s l minTable ≡ 0

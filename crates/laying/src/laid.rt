@@ -3,6 +3,8 @@
 use crate::lay_accepted;
 use format::nodes::DocumentNode;
 use format::nodes::SummaryNode;
+use format::nodes::number;
+use format::nodes::summary_of;
 use questions::refusals::layout_refusal;
 ghost use mathlib.Core.Path.{_≡_};
 ghost use Prim.Native.Nat.{_<_, _≤_};
@@ -27,21 +29,14 @@ pub struct LaidOut {
     pub nodes: [NodeRecord; 1024],
 }
 
-// A column's entry as a number.
-fn wide(x: u16) -> usize
-    ensures { λ r. ⌜ r ≡ x ⌝ }
-{
-    x as usize
-}
-
 // Record i of a table that stands in columns.
 fn record_at(parent: &[u16], at: &[u16], label: &[u16], i: usize) -> NodeRecord
     requires { ⌜ (i < length (now parent)) × (i < length (now at)) × (i < length (now label)) ⌝ }
     ensures { λ r. ⌜ r ≡ nodeRecord (recordAt (columns (now (parent .entry)) (now (at .entry)) (now (label .entry))) i) ⌝ }
 {
     NodeRecord {
-        parent: DocumentNode(wide(parent[i])),
-        at: SummaryNode(wide(at[i])),
+        parent: DocumentNode(number(parent, i)),
+        at: summary_of(at, DocumentNode(i)),
         label: label[i],
     }
 }
