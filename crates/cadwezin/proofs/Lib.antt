@@ -1,3 +1,4 @@
 pub mod Elements
 pub mod TableLaws
+pub mod VerdictLaws
 pub mod While

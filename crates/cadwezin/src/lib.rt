@@ -8,11 +8,74 @@ use calls::fits::fits_call;
 use calls::nodes::nodes_call;
 use calls::paths::paths_call;
 use calls::result::result_call;
+use deciding::Answer;
+use deciding::verdict_call;
 use laying::laid::NodeRecord;
 use laying::laid::laid_out;
 ghost use mathlib.Core.Path.{_≡_};
+ghost use Rattle.deciding.specs.Outcome.{valuesOf};
 ghost use Rattle.model.specs.Calls.{fitsCall, resultCall, nodesCall, pathsCall};
 ghost use Rattle.cadwezin.specs.Table.{LayoutAnswered};
+ghost use Rattle.cadwezin.specs.Verdict.{numbersOf, VerdictAnswered};
+
+// Counts trials: it grows by tried with each verdict.
+#[repr(C)]
+pub struct Tally {
+    pub count: u64,
+}
+
+// The answer of the verdict call: the refusal's number, or 0; the kind: 1 included, 2 not included, 3 stopped; and tried.
+#[repr(C)]
+pub struct VerdictAnswer {
+    pub refused: u64,
+    pub kind: u64,
+    pub tried: u64,
+}
+
+// An answer's number and values.
+fn values(answer: Answer) -> VerdictAnswer
+    ensures { λ r. ⌜ numbersOf r ≡ valuesOf answer ⌝ }
+{
+    match answer {
+        Answer::Refused(number) => VerdictAnswer {
+            refused: number,
+            kind: 0,
+            tried: 0,
+        },
+        Answer::Contained(tried) => VerdictAnswer {
+            refused: 0,
+            kind: 1,
+            tried,
+        },
+        Answer::NotContained(tried) => VerdictAnswer {
+            refused: 0,
+            kind: 2,
+            tried,
+        },
+        Answer::Stopped(tried) => VerdictAnswer {
+            refused: 0,
+            kind: 3,
+            tried,
+        },
+    }
+}
+
+// Decide whether the first pattern is contained in the second. What "not included" shows goes to the front of the answer buffer, and
+// the tally grows by tried.
+#[no_mangle]
+pub extern "C" fn cadwezin_verdict(
+    case: &[u8],
+    limit: u64,
+    tally: &mut Tally,
+    answer: &mut [u8],
+) -> VerdictAnswer
+    ensures { λ r. ⌜ VerdictAnswered (now (case .entry)) limit (now (tally .entry)) (now (answer .entry)) (now (answer .exit)) r
+        (now (tally .exit)) ⌝ }
+{
+    let r = verdict_call(case, limit, tally.count, answer);
+    tally.count = r.tally;
+    values(r.answer)
+}
 
 // Fits: does the document conform to the case's summary?
 #[no_mangle]
