@@ -5,6 +5,18 @@
 use std::io::{Read, Write};
 
 #[repr(C)]
+struct Tally {
+    count: u64,
+}
+
+#[repr(C)]
+struct VerdictAnswer {
+    refused: u64,
+    kind: u64,
+    tried: u64,
+}
+
+#[repr(C)]
 struct TestAnswer {
     refused: u64,
     holds: u64,
@@ -32,6 +44,14 @@ struct NodeRecord {
 }
 
 extern "C" {
+    fn cadwezin_verdict(
+        case: *const u8,
+        case_len: usize,
+        limit: u64,
+        tally: *mut Tally,
+        answer: *mut u8,
+        answer_len: usize,
+    ) -> VerdictAnswer;
     fn cadwezin_fits(case: *const u8, case_len: usize, document: *const u8, document_len: usize) -> TestAnswer;
     fn cadwezin_result(
         case: *const u8,
@@ -66,6 +86,8 @@ extern "C" {
 
 struct Vector {
     call: u64,
+    limit: u64,
+    tally: u64,
     selection: u64,
     position: u64,
     length: usize,
@@ -88,11 +110,10 @@ fn part(rest: &mut &[u8]) -> Vec<u8> {
 }
 
 fn vector(rest: &mut &[u8]) -> Vector {
-    let call = number(rest, 4);
-    let _limit = number(rest, 8);
-    let _tally = number(rest, 8);
     Vector {
-        call,
+        call: number(rest, 4),
+        limit: number(rest, 8),
+        tally: number(rest, 8),
         selection: number(rest, 8),
         position: number(rest, 8),
         length: number(rest, 8) as usize,
@@ -108,6 +129,19 @@ fn hash(bytes: impl Iterator<Item = u8>) -> u64 {
 
 fn joined(numbers: &[u64]) -> String {
     numbers.iter().map(u64::to_string).collect::<Vec<_>>().join(" ")
+}
+
+fn verdict(v: &Vector) -> String {
+    let mut tally = Tally { count: v.tally };
+    let mut answer = vec![0xAA; v.length];
+    let r = unsafe {
+        cadwezin_verdict(v.case.as_ptr(), v.case.len(), v.limit, &mut tally, answer.as_mut_ptr(), answer.len())
+    };
+    let h = hash(answer.into_iter());
+    format!(
+        "verdict refused {} kind {} tried {} tally {} length {} hash {h:016x}",
+        r.refused, r.kind, r.tried, tally.count, v.length
+    )
 }
 
 fn fits(v: &Vector) -> String {
@@ -180,12 +214,13 @@ fn main() {
     while !rest.is_empty() {
         let v = vector(&mut rest);
         let line = match v.call {
+            1 => verdict(&v),
             2 => fits(&v),
             3 => result(&v),
             4 => nodes(&v),
             5 => paths(&v),
             6 => layout(&v),
-            _ => continue,
+            call => panic!("call {call}"),
         };
         writeln!(out, "{line}").expect("standard output");
     }
