@@ -27,7 +27,7 @@ fn one(prng: &mut Prng, index: usize) -> Vector {
     };
     plan.call = VERDICT;
     plan.length = 4_096 + prng.below(3) as u64;
-    plan.tally = [0, prng.next() % 999_000_000_000, 999_999_000_000][prng.below(3)];
+    plan.tally = [0, prng.draw() % 999_000_000_000, 999_999_000_000][prng.below(3)];
     plan.limit = limit(prng, &plan);
     plan.vector()
 }
@@ -41,7 +41,7 @@ fn limit(prng: &mut Prng, plan: &Plan) -> u64 {
         0 => got.tried.max(1),
         1 => got.tried.saturating_sub(1).max(1),
         2 => (got.tried + 1).min(TRIALS_MOST),
-        3 => 1 + prng.next() % TRIALS_MOST,
+        3 => 1 + prng.draw() % TRIALS_MOST,
         _ if got.kind != STOPPED => 1_000_000,
         _ => TRIALS_MOST,
     }

@@ -17,4 +17,5 @@ mod trees;
 pub use boundaries::boundaries;
 pub use cases::cases;
 pub use layouts::layouts;
+pub use prng::Prng;
 pub use random::random;

@@ -26,7 +26,7 @@ fn one(prng: &mut Prng, changes: &[Change]) -> Vector {
     plan.volume = volume(prng, &plan);
     plan.result = result(prng, &plan);
     plan.placement = placement(prng, &plan);
-    plan.tally = [0, prng.next() % 1_000_000, prng.next() % 999_999_000_000][prng.below(3)];
+    plan.tally = [0, prng.draw() % 1_000_000, prng.draw() % 999_999_000_000][prng.below(3)];
     if call == VERDICT {
         plan.limit = limit(prng, &plan);
     }
@@ -209,8 +209,8 @@ fn limit(prng: &mut Prng, plan: &Plan) -> u64 {
     let got = crate::verdict(&plan.case_bytes(), TRIALS_MOST, &mut 0, &mut answer);
     let around = [got.tried, got.tried.saturating_sub(1).max(1), got.tried + 1][prng.below(3)];
     match prng.below(4) {
-        0 => 1 + prng.next() % 10,
-        1 => 1 + prng.next() % TRIALS_MOST,
+        0 => 1 + prng.draw() % 10,
+        1 => 1 + prng.draw() % TRIALS_MOST,
         2 => around.clamp(1, TRIALS_MOST),
         _ if got.kind != crate::calls::STOPPED => 1_000_000,
         _ => TRIALS_MOST,
@@ -232,7 +232,7 @@ fn spoil_bytes(prng: &mut Prng, vector: &mut Vector) {
     };
     for _ in 0..prng.between(1, 2) {
         let at = prng.below(bytes.len());
-        let value = [0, 1, 2, 255, prng.next() as u8][prng.below(5)];
+        let value = [0, 1, 2, 255, prng.draw() as u8][prng.below(5)];
         match prng.below(6) {
             0 => bytes.insert(at, value),
             1 if !bytes.is_empty() => drop(bytes.remove(at)),

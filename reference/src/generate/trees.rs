@@ -106,7 +106,7 @@ fn drawn_label(prng: &mut Prng, outline: &[OutlineRow], place: usize, freedom: F
     if prng.percent(freedom.any_label) {
         0
     } else if prng.percent(freedom.stray) {
-        [outline[prng.below(outline.len())][1], prng.next() as u16][prng.below(2)]
+        [outline[prng.below(outline.len())][1], prng.draw() as u16][prng.below(2)]
     } else {
         outline[place][1]
     }
