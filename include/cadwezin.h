@@ -1,0 +1,141 @@
+/* Tree pattern containment under a path summary: the six calls of the proved library, for C99 and C++ on x86-64.
+ *
+ * Link with libcadwezin.a, which `rt staticlib cadwezin` writes to target/staticlib/. It needs memcpy and memset and nothing else.
+ *
+ * Bytes. Every field is 16 bits, low byte first. A section is a count and as many records. A case is three sections: the summary
+ * (document 01: outline), records (parent, label, strong 0 or 1); the first pattern (document 01: selection) and the second, records
+ * (parent, label or 0 for any, edge 0 child or 1 descendant, position or 0). A document (document 01: volume) is one section, records
+ * (parent, label). A list is bare fields with no count. Record 0 is the root, with parent 0; any other parent number is below its
+ * record's own.
+ *
+ * Any bytes, any numbers and buffers and tables of any length may be given. Each call asks its questions in the order that its
+ * paragraph gives, and the first one answered no refuses the call:
+ *
+ *    1  Is the limit 1 to 1,000,000?
+ *    2  Has the answer buffer 4,096 bytes or more, or the table 1,024 records or more?
+ *    3  Has the case at most 65,536 bytes, every count and announced record whole, and nothing after?
+ *    4  Are the counts 1 to 64, 1 to 16 and 1 to 16?
+ *    5  Do all summary records keep the rules for parent, label (not 0) and strong (0 on the root)?
+ *    6  Do siblings in the summary have different labels?
+ *    7  Do all records of both patterns keep the rules for parent and edge (0 on the root), with positions at most 8?
+ *    8  Has each pattern the positions 1 to k once each, k at least 1, the same k in both?
+ *    9  Is the tally plus the limit at most 1,000,000,000,000?
+ *   10  Is the document whole, nothing after, with 1 to 1,024 nodes, parents by the rule and labels not 0?
+ *   11  Is the list k fields, each below the document's count?
+ *   12  Is the selection 1 or 2 and, where given, the position 1 to k?
+ *   13  Is the list a placement of that pattern?
+ *
+ * A refusal holds the question's number in `refused` and zero in every other field, and alters no lent byte, record or tally. Where a
+ * call is accepted `refused` is 0, and what lies after what it writes keeps its contents.
+ *
+ * Pointers. A slice is a pointer and a length, of bytes or of records; the pointer is to as many that may be read, or written where it
+ * is not const. With length 0 nothing is read or written, and the pointer may be null. The tally and, with a length that is not 0,
+ * the table must be there and aligned as their types ask. What a call writes (tally, answer, table) must not overlap anything else
+ * that the call is given. No pointer is kept, there is no state between calls, and nothing is allocated: several threads may call at
+ * once, each with what it lends to be written for itself. A call takes at most 128 KiB of stack. */
+#ifndef CADWEZIN_H
+#define CADWEZIN_H
+
+#include <stddef.h>
+#include <stdint.h>
+
+#if !defined(__x86_64__) || defined(__ILP32__)
+#error "cadwezin: the library is for x86-64 with 64-bit pointers"
+#endif
+
+#ifdef __cplusplus
+extern "C" {
+#endif
+
+#define CADWEZIN_ANSWER_BYTES 4096                     /* the least length of an answer buffer */
+#define CADWEZIN_TABLE_RECORDS 1024                    /* the least length of a table */
+#define CADWEZIN_LIMIT_MOST UINT64_C(1000000)          /* the greatest limit */
+#define CADWEZIN_TALLY_MOST UINT64_C(1000000000000)    /* what tally and limit may come to */
+#define CADWEZIN_CASE_BYTES_MOST 65536                 /* the greatest length of a case */
+#define CADWEZIN_DOCUMENT_NODES_MOST 1024              /* the greatest count of a document */
+#define CADWEZIN_PATTERN_NODES_MOST 16                 /* the greatest count of a pattern */
+
+/* The kind of a verdict. A refused one has kind 0. */
+#define CADWEZIN_CONTAINED UINT64_C(1)     /* document 01: included */
+#define CADWEZIN_NOT_CONTAINED UINT64_C(2) /* document 01: not included */
+#define CADWEZIN_STOPPED UINT64_C(3)
+
+/* How many canonical documents (document 01: trials) were tried, over all verdicts since it was set. */
+struct cadwezin_tally {
+  uint64_t count;
+};
+
+struct cadwezin_verdict_answer {
+  uint64_t refused;
+  uint64_t kind;
+  uint64_t tried;
+};
+
+/* holds is 1 for yes, 0 for no. */
+struct cadwezin_test_answer {
+  uint64_t refused;
+  uint64_t holds;
+};
+
+struct cadwezin_count_answer {
+  uint64_t refused;
+  uint64_t count;
+};
+
+/* For pattern node q, bit i of masks[q] says whether it takes summary node i in some placement; counts[q] is how many it takes.
+ * Entries past the pattern's last node are 0. */
+struct cadwezin_paths_answer {
+  uint64_t refused;
+  uint64_t masks[CADWEZIN_PATTERN_NODES_MOST];
+  uint64_t counts[CADWEZIN_PATTERN_NODES_MOST];
+};
+
+/* A node of a laid-out document: the number of its parent in the document (0 for the root), the number in the summary of the node on
+ * whose path it is, and its label. */
+struct cadwezin_node_record {
+  size_t parent;
+  size_t at;
+  uint16_t label;
+};
+
+/* Verdict: is the first pattern contained in the second, in every document that conforms to the summary? Takes a case, a limit on the
+ * canonical documents tried, a tally and an answer buffer. Questions 1 to 9. Answers CADWEZIN_CONTAINED (all pass; tried is how many
+ * there are, or 0 where there are none), CADWEZIN_NOT_CONTAINED (one of the first `limit` does not pass; tried is the earliest one's
+ * rank, from 1) or CADWEZIN_STOPPED (the first `limit` all pass and there are more; tried is the limit). Adds tried to the tally.
+ * CADWEZIN_NOT_CONTAINED writes to the front of the answer buffer: the section of the document that does not pass, then a count k and
+ * the k document nodes that are a result of the first pattern and none of the second. The other two write nothing there. */
+struct cadwezin_verdict_answer cadwezin_verdict(const uint8_t *case_bytes, size_t case_length, uint64_t limit,
+                                                struct cadwezin_tally *tally, uint8_t *answer, size_t answer_length);
+
+/* Fits: does the document conform to the case's summary? Takes a case and a document. Questions 3 to 8, 10. Answers holds. Writes
+ * nothing. */
+struct cadwezin_test_answer cadwezin_fits(const uint8_t *case_bytes, size_t case_length, const uint8_t *document,
+                                          size_t document_length);
+
+/* Is it a result: does some embedding of the pattern into the document take the positions 1 to k to the nodes of the list? Takes a
+ * case, a selection (1 the first pattern, 2 the second), a document, which need not conform to the summary, and a list of document
+ * nodes. Questions 3 to 8, 10, 12, 11, in this order. Answers holds. Writes nothing. */
+struct cadwezin_test_answer cadwezin_result(const uint8_t *case_bytes, size_t case_length, uint64_t selection,
+                                            const uint8_t *document, size_t document_length, const uint8_t *list, size_t list_length);
+
+/* Nodes at a position: which document nodes does the position have in any result? Takes a case, a selection, a document, which need
+ * not conform to the summary, a position and an answer buffer. Questions 2 to 8, 10, 12. Answers how many there are, and writes their
+ * count and their numbers, ascending, to the front of the answer buffer; where there are none, the count 0. */
+struct cadwezin_count_answer cadwezin_nodes(const uint8_t *case_bytes, size_t case_length, uint64_t selection, const uint8_t *document,
+                                            size_t document_length, uint64_t position, uint8_t *answer, size_t answer_length);
+
+/* Paths of each node: which summary nodes does each pattern node take in some placement? Takes a case and a selection. Questions 3 to
+ * 8, 12. Answers masks and counts. Writes nothing. */
+struct cadwezin_paths_answer cadwezin_paths(const uint8_t *case_bytes, size_t case_length, uint64_t selection);
+
+/* Lay out a canonical document. Takes a case, a selection, a placement, which is a list of summary nodes, one for each pattern node,
+ * and a table. Questions 2 to 8, 12, 13. Answers how many nodes the document has, at most 946, and writes their records to the front
+ * of the table. */
+struct cadwezin_count_answer cadwezin_layout(const uint8_t *case_bytes, size_t case_length, uint64_t selection, const uint8_t *list,
+                                             size_t list_length, struct cadwezin_node_record *table, size_t table_length);
+
+#ifdef __cplusplus
+}
+#endif
+
+#endif

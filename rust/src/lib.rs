@@ -1,0 +1,120 @@
+//! Tree pattern containment under a path summary, decided by a library whose every function is proved.
+//!
+//! A *case* is bytes that hold a summary and two patterns, a *document* and a *list* are bytes too;
+//! `docs/ARCHITECTURE.md` names the format. Each function takes any bytes, any numbers and buffers of
+//! any length, and answers or refuses; a refusal alters nothing that was lent.
+//!
+//! ```
+//! use cadwezin::{verdict, Shown, Tally, Verdict, ANSWER_BYTES, LIMIT_MOST};
+//!
+//! // Summary r(a(b)); first pattern r//*, second r/*, each with position 1 at the star.
+//! let fields: [u16; 28] = [
+//!     3, 0, 1, 0, 0, 2, 0, 1, 3, 0, //
+//!     2, 0, 1, 0, 0, 0, 0, 1, 1, //
+//!     2, 0, 1, 0, 0, 0, 0, 0, 1,
+//! ];
+//! let case: Vec<u8> = fields.iter().flat_map(|field| field.to_le_bytes()).collect();
+//! let (mut tally, mut answer) = (Tally::default(), [0; ANSWER_BYTES]);
+//!
+//! let judged = verdict(&case, LIMIT_MOST, &mut tally, &mut answer);
+//! assert_eq!(judged, Ok(Verdict::NotContained { tried: 2 }));
+//! assert_eq!(tally.count, 2);
+//! let shown = Shown::read(&answer).expect("a document is shown");
+//! assert_eq!((shown.document.len(), shown.result[0].0), (3, 2));
+//! ```
+
+#![deny(unsafe_op_in_unsafe_fn)]
+#![deny(unsafe_code)]
+#![warn(missing_docs)]
+
+mod answers;
+#[allow(unsafe_code, missing_docs)]
+pub mod ffi;
+mod nodes;
+mod shown;
+
+pub use answers::{Paths, Pattern, Refusal, Tally, Verdict};
+pub use nodes::{DocumentNode, NodeRecord, PatternNode, SummaryNode};
+pub use shown::{nodes_shown, Shown, ShownNode};
+
+/// The least length of an answer buffer.
+pub const ANSWER_BYTES: usize = 4_096;
+/// The least length of a lent table.
+pub const TABLE_RECORDS: usize = 1_024;
+/// The greatest limit of a verdict.
+pub const LIMIT_MOST: u64 = 1_000_000;
+/// What a tally and a limit may come to.
+pub const TALLY_MOST: u64 = 1_000_000_000_000;
+
+/// Is the first pattern contained in the second: in every document that conforms to the summary, is
+/// each result of the first a result of the second? Canonical documents are tried in order, at most
+/// `limit` of them. The tally grows by how many were tried. Where the answer is
+/// [`Verdict::NotContained`], a document and a result of the first pattern that is none of the second
+/// are written to the front of `answer`, for [`Shown::read`]. Questions 1 to 9.
+pub fn verdict(
+    case: &[u8],
+    limit: u64,
+    tally: &mut Tally,
+    answer: &mut [u8],
+) -> Result<Verdict, Refusal> {
+    let got = ffi::verdict(case, limit, tally, answer);
+    let tried = got.tried;
+    Refusal::or(got.refused, || match got.kind {
+        ffi::CONTAINED => Verdict::Contained { tried },
+        ffi::NOT_CONTAINED => Verdict::NotContained { tried },
+        _ => Verdict::Stopped { tried },
+    })
+}
+
+/// Does the document conform to the case's summary? Questions 3 to 8, 10.
+pub fn fits(case: &[u8], document: &[u8]) -> Result<bool, Refusal> {
+    let got = ffi::fits(case, document);
+    Refusal::or(got.refused, || got.holds == 1)
+}
+
+/// Is the list of document nodes, one for each position, a result of the pattern? Questions 3 to 8,
+/// 10, 12, 11.
+pub fn is_result(
+    case: &[u8],
+    pattern: Pattern,
+    document: &[u8],
+    list: &[u8],
+) -> Result<bool, Refusal> {
+    let got = ffi::is_result(case, pattern.number(), document, list);
+    Refusal::or(got.refused, || got.holds == 1)
+}
+
+/// How many document nodes hold the position in some result of the pattern. They are written,
+/// ascending after their count, to the front of `answer`, for [`nodes_shown`]. Questions 2 to 8, 10, 12.
+pub fn nodes_at(
+    case: &[u8],
+    pattern: Pattern,
+    document: &[u8],
+    position: u64,
+    answer: &mut [u8],
+) -> Result<u64, Refusal> {
+    let got = ffi::nodes_at(case, pattern.number(), document, position, answer);
+    Refusal::or(got.refused, || got.count)
+}
+
+/// The paths that each node of the pattern takes in some placement. Questions 3 to 8, 12.
+pub fn paths(case: &[u8], pattern: Pattern) -> Result<Paths, Refusal> {
+    let got = ffi::paths(case, pattern.number());
+    Refusal::or(got.refused, || Paths {
+        masks: got.masks,
+        counts: got.counts,
+    })
+}
+
+/// Lays out the canonical document of a placement of the pattern: its nodes fill the front of `table`,
+/// and their count is the answer. The list holds one summary node for each pattern node. Questions 2 to
+/// 8, 12, 13.
+pub fn layout(
+    case: &[u8],
+    pattern: Pattern,
+    list: &[u8],
+    table: &mut [NodeRecord],
+) -> Result<u64, Refusal> {
+    let got = ffi::layout(case, pattern.number(), list, table);
+    Refusal::or(got.refused, || got.count)
+}

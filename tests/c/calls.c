@@ -1,0 +1,126 @@
+/* The six calls from C, by include/cadwezin.h: E6 and E10 of document 01, empty slices with a null pointer, and refusals, which alter
+ * nothing. Prints how many answers were as they should be. */
+#include "cadwezin.h"
+#include <stdio.h>
+#include <stdlib.h>
+#include <string.h>
+
+#define FILLING 0xAA
+#define COUNT(array) (sizeof(array) / sizeof((array)[0]))
+
+/* E6: summary r(a(b)); first r//0, second r/0, each with position 1 at the node of any label. The document is r(a(b)). */
+static const uint8_t e6[] = {3, 0, 0, 0, 1, 0, 0, 0, 0, 0, 2, 0, 0, 0, 1, 0, 3, 0, 0, 0, /* summary */
+                             2, 0, 0, 0, 1, 0, 0, 0, 0, 0, 0, 0, 0, 0, 1, 0, 1, 0,       /* first */
+                             2, 0, 0, 0, 1, 0, 0, 0, 0, 0, 0, 0, 0, 0, 0, 0, 1, 0};      /* second */
+static const uint8_t document[] = {3, 0, 0, 0, 1, 0, 0, 0, 2, 0, 1, 0, 3, 0};
+static const uint8_t node_2[] = {2, 0};
+static const uint8_t placement[] = {0, 0, 2, 0};
+
+static uint8_t answer[CADWEZIN_ANSWER_BYTES + 1];
+static struct cadwezin_node_record table[CADWEZIN_TABLE_RECORDS + 1];
+static struct cadwezin_tally tally;
+static unsigned held;
+
+static void hold(int right, const char *what) {
+  if (!right) {
+    fprintf(stderr, "calls: %s: not as it should be\n", what);
+    exit(1);
+  }
+  held++;
+}
+
+static void fill(void) {
+  memset(answer, FILLING, sizeof answer);
+  memset(table, FILLING, sizeof table);
+  tally.count = 7;
+}
+
+/* Whether everything lent is as fill left it, from these bytes and records on. */
+static int untouched(size_t bytes, size_t records, uint64_t count) {
+  const uint8_t *rest = (const uint8_t *)(table + records);
+  int same = tally.count == count;
+  for (size_t i = bytes; i < sizeof answer; i++) {
+    same = same && answer[i] == FILLING;
+  }
+  for (size_t i = 0; i < sizeof table - records * sizeof table[0]; i++) {
+    same = same && rest[i] == FILLING;
+  }
+  return same;
+}
+
+static void judged(uint64_t limit, uint64_t kind, uint64_t tried, const uint8_t *shown, size_t length) {
+  fill();
+  const struct cadwezin_verdict_answer got = cadwezin_verdict(e6, sizeof e6, limit, &tally, answer, sizeof answer);
+  hold(got.refused == 0 && got.kind == kind && got.tried == tried, "a verdict");
+  hold(length == 0 || memcmp(answer, shown, length) == 0, "what a verdict shows");
+  hold(untouched(length, 0, 7 + tried), "what a verdict leaves alone");
+}
+
+static void accepted(void) {
+  static const uint8_t shown[] = {3, 0, 0, 0, 1, 0, 0, 0, 2, 0, 1, 0, 3, 0, 1, 0, 2, 0};
+  static const uint8_t nodes[] = {2, 0, 1, 0, 2, 0};
+  static const struct cadwezin_node_record laid[] = {{0, 0, 1}, {0, 1, 2}, {1, 2, 3}};
+  judged(1, CADWEZIN_STOPPED, 1, NULL, 0);
+  judged(CADWEZIN_LIMIT_MOST, CADWEZIN_NOT_CONTAINED, 2, shown, sizeof shown);
+  fill();
+  const struct cadwezin_test_answer fits = cadwezin_fits(e6, sizeof e6, document, sizeof document);
+  hold(fits.refused == 0 && fits.holds == 1, "fits");
+  for (uint64_t selection = 1; selection <= 2; selection++) {
+    const struct cadwezin_test_answer result =
+        cadwezin_result(e6, sizeof e6, selection, document, sizeof document, node_2, sizeof node_2);
+    hold(result.refused == 0 && result.holds == (selection == 1), "is it a result");
+  }
+  const struct cadwezin_paths_answer paths = cadwezin_paths(e6, sizeof e6, 1);
+  hold(paths.refused == 0 && paths.masks[0] == 1 && paths.masks[1] == 6 && paths.masks[2] == 0, "masks");
+  hold(paths.counts[0] == 1 && paths.counts[1] == 2 && paths.counts[15] == 0, "counts");
+  hold(untouched(0, 0, 7), "what three calls leave alone");
+  const struct cadwezin_count_answer found =
+      cadwezin_nodes(e6, sizeof e6, 1, document, sizeof document, 1, answer, sizeof answer);
+  hold(found.refused == 0 && found.count == 2 && memcmp(answer, nodes, sizeof nodes) == 0, "nodes at a position");
+  hold(untouched(sizeof nodes, 0, 7), "what nodes at a position leaves alone");
+  fill();
+  const struct cadwezin_count_answer count = cadwezin_layout(e6, sizeof e6, 1, placement, sizeof placement, table, COUNT(table));
+  hold(count.refused == 0 && count.count == COUNT(laid), "a layout");
+  for (size_t i = 0; i < COUNT(laid); i++) {
+    hold(table[i].parent == laid[i].parent && table[i].at == laid[i].at && table[i].label == laid[i].label, "a node laid out");
+  }
+  hold(untouched(0, COUNT(laid), 7), "what a layout leaves alone");
+}
+
+/* Each call with empty slices that have no address, then with only its last slice so. */
+static void empty(void) {
+  fill();
+  struct cadwezin_verdict_answer verdict = cadwezin_verdict(NULL, 0, 1, &tally, answer, sizeof answer);
+  hold(verdict.refused == 3 && verdict.kind == 0 && verdict.tried == 0, "a verdict on nothing");
+  verdict = cadwezin_verdict(e6, sizeof e6, 1, &tally, NULL, 0);
+  hold(verdict.refused == 2 && verdict.kind == 0 && verdict.tried == 0, "a verdict without a buffer");
+  struct cadwezin_test_answer test = cadwezin_fits(NULL, 0, NULL, 0);
+  hold(test.refused == 3 && test.holds == 0, "fits of nothing");
+  test = cadwezin_fits(e6, sizeof e6, NULL, 0);
+  hold(test.refused == 10 && test.holds == 0, "fits of no document");
+  test = cadwezin_result(NULL, 0, 1, NULL, 0, NULL, 0);
+  hold(test.refused == 3 && test.holds == 0, "a result of nothing");
+  test = cadwezin_result(e6, sizeof e6, 1, document, sizeof document, NULL, 0);
+  hold(test.refused == 11 && test.holds == 0, "no result");
+  struct cadwezin_count_answer count = cadwezin_nodes(NULL, 0, 1, NULL, 0, 1, NULL, 0);
+  hold(count.refused == 2 && count.count == 0, "nodes of nothing");
+  count = cadwezin_nodes(e6, sizeof e6, 1, NULL, 0, 1, answer, sizeof answer);
+  hold(count.refused == 10 && count.count == 0, "nodes of no document");
+  count = cadwezin_layout(NULL, 0, 1, NULL, 0, NULL, 0);
+  hold(count.refused == 2 && count.count == 0, "a layout of nothing");
+  count = cadwezin_layout(e6, sizeof e6, 1, NULL, 0, table, COUNT(table));
+  hold(count.refused == 13 && count.count == 0, "a layout of no placement");
+  const struct cadwezin_paths_answer paths = cadwezin_paths(NULL, 0, 1);
+  hold(paths.refused == 3, "paths of nothing");
+  for (size_t i = 0; i < CADWEZIN_PATTERN_NODES_MOST; i++) {
+    hold(paths.masks[i] == 0 && paths.counts[i] == 0, "paths of a refusal");
+  }
+  hold(untouched(0, 0, 7), "what refusals leave alone");
+}
+
+int main(void) {
+  accepted();
+  empty();
+  printf("calls: %u answers from C as they should be\n", held);
+  return 0;
+}
