@@ -1,0 +1,405 @@
+//! `bench [ROUNDS]`: the library and the reference, timed on the same calls in the same run; prints a
+//! table in Markdown. Each time is the least of ROUNDS (default 15), the two taking turns; a round
+//! repeats the call for 4 ms at least.
+
+#![forbid(unsafe_code)]
+
+use cadwezin::{ffi, NodeRecord, Tally};
+use differential::compare::compare;
+use differential::lent::Loans;
+use reference::generate::{cases, layouts, random};
+use reference::vectors::{Vector, FITS, IS_RESULT, LAYOUT, NODES_AT, PATHS, VERDICT};
+use std::hint::black_box;
+use std::process::ExitCode;
+use std::time::{Duration, Instant};
+
+const ROUND: Duration = Duration::from_millis(4);
+
+fn main() -> ExitCode {
+    let word = std::env::args().nth(1);
+    let rounds = word.map_or(Some(15), |word| word.parse::<u32>().ok());
+    let Some(rounds) = rounds.filter(|&rounds| rounds > 0) else {
+        eprintln!("usage: bench [ROUNDS]");
+        return ExitCode::from(2);
+    };
+    println!("| call | input | library | reference | ratio |");
+    println!("|---|---|---:|---:|---:|");
+    for row in rows() {
+        if let Err(difference) = row.compared() {
+            eprintln!("bench: {}: {difference}", row.input);
+            return ExitCode::FAILURE;
+        }
+        let (ours, theirs) = row.timed(rounds);
+        println!(
+            "| {} | {} | {} | {} | {:.1} |",
+            row.call,
+            row.input,
+            written(ours),
+            written(theirs),
+            theirs / ours
+        );
+    }
+    println!();
+    println!("Each time is one call's mean in the best of {rounds} rounds, library and reference taking turns. Buffers and tables are allocated once and lent again as the last call left them; nothing is cleared beforehand, no cache either.");
+    ExitCode::SUCCESS
+}
+
+/// Seconds, in a unit that leaves few digits.
+fn written(seconds: f64) -> String {
+    let units = [(1.0, "s"), (1e-3, "ms"), (1e-6, "µs"), (1e-9, "ns")];
+    let fitting = units.iter().find(|(unit, _)| seconds >= *unit);
+    let (unit, name) = fitting.unwrap_or(&units[3]);
+    let number = seconds / unit;
+    let digits = if number < 10.0 { 1 } else { 0 };
+    format!("{number:.digits$} {name}")
+}
+
+/// One row of the table: calls that are timed together, their mean taken.
+struct Row {
+    call: &'static str,
+    input: &'static str,
+    vectors: Vec<Vector>,
+}
+
+impl Row {
+    /// Both give the same on every vector; if not, what differs.
+    fn compared(&self) -> Result<(), String> {
+        let mut loans = Loans::default();
+        self.vectors
+            .iter()
+            .try_for_each(|vector| compare(vector, &mut loans).map(drop))
+    }
+
+    /// Seconds for one call of the library and one of the reference.
+    fn timed(&self, rounds: u32) -> (f64, f64) {
+        let (mut ours, mut theirs) = (Ours::new(), Theirs::new());
+        let mut best = (f64::MAX, f64::MAX);
+        for _ in 0..rounds {
+            best.0 = best.0.min(self.round(|vector| ours.call(vector)));
+            best.1 = best.1.min(self.round(|vector| theirs.call(vector)));
+        }
+        best
+    }
+
+    /// Seconds for one call, in the mean of a round.
+    fn round(&self, mut call: impl FnMut(&Vector)) -> f64 {
+        let start = Instant::now();
+        let mut calls = 0;
+        let mut batch = 1;
+        while start.elapsed() < ROUND {
+            for _ in 0..batch {
+                self.vectors.iter().for_each(&mut call);
+            }
+            calls += batch * self.vectors.len();
+            batch *= 2;
+        }
+        start.elapsed().as_secs_f64() / calls as f64
+    }
+}
+
+struct Ours {
+    answer: Vec<u8>,
+    table: Vec<NodeRecord>,
+}
+
+impl Ours {
+    fn new() -> Self {
+        Ours {
+            answer: vec![0; 5_000],
+            table: vec![NodeRecord::default(); 2_000],
+        }
+    }
+
+    fn call(&mut self, vector: &Vector) {
+        let v = black_box(vector);
+        let (answer, table) = (&mut self.answer, &mut self.table);
+        match v.call {
+            VERDICT => {
+                let mut tally = Tally { count: v.tally };
+                black_box(ffi::verdict(&v.case, v.limit, &mut tally, answer));
+            }
+            FITS => drop(black_box(ffi::fits(&v.case, &v.volume))),
+            IS_RESULT => {
+                black_box(ffi::is_result(&v.case, v.selection, &v.volume, &v.list));
+            }
+            NODES_AT => {
+                let got = ffi::nodes_at(&v.case, v.selection, &v.volume, v.position, answer);
+                black_box(got);
+            }
+            PATHS => drop(black_box(ffi::paths(&v.case, v.selection))),
+            _ => drop(black_box(ffi::layout(&v.case, v.selection, &v.list, table))),
+        }
+    }
+}
+
+struct Theirs {
+    answer: Vec<u8>,
+    table: Vec<reference::NodeRecord>,
+}
+
+impl Theirs {
+    fn new() -> Self {
+        Theirs {
+            answer: vec![0; 5_000],
+            table: vec![reference::NodeRecord::default(); 2_000],
+        }
+    }
+
+    fn call(&mut self, vector: &Vector) {
+        let v = black_box(vector);
+        let (answer, table) = (&mut self.answer, &mut self.table);
+        match v.call {
+            VERDICT => {
+                let mut tally = v.tally;
+                black_box(reference::verdict(&v.case, v.limit, &mut tally, answer));
+            }
+            FITS => drop(black_box(reference::fits(&v.case, &v.volume))),
+            IS_RESULT => {
+                let got = reference::is_result(&v.case, v.selection, &v.volume, &v.list);
+                black_box(got);
+            }
+            NODES_AT => {
+                let got = reference::nodes_at(&v.case, v.selection, &v.volume, v.position, answer);
+                black_box(got);
+            }
+            PATHS => drop(black_box(reference::paths(&v.case, v.selection))),
+            _ => {
+                let got = reference::layout(&v.case, v.selection, &v.list, table);
+                black_box(got);
+            }
+        }
+    }
+}
+
+fn rows() -> Vec<Row> {
+    [questions(), verdicts(), documents(), others(), drawn()]
+        .into_iter()
+        .flatten()
+        .collect()
+}
+
+fn row(call: &'static str, input: &'static str, vectors: Vec<Vector>) -> Row {
+    Row {
+        call,
+        input,
+        vectors,
+    }
+}
+
+/// What the questions cost: refusals by the first and by the last, the largest case and document.
+fn questions() -> Vec<Row> {
+    let largest = case(&line(1), &star(15, 8), &star(15, 8));
+    let mut spoilt = document(&line_document());
+    let end = spoilt.len() - 2;
+    spoilt[end..].fill(0);
+    let full = Vector {
+        tally: u64::MAX,
+        ..verdict(largest.clone(), 1)
+    };
+    vec![
+        row("verdict", "limit 0: refused 1", vec![verdict(vec![], 0)]),
+        row("verdict", "no bytes: refused 3", vec![verdict(vec![], 1)]),
+        row(
+            "verdict",
+            "64 + 16 + 16 nodes, tally too great: refused 9",
+            vec![full],
+        ),
+        row(
+            "fits",
+            "1,024 nodes, the last of label 0: refused 10",
+            vec![of_document(FITS, &largest, spoilt, &[])],
+        ),
+    ]
+}
+
+/// Verdicts, of one trial and of 1,000.
+fn verdicts() -> Vec<Row> {
+    let e6 = case(
+        &[[0, 1, 0], [0, 2, 0], [1, 3, 0]],
+        &[[0, 1, 0, 0], [0, 0, 1, 1]],
+        &[[0, 1, 0, 0], [0, 0, 0, 1]],
+    );
+    let mut nowhere = star(14, 1);
+    nowhere.push([0, 60_000, 1, 0]);
+    let free = star(15, 1);
+    let below = chain(15);
+    vec![
+        row(
+            "verdict",
+            "E6: 2 trials of 3 nodes",
+            vec![verdict(e6, 1_000_000)],
+        ),
+        row(
+            "verdict",
+            "1,000 trials of 946 nodes",
+            vec![verdict(case(&line(1), &free, &free), 1_000)],
+        ),
+        row(
+            "verdict",
+            "1,000 trials of few nodes, one below another",
+            vec![verdict(case(&line(0), &below, &below), 1_000)],
+        ),
+        row(
+            "verdict",
+            "63^14 partial placements, none whole",
+            vec![verdict(case(&line(0), &nowhere, &star(0, 1)), 1_000)],
+        ),
+    ]
+}
+
+/// Calls on documents of 1,024 nodes, with patterns of 16 nodes.
+fn documents() -> Vec<Row> {
+    let pattern = chain(15);
+    let case = case(&line(0), &pattern, &pattern);
+    let bush = bush_document();
+    let with = |call, document: &[[u16; 2]], list: &[u16]| {
+        vec![of_document(call, &case, self::document(document), list)]
+    };
+    vec![
+        row("fits", "1,024 nodes, yes", with(FITS, &bush, &[])),
+        row(
+            "fits",
+            "1,024 nodes, no by the last",
+            with(FITS, &spoilt(&bush), &[]),
+        ),
+        row(
+            "is it a result",
+            "1,024 nodes, yes",
+            with(IS_RESULT, &line_document(), &[0]),
+        ),
+        row(
+            "is it a result",
+            "1,024 nodes, no",
+            with(IS_RESULT, &line_document(), &[1]),
+        ),
+        row(
+            "nodes at a position",
+            "1,024 nodes",
+            with(NODES_AT, &line_document(), &[]),
+        ),
+    ]
+}
+
+fn others() -> Vec<Row> {
+    let free = star(15, 8);
+    let case = case(&line(1), &free, &free);
+    let paths = Vector {
+        call: PATHS,
+        selection: 1,
+        case: case.clone(),
+        ..Vector::default()
+    };
+    let placement: Vec<u16> = (0..16).map(|q| if q == 0 { 0 } else { 63 }).collect();
+    let layout = Vector {
+        call: LAYOUT,
+        length: 2_000,
+        list: fields(&placement),
+        ..paths.clone()
+    };
+    vec![
+        row("paths", "64 + 16 nodes", vec![paths]),
+        row("lay out a trial", "946 nodes", vec![layout]),
+    ]
+}
+
+/// Calls as the generators draw them, their mean.
+fn drawn() -> Vec<Row> {
+    vec![
+        row("lay out a trial", "200 near the limits", layouts(1, 200)),
+        row("verdict", "80 near the limits", cases(1, 80)),
+        row("all six", "1,000 random", random(1, 1_000)),
+    ]
+}
+
+fn fields(numbers: &[u16]) -> Vec<u8> {
+    numbers
+        .iter()
+        .flat_map(|number| number.to_le_bytes())
+        .collect()
+}
+
+fn section<const N: usize>(records: &[[u16; N]]) -> Vec<u8> {
+    let mut bytes = fields(&[records.len() as u16]);
+    bytes.extend(fields(records.as_flattened()));
+    bytes
+}
+
+fn case(summary: &[[u16; 3]], first: &[[u16; 4]], second: &[[u16; 4]]) -> Vec<u8> {
+    [section(summary), section(first), section(second)].concat()
+}
+
+fn document(records: &[[u16; 2]]) -> Vec<u8> {
+    section(records)
+}
+
+fn verdict(case: Vec<u8>, limit: u64) -> Vector {
+    Vector {
+        call: VERDICT,
+        limit,
+        length: 4_096,
+        case,
+        ..Vector::default()
+    }
+}
+
+fn of_document(call: u32, case: &[u8], volume: Vec<u8>, list: &[u16]) -> Vector {
+    Vector {
+        call,
+        selection: 1,
+        position: 1,
+        length: 4_096,
+        case: case.to_vec(),
+        volume,
+        list: fields(list),
+        ..Vector::default()
+    }
+}
+
+/// A summary of 64 nodes one below another, labels 1 to 64.
+fn line(strong: u16) -> Vec<[u16; 3]> {
+    (0..64u16)
+        .map(|i| [i.saturating_sub(1), i + 1, strong * u16::from(i > 0)])
+        .collect()
+}
+
+/// A pattern: descendants of any label below the root, with the first so many positions.
+fn star(free: u16, positions: u16) -> Vec<[u16; 4]> {
+    (0..=free)
+        .map(|q| {
+            let position = if q < positions { q + 1 } else { 0 };
+            [0, 0, u16::from(q > 0), position]
+        })
+        .collect()
+}
+
+/// A pattern whose nodes hang one from another by descendant edges.
+fn chain(free: u16) -> Vec<[u16; 4]> {
+    (0..=free)
+        .map(|q| [q.saturating_sub(1), 0, u16::from(q > 0), u16::from(q == 0)])
+        .collect()
+}
+
+/// 1,024 nodes one below another.
+fn line_document() -> Vec<[u16; 2]> {
+    (0..1_024u16)
+        .map(|i| [i.saturating_sub(1), i % 64 + 1])
+        .collect()
+}
+
+/// 1,024 nodes that conform to the summary `line`: sixteen branches from the root down to its end.
+fn bush_document() -> Vec<[u16; 2]> {
+    let mut records = vec![[0, 1]];
+    while records.len() < 1_024 {
+        let step = (records.len() - 1) % 63;
+        let parent = if step == 0 { 0 } else { records.len() - 1 };
+        records.push([parent as u16, step as u16 + 2]);
+    }
+    records
+}
+
+/// The same with another label at the last node.
+fn spoilt(records: &[[u16; 2]]) -> Vec<[u16; 2]> {
+    let mut records = records.to_vec();
+    records[1_023][1] = 65_535;
+    records
+}

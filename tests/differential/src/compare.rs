@@ -1,0 +1,209 @@
+//! One call of the library and one of the reference, held to each other whole: the answer, the tally,
+//! and the lent buffer or table with what stands around it. A refusal also has zero in every other
+//! field and leaves everything as it was.
+
+use crate::lent::{Lent, Loans};
+use cadwezin::{ffi, NodeRecord, Tally};
+use reference::vectors::{Vector, FITS, IS_RESULT, NODES_AT, PATHS, VERDICT};
+use reference::NodeRecord as ReferenceRecord;
+
+/// What a call answered, as far as it is counted: for a verdict its kind, for a test whether it holds,
+/// and how many trials, nodes or paths there were.
+#[derive(Clone, Copy, Debug, PartialEq, Eq)]
+pub struct Answered {
+    pub refused: u64,
+    pub value: u64,
+    pub size: u64,
+}
+
+/// What differs, in words.
+pub type Difference = String;
+
+pub fn compare(vector: &Vector, loans: &mut Loans) -> Result<Answered, Difference> {
+    match vector.call {
+        VERDICT => verdict(vector, loans),
+        FITS => fits(vector),
+        IS_RESULT => is_result(vector),
+        NODES_AT => nodes_at(vector, loans),
+        PATHS => paths(vector),
+        _ => layout(vector, loans),
+    }
+}
+
+fn verdict(vector: &Vector, loans: &mut Loans) -> Result<Answered, Difference> {
+    let length = vector.length as usize;
+    let mut tally = Tally {
+        count: vector.tally,
+    };
+    let mut their_tally = vector.tally;
+    let lent = loans.bytes.lend(length);
+    let ours = ffi::verdict(&vector.case, vector.limit, &mut tally, lent);
+    let lent = loans.reference_bytes.lend(length);
+    let theirs = reference::verdict(&vector.case, vector.limit, &mut their_tally, lent);
+    same(
+        "the answer",
+        (ours.refused, ours.kind, ours.tried),
+        (theirs.refused, theirs.kind, theirs.tried),
+    )?;
+    same("the tally", tally.count, their_tally)?;
+    let written = if ours.kind == ffi::NOT_CONTAINED {
+        shown_bytes(loans.bytes.now())
+    } else {
+        0
+    };
+    buffers(loans, written)?;
+    refusal(ours.refused, &[ours.kind, ours.tried])?;
+    if ours.refused != 0 {
+        same("the tally of a refusal", tally.count, vector.tally)?;
+    }
+    Ok(Answered {
+        refused: ours.refused,
+        value: ours.kind,
+        size: ours.tried,
+    })
+}
+
+fn fits(vector: &Vector) -> Result<Answered, Difference> {
+    let ours = ffi::fits(&vector.case, &vector.volume);
+    let theirs = reference::fits(&vector.case, &vector.volume);
+    tested(ours, theirs)
+}
+
+fn is_result(vector: &Vector) -> Result<Answered, Difference> {
+    let (case, volume, list) = (&vector.case, &vector.volume, &vector.list);
+    let ours = ffi::is_result(case, vector.selection, volume, list);
+    let theirs = reference::is_result(case, vector.selection, volume, list);
+    tested(ours, theirs)
+}
+
+fn tested(ours: ffi::TestAnswer, theirs: reference::TestAnswer) -> Result<Answered, Difference> {
+    same(
+        "the answer",
+        (ours.refused, ours.holds),
+        (theirs.refused, u64::from(theirs.holds)),
+    )?;
+    refusal(ours.refused, &[ours.holds])?;
+    Ok(Answered {
+        refused: ours.refused,
+        value: ours.holds,
+        size: 0,
+    })
+}
+
+fn nodes_at(vector: &Vector, loans: &mut Loans) -> Result<Answered, Difference> {
+    let (selection, position) = (vector.selection, vector.position);
+    let length = vector.length as usize;
+    let lent = loans.bytes.lend(length);
+    let ours = ffi::nodes_at(&vector.case, selection, &vector.volume, position, lent);
+    let lent = loans.reference_bytes.lend(length);
+    let theirs = reference::nodes_at(&vector.case, selection, &vector.volume, position, lent);
+    let answered = counted(ours, theirs)?;
+    let written = if ours.refused == 0 {
+        2 + 2 * ours.count as usize
+    } else {
+        0
+    };
+    buffers(loans, written)?;
+    Ok(answered)
+}
+
+fn paths(vector: &Vector) -> Result<Answered, Difference> {
+    let ours = ffi::paths(&vector.case, vector.selection);
+    let theirs = reference::paths(&vector.case, vector.selection);
+    same("the refusal", ours.refused, theirs.refused)?;
+    same("the masks", ours.masks, theirs.masks)?;
+    same("the counts", ours.counts, theirs.counts)?;
+    refusal(ours.refused, &[ours.masks, ours.counts].concat())?;
+    Ok(Answered {
+        refused: ours.refused,
+        value: 0,
+        size: ours.counts.iter().sum(),
+    })
+}
+
+fn layout(vector: &Vector, loans: &mut Loans) -> Result<Answered, Difference> {
+    let length = vector.length as usize;
+    let lent = loans.records.lend(length);
+    let ours = ffi::layout(&vector.case, vector.selection, &vector.list, lent);
+    let lent = loans.reference_records.lend(length);
+    let theirs = reference::layout(&vector.case, vector.selection, &vector.list, lent);
+    let answered = counted(ours, theirs)?;
+    let count = ours.count as usize;
+    let (nodes, their_nodes) = (loans.records.now(), loans.reference_records.now());
+    let mut pairs = nodes.iter().zip(their_nodes).take(count);
+    let alike = pairs.all(|(node, their_node)| numbers(node) == their_numbers(their_node));
+    hold(alike, || "the records are not the reference's".to_string())?;
+    rest("the table", &loans.records, count)?;
+    rest("the reference's table", &loans.reference_records, count)?;
+    Ok(answered)
+}
+
+fn numbers(record: &NodeRecord) -> (usize, usize, u16) {
+    (record.parent.0, record.at.0, record.label)
+}
+
+fn their_numbers(record: &ReferenceRecord) -> (usize, usize, u16) {
+    (record.parent.into(), record.outline.into(), record.label)
+}
+
+fn counted(ours: ffi::CountAnswer, theirs: reference::CountAnswer) -> Result<Answered, Difference> {
+    same(
+        "the answer",
+        (ours.refused, ours.count),
+        (theirs.refused, theirs.count),
+    )?;
+    refusal(ours.refused, &[ours.count])?;
+    Ok(Answered {
+        refused: ours.refused,
+        value: 0,
+        size: ours.count,
+    })
+}
+
+/// How many bytes a shown document and result take.
+fn shown_bytes(answer: &[u8]) -> usize {
+    let field = |at: usize| match answer.get(at..at + 2) {
+        Some(bytes) => usize::from(u16::from_le_bytes([bytes[0], bytes[1]])),
+        None => 0,
+    };
+    let result = 2 + 4 * field(0);
+    result + 2 + 2 * field(result)
+}
+
+/// The two buffers are alike, and unaltered outside what was written.
+fn buffers(loans: &Loans, written: usize) -> Result<(), Difference> {
+    let (ours, theirs) = (loans.bytes.now(), loans.reference_bytes.now());
+    hold(ours == theirs, || {
+        "the buffer is not the reference's".to_string()
+    })?;
+    rest("the buffer", &loans.bytes, written)?;
+    rest("the reference's buffer", &loans.reference_bytes, written)
+}
+
+fn rest<T: Copy + PartialEq>(what: &str, lent: &Lent<T>, written: usize) -> Result<(), Difference> {
+    hold(lent.untouched_from(written), || {
+        format!("{what} is altered outside what was written")
+    })
+}
+
+/// "A refusal holds its number and zero in every other field."
+fn refusal(refused: u64, others: &[u64]) -> Result<(), Difference> {
+    let zero = others.iter().all(|&field| field == 0);
+    hold(refused == 0 || zero, || {
+        format!("refused {refused} with {others:?}")
+    })
+}
+
+fn hold(right: bool, difference: impl Fn() -> Difference) -> Result<(), Difference> {
+    if right {
+        Ok(())
+    } else {
+        Err(difference())
+    }
+}
+
+fn same<T: PartialEq + std::fmt::Debug>(what: &str, ours: T, theirs: T) -> Result<(), Difference> {
+    hold(ours == theirs, || {
+        format!("{what}: ours {ours:?}, the reference's {theirs:?}")
+    })
+}

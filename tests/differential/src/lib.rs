@@ -1,0 +1,13 @@
+//! The proved library and the plain reference, called in one process on the same input.
+//!
+//! * `compare`: one call of both, and everything that it answers and leaves behind held to be equal.
+//! * `lent`: what is lent to a call: buffers and tables filled with a pattern.
+//! * `vary`: many calls made of one drawn vector.
+//! * `counts`: how many calls there were, by call and answer.
+
+#![forbid(unsafe_code)]
+
+pub mod compare;
+pub mod counts;
+pub mod lent;
+pub mod vary;

@@ -1,0 +1,248 @@
+//! Many calls made of few drawn vectors: another call on the same case, numbers at their bounds,
+//! damaged bytes, lengths of all kinds. Drawing a vector takes far longer than altering one.
+
+use crate::lent::LENT_MOST;
+use reference::calls::STOPPED;
+use reference::embedding::{has, Shape};
+use reference::generate::Prng;
+use reference::records::{holder, read_case, read_volume, Case};
+use reference::trials::{each_placement, lay_out};
+use reference::vectors::{Vector, FITS, IS_RESULT, LAYOUT, NODES_AT, PATHS, VERDICT};
+
+const CALLS: [u32; 6] = [VERDICT, FITS, IS_RESULT, NODES_AT, PATHS, LAYOUT];
+const TALLY_MOST: u64 = 1_000_000_000_000;
+/// A limit below which the reference is quick on any case.
+const QUICK: u64 = 60;
+
+/// One variation of a drawn vector. What it does not have is taken from the others drawn.
+pub fn vary(prng: &mut Prng, drawn: &[Vector], index: usize) -> Vector {
+    let mut vector = drawn[index].clone();
+    if prng.percent(60) {
+        vector = for_call(prng, drawn, vector);
+    }
+    vector.limit = 1 + prng.draw() % [1, 3, 10, QUICK][prng.below(4)];
+    if prng.percent(30) {
+        number(prng, &mut vector);
+    }
+    if prng.percent(10) {
+        vector.length = length(prng);
+    }
+    if prng.percent(30) {
+        damage(prng, &mut vector);
+    }
+    if prng.percent(2) {
+        noise(prng, &mut vector);
+    }
+    if prng.below(2_000) == 0 {
+        lengthen(prng, &mut vector);
+    }
+    if vector.call == VERDICT && vector.limit > QUICK && slow(&vector) {
+        vector.limit = QUICK;
+    }
+    vector
+}
+
+/// The same case through any of the calls, with a document and a list that often suit it.
+fn for_call(prng: &mut Prng, drawn: &[Vector], vector: Vector) -> Vector {
+    let call = CALLS[prng.below(CALLS.len())];
+    let least = if call == LAYOUT { 1_024 } else { 4_096 };
+    let mut vector = Vector {
+        call,
+        selection: prng.between(1, 2) as u64,
+        position: prng.between(1, 2) as u64,
+        tally: prng.draw() % TALLY_MOST,
+        length: least + [0, 0, 1, 904][prng.below(4)],
+        ..vector
+    };
+    let Ok(case) = read_case(&vector.case) else {
+        return vector;
+    };
+    vector.position = prng.between(1, case.positions) as u64;
+    let takes = |calls: &[u32]| calls.contains(&call);
+    if takes(&[FITS, IS_RESULT, NODES_AT]) && (vector.volume.is_empty() || prng.percent(30)) {
+        vector.volume = document(prng, drawn, &case);
+    }
+    if call == IS_RESULT {
+        vector.list = result(prng, &case, &vector);
+    } else if call == LAYOUT {
+        vector.list = fields(&placement(prng, &case, vector.selection));
+    }
+    vector
+}
+
+/// A document of a drawn vector, or the canonical document of a placement of either pattern.
+fn document(prng: &mut Prng, drawn: &[Vector], case: &Case) -> Vec<u8> {
+    let other = &drawn[prng.below(drawn.len())].volume;
+    if !other.is_empty() && prng.percent(40) {
+        return other.clone();
+    }
+    let selection = prng.between(1, 2) as u64;
+    let places = placement(prng, case, selection);
+    if places.is_empty() {
+        return other.clone();
+    }
+    let pattern = &case.selections[selection as usize - 1];
+    let nodes = lay_out(&case.outline, pattern, &places).nodes;
+    let mut numbers = vec![nodes.len()];
+    for node in &nodes {
+        numbers.extend([node.parent, case.outline[node.outline].label.into()]);
+    }
+    fields(&numbers)
+}
+
+/// One of the first placements, or nothing where there is none.
+fn placement(prng: &mut Prng, case: &Case, selection: u64) -> Vec<usize> {
+    let pattern = &case.selections[selection as usize - 1];
+    let most = [1, 4, 40][prng.below(3)];
+    let mut left = prng.below(most);
+    let mut found = Vec::new();
+    each_placement(&case.outline, pattern, |places| {
+        found = places.to_vec();
+        left = left.saturating_sub(1);
+        left > 0
+    });
+    found
+}
+
+/// For each position a node that it has in some result, or any node.
+fn result(prng: &mut Prng, case: &Case, vector: &Vector) -> Vec<u8> {
+    let Ok(document) = read_volume(&vector.volume) else {
+        return vector.list.clone();
+    };
+    let pattern = &case.selections[vector.selection as usize - 1];
+    let images = Shape::new(pattern).images(&document);
+    let mut list = Vec::new();
+    for position in 1..=case.positions {
+        let node = holder(pattern, position).unwrap_or(0);
+        let room: Vec<usize> = (0..document.len())
+            .filter(|&v| has(images[v], node))
+            .collect();
+        let any = prng.below(document.len());
+        list.push(match prng.one_of(&room) {
+            Some(&found) if prng.percent(90) => found,
+            _ => any,
+        });
+    }
+    fields(&list)
+}
+
+fn fields(numbers: &[usize]) -> Vec<u8> {
+    numbers
+        .iter()
+        .flat_map(|&number| (number as u16).to_le_bytes())
+        .collect()
+}
+
+/// One number at a bound, beyond it, or anything.
+fn number(prng: &mut Prng, vector: &mut Vector) {
+    let any = prng.draw() >> prng.below(64);
+    let one_of = |prng: &mut Prng, numbers: &[u64]| numbers[prng.below(numbers.len())];
+    let past = u64::from(u32::MAX) + 2;
+    match prng.below(5) {
+        0 => {
+            let bounds = [0, 1, 2, 999_999, 1_000_000, 1_000_001, past, u64::MAX, any];
+            vector.limit = one_of(prng, &bounds);
+        }
+        1 => {
+            let room = TALLY_MOST.saturating_sub(vector.limit);
+            let bounds = [room, room + 1, room.saturating_sub(1), 0, TALLY_MOST];
+            let wide = [u64::MAX - vector.limit, u64::MAX, any];
+            vector.tally = one_of(prng, &[&bounds[..], &wide[..]].concat());
+        }
+        2 => vector.selection = one_of(prng, &[0, 1, 2, 3, 65_537, past, u64::MAX, any]),
+        3 => vector.position = one_of(prng, &[0, 1, 2, 3, 8, 9, 65_537, past, u64::MAX, any]),
+        _ => vector.length = length(prng),
+    }
+}
+
+/// How much is lent: around both least lengths, little, or anything up to the most.
+fn length(prng: &mut Prng) -> u64 {
+    let any = prng.below(LENT_MOST + 1);
+    let short = prng.below(5_000);
+    let lengths = [0, 1, 1_023, 1_024, 1_025, 4_095, 4_096, 4_097, short, short];
+    let chosen = lengths[prng.below(lengths.len())];
+    (if prng.below(200) == 0 { any } else { chosen }) as u64
+}
+
+/// One to four strokes on one of the byte strings that the call takes.
+fn damage(prng: &mut Prng, vector: &mut Vector) {
+    let (volume, list) = match vector.call {
+        FITS | NODES_AT => (true, false),
+        IS_RESULT => (true, true),
+        LAYOUT => (false, true),
+        _ => (false, false),
+    };
+    let bytes = match prng.below(3) {
+        0 if volume => &mut vector.volume,
+        1 if list => &mut vector.list,
+        _ => &mut vector.case,
+    };
+    for _ in 0..prng.between(1, 4) {
+        stroke(prng, bytes);
+    }
+}
+
+fn stroke(prng: &mut Prng, bytes: &mut Vec<u8>) {
+    let value = [0, 1, 2, 3, 255, prng.draw() as u8][prng.below(6)];
+    if bytes.len() < 2 {
+        bytes.push(value);
+        return;
+    }
+    let at = prng.below(bytes.len());
+    let (field, other) = (at / 2 * 2, prng.below(bytes.len()) / 2 * 2);
+    match prng.below(24) {
+        0 => bytes.insert(at, value),
+        1 => drop(bytes.remove(at)),
+        2 => bytes.truncate(at),
+        3 => drop(bytes.drain(field..(field + 2).min(bytes.len()))),
+        4 => bytes.push(value),
+        5 => bytes[0] = bytes[0].wrapping_add(value),
+        6..=9 if field.max(other) + 1 < bytes.len() => {
+            bytes.copy_within(field..field + 2, other);
+        }
+        // Low bytes hold most numbers, so the field stays near its range.
+        10..=18 => bytes[field] = value,
+        _ => bytes[at] = value,
+    }
+}
+
+/// A case, document or list of fields that mean nothing, the counts small.
+fn noise(prng: &mut Prng, vector: &mut Vector) {
+    let bound = [2, 3, 5, 17, 65_536][prng.below(5)];
+    let most = [4, 30, 300][prng.below(3)];
+    let count = prng.below(most);
+    let numbers: Vec<usize> = (0..count).map(|_| prng.below(bound)).collect();
+    let mut bytes = fields(&numbers);
+    bytes.truncate(bytes.len() - prng.below(2).min(bytes.len()));
+    match prng.below(3) {
+        0 => vector.volume = bytes,
+        1 => vector.list = bytes,
+        _ => vector.case = bytes,
+    }
+}
+
+/// One byte string made long: the same again, or zeros, behind it. A document may announce all of it.
+fn lengthen(prng: &mut Prng, vector: &mut Vector) {
+    let most = [65_535, 65_536, 65_537, 100_000, 262_142][prng.below(5)];
+    let again = prng.percent(50);
+    let bytes = match prng.below(3) {
+        0 => &mut vector.case,
+        1 => &mut vector.volume,
+        _ => &mut vector.list,
+    };
+    let whole = bytes.clone();
+    while again && !whole.is_empty() && bytes.len() < most {
+        bytes.extend(&whole);
+    }
+    bytes.resize(most, 0);
+    if prng.percent(50) && vector.volume.len() == most {
+        let count = (most - 2) / 4;
+        vector.volume[..2].copy_from_slice(&(count as u16).to_le_bytes());
+    }
+}
+
+/// Whether many trials pass, so that a great limit takes long.
+fn slow(vector: &Vector) -> bool {
+    let mut answer = [0; 4_096];
+    reference::verdict(&vector.case, QUICK, &mut 0, &mut answer).kind == STOPPED
+}
