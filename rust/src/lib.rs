@@ -1,8 +1,8 @@
 //! Tree pattern containment under a path summary, decided by a library whose every function is proved.
 //!
 //! A *case* is bytes that hold a summary and two patterns, a *document* and a *list* are bytes too;
-//! `docs/ARCHITECTURE.md` names the format. Each function takes any bytes, any numbers and buffers of
-//! any length, and answers or refuses; a refusal alters nothing that was lent.
+//! `include/cadwezin.h` has their format and the questions. Each function takes any bytes, any numbers
+//! and buffers of any length, and answers or refuses; a refusal alters nothing that was lent.
 //!
 //! ```
 //! use cadwezin::{verdict, Shown, Tally, Verdict, ANSWER_BYTES, LIMIT_MOST};
