@@ -20,9 +20,9 @@ const CALLS_EACH: usize = 40;
 const NEAR_LIMITS: u64 = 4;
 
 fn main() -> ExitCode {
-    let words: Vec<String> = std::env::args().skip(1).collect();
-    let numbers: Vec<u64> = words.iter().filter_map(|word| word.parse().ok()).collect();
-    let [seed, count] = numbers[..] else {
+    let words = std::env::args().skip(1);
+    let numbers: Option<Vec<u64>> = words.map(|word| word.parse().ok()).collect();
+    let Some(&[seed, count]) = numbers.as_deref() else {
         eprintln!("usage: differential SEED COUNT");
         return ExitCode::from(2);
     };

@@ -186,7 +186,7 @@ fn row(call: &'static str, input: &'static str, vectors: Vec<Vector>) -> Row {
     }
 }
 
-/// What the questions cost: refusals by the first and by the last, the largest case and document.
+/// What the questions cost: refusals by the first and by the last, and reading the largest case.
 fn questions() -> Vec<Row> {
     let largest = case(&line(1), &star(15, 8), &star(15, 8));
     let mut spoilt = document(&line_document());
@@ -208,6 +208,11 @@ fn questions() -> Vec<Row> {
             "fits",
             "1,024 nodes, the last of label 0: refused 10",
             vec![of_document(FITS, &largest, spoilt, &[])],
+        ),
+        row(
+            "fits",
+            "64 + 16 + 16 nodes, a document of 1: accepted",
+            vec![of_document(FITS, &largest, document(&[[0, 1]]), &[])],
         ),
     ]
 }
