@@ -196,38 +196,52 @@ fn grow_selection(plan: &mut Plan, which: usize, size: usize) {
     }
 }
 
-/// Question 5 and 6.
-fn outline_records() -> Vec<Change> {
-    let field = |question, row: usize, field: usize, value: u16| {
+/// The last record, so that a check that ends early is caught.
+const LAST: usize = usize::MAX;
+
+/// One field of one record gets another value, for each (record, field,
+/// value).
+fn fields<const N: usize>(
+    question: u64,
+    rows: impl Fn(&mut Plan) -> &mut Vec<[u16; N]> + Copy + 'static,
+    values: &[(usize, usize, u16)],
+) -> Vec<Change> {
+    let one = |&(record, field, value): &(usize, usize, u16)| {
         change(question, move |plan: &mut Plan| {
-            if let Some(found) = plan.outline.get_mut(row) {
-                found[field] = value;
+            let rows = rows(plan);
+            let row = match record {
+                LAST => rows.last_mut(),
+                number => rows.get_mut(number),
+            };
+            if let Some(row) = row {
+                row[field] = value;
             }
         })
     };
-    let mut all = vec![
-        field(5, 0, 0, 1),
-        field(5, 0, 0, u16::MAX),
-        field(5, 0, 1, 0),
-        field(5, 0, 2, 1),
-        field(5, 0, 2, 2),
-        field(5, 1, 0, 1),
-        field(5, 1, 0, 2),
-        field(5, 2, 0, 2),
-        field(5, 2, 0, u16::MAX),
-        field(5, 1, 1, 0),
-        field(5, 1, 2, 2),
-        field(5, 2, 2, 256),
-        field(5, 2, 2, u16::MAX),
+    values.iter().map(one).collect()
+}
+
+/// Question 5 and 6.
+fn outline_records() -> Vec<Change> {
+    let values = [
+        (0, 0, 1),
+        (0, 0, u16::MAX),
+        (0, 1, 0),
+        (0, 2, 1),
+        (0, 2, 2),
+        (1, 0, 1),
+        (1, 0, 2),
+        (2, 0, 2),
+        (2, 0, u16::MAX),
+        (1, 1, 0),
+        (1, 2, 2),
+        (2, 2, 256),
+        (2, 2, u16::MAX),
+        (LAST, 0, u16::MAX),
+        (LAST, 1, 0),
+        (LAST, 2, 2),
     ];
-    // The last record, so that a check that ends early is caught.
-    for (index, value) in [(0, u16::MAX), (1, 0), (2, 2)] {
-        all.push(change(5, move |plan| {
-            if let Some(row) = plan.outline.last_mut() {
-                row[index] = value;
-            }
-        }));
-    }
+    let mut all = fields(5, |plan| &mut plan.outline, &values);
     all.push(change(6, |plan| {
         if let Some(&row) = plan.outline.get(1) {
             plan.outline.push(row);
@@ -253,37 +267,28 @@ fn outline_records() -> Vec<Change> {
 
 /// Question 7, in one selection. Labels there are free.
 fn selection_records(which: usize) -> Vec<Change> {
-    let field = |question, row: usize, field: usize, value: u16| {
-        change(question, move |plan: &mut Plan| {
-            if let Some(found) = plan.selections[which].get_mut(row) {
-                found[field] = value;
-            }
-        })
-    };
-    let mut all = vec![
-        field(7, 0, 0, 1),
-        field(7, 0, 0, u16::MAX),
-        field(7, 0, 2, 1),
-        field(7, 0, 2, 2),
-        field(7, 0, 3, 9),
-        field(7, 1, 0, 1),
-        field(7, 1, 0, 2),
-        field(7, 1, 0, u16::MAX),
-        field(7, 1, 2, 2),
-        field(7, 1, 2, 256),
-        field(7, 1, 3, 9),
-        field(7, 1, 3, 256),
-        field(7, 1, 3, u16::MAX),
-        field(0, 0, 1, 0),
+    let broken = [
+        (0, 0, 1),
+        (0, 0, u16::MAX),
+        (0, 2, 1),
+        (0, 2, 2),
+        (0, 3, 9),
+        (1, 0, 1),
+        (1, 0, 2),
+        (1, 0, u16::MAX),
+        (1, 2, 2),
+        (1, 2, 256),
+        (1, 3, 9),
+        (1, 3, 256),
+        (1, 3, u16::MAX),
     ];
-    for (index, value) in [(0, u16::MAX), (2, 2), (3, 9)] {
-        all.push(change(7, move |plan| {
-            if let Some(row) = plan.selections[which].last_mut() {
-                row[index] = value;
-            }
-        }));
-    }
-    all
+    let last = [(LAST, 0, u16::MAX), (LAST, 2, 2), (LAST, 3, 9)];
+    let all = [(7, &broken[..]), (0, &[(0, 1, 0)]), (7, &last)];
+    all.into_iter()
+        .flat_map(|(question, values)| {
+            fields(question, move |plan| &mut plan.selections[which], values)
+        })
+        .collect()
 }
 
 /// Question 8, broken in one selection.
