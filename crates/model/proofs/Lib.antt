@@ -23,6 +23,7 @@ pub mod Containment
 pub mod NodeByNode
 pub mod QuickLaws
 pub mod Quick
+pub mod WaysLaws
 pub mod Verdict
 pub mod Bytes
 pub mod Questions

@@ -7,6 +7,7 @@ pub mod Fitting
 pub mod Canonical
 pub mod Verdict
 pub mod Quick
+pub mod Skipping
 pub mod Limits
 pub mod Bytes
 pub mod Questions

@@ -1,0 +1,87 @@
+-- Skipping: of a partial placement, what each of its completions offers at least, how many there are, and a test under which all
+-- of them surely pass. proofs/Skipping.antt shows that the run over them then only advances the counters, so no other definition
+-- rests on these. `places c x` lists the places of first-pattern node c where its parent stands at x.
+use Prim.Native.Nat.{ℕ, zero, suc, _+_, _-_, _*_}
+use mathlib.Core.Bool.{Bool, true, false, _&&_}
+use mathlib.Core.List.{List, [], _∷_, _++_, flatMap}
+use lib.Dec.{eqb, ltb}
+use lib.ListN.{length}
+use Rattle.model.specs.Lists.{upFrom, keep, anyOf, allOf}
+use Rattle.model.specs.Summary.{Summary, asDocument}
+use Rattle.model.specs.Pattern.{Pattern, descends, position}
+use Rattle.model.specs.Embeddings.{edgeTest, imageIn, isPath}
+use Rattle.model.specs.Canonical.{chain}
+use Rattle.model.specs.Quick.{hangsFrom, meets, closed, union, hang}
+use Rattle.model.specs.Verdict.{Progress, going, halted}
+
+-- the places of node c from x: the paths of c that its edge reaches
+unfoldable pub placesOf : Summary → Pattern → ℕ → ℕ → List ℕ
+placesOf S P c x = keep (λ y. edgeTest (descends P c) (asDocument S) x y && isPath S P c y) (upFrom 0 (length S))
+
+-- ---- how many completions
+
+module _ {A : Type 0} where
+  unfoldable pub sumOf : (A → ℕ) → List A → ℕ
+  sumOf f [] = 0
+  sumOf f (x ∷ xs) = f x + sumOf f xs
+
+  unfoldable pub productOf : (A → ℕ) → List A → ℕ
+  productOf f [] = 1
+  productOf f (x ∷ xs) = f x * productOf f xs
+
+-- the completions of a partial placement: the images es of the first nodes, extended in every way to n nodes more
+unfoldable pub completions : (ℕ → ℕ) → (ℕ → ℕ → List ℕ) → ℕ → List ℕ → List (List ℕ)
+completions parent places zero es = es ∷ []
+completions parent places (suc n) es = flatMap (λ v. completions parent places n (es ++ v ∷ [])) (places (length es) (imageIn es (parent (length es))))
+
+-- the children of node c, of m nodes
+unfoldable pub childrenOf : ℕ → (ℕ → ℕ) → ℕ → List ℕ
+childrenOf m parent c = keep (λ d. ltb 0 d && eqb (parent d) c) (upFrom 0 m)
+
+-- in how many ways node c and all below it can be placed where its parent stands at x, at most n levels deep
+unfoldable pub waysIn : ℕ → ℕ → (ℕ → ℕ) → (ℕ → ℕ → List ℕ) → ℕ → ℕ → ℕ
+waysIn zero m parent places c x = 0
+waysIn (suc n) m parent places c x = sumOf (λ y. productOf (λ d. waysIn n m parent places d y) (childrenOf m parent c)) (places c x)
+
+unfoldable pub ways : ℕ → (ℕ → ℕ) → (ℕ → ℕ → List ℕ) → ℕ → ℕ → ℕ
+ways m = waysIn m m
+
+-- in how many ways the nodes from q on can be placed, after the images of the first q: those whose parent is placed stand for all
+-- below them
+unfoldable pub waysLeft : ℕ → (ℕ → ℕ) → (ℕ → ℕ → List ℕ) → ℕ → List ℕ → ℕ
+waysLeft m parent places q es =
+    productOf (λ c. elim (ltb (parent c) q) [ true ↦ ways m parent places c (imageIn es (parent c)) | false ↦ 1 ]) (upFrom q (m - q))
+
+-- the run over n trials that all pass: they are counted, or the limit is met among them
+unfoldable pub skip : ℕ → ℕ → ℕ → Progress
+skip left tried n = elim (ltb left n) [ true ↦ halted (tried + left) | false ↦ going (left - n) (tried + n) ]
+
+-- ---- what they offer at least
+
+-- what node c and all below it offer to the node on x, wherever they are placed below it, at most n levels deep; where c has no
+-- place this is everything, but there is no completion then
+unfoldable pub lowIn : ℕ → Summary → Pattern → Pattern → (ℕ → ℕ → List ℕ) → ℕ → ℕ → ℕ → Bool
+lowIn zero S P Q places c x p = false
+lowIn (suc n) S P Q places c x p =
+    allOf (λ y. hang S Q (position P c) (λ r. anyOf (λ d. hangsFrom P c d && lowIn n S P Q places d y r) (upFrom 0 (length P))) (chain S x y) p) (places c x)
+
+unfoldable pub low : Summary → Pattern → Pattern → (ℕ → ℕ → List ℕ) → ℕ → ℕ → ℕ → Bool
+low S P Q = lowIn (length P) S P Q
+
+-- what hangs at least from node j, after the images es of the first q nodes: the chains of its placed children, and of the others
+-- what they offer wherever they are placed, at most n levels deep
+unfoldable pub sureIn : ℕ → Summary → Pattern → Pattern → (ℕ → ℕ → List ℕ) → ℕ → List ℕ → ℕ → ℕ → Bool
+sureIn zero S P Q places q es j p = false
+sureIn (suc n) S P Q places q es j p =
+    anyOf (λ c. hangsFrom P j c
+    && (elim (ltb c q) [
+      | true ↦ hang S Q (position P c) (sureIn n S P Q places q es c) (chain S (imageIn es j) (imageIn es c)) p
+      | false ↦ ltb j q && low S P Q places c (imageIn es j) p
+    ])) (upFrom 0 (length P))
+
+unfoldable pub sure : Summary → Pattern → Pattern → (ℕ → ℕ → List ℕ) → ℕ → List ℕ → ℕ → ℕ → Bool
+sure S P Q = sureIn (length P) S P Q
+
+-- every completion surely passes: the second pattern's root meets at the root by what hangs from it at least
+unfoldable pub surely : Summary → Pattern → Pattern → (ℕ → ℕ → List ℕ) → ℕ → List ℕ → Bool
+surely S P Q places q es = meets S Q 0 (position P 0) (union (closed S Q 0) (sure S P Q places q es 0)) 0
