@@ -25,6 +25,7 @@ pub mod QuickLaws
 pub mod Quick
 pub mod WaysLaws
 pub mod Verdict
+pub mod Skipping
 pub mod Bytes
 pub mod Questions
 pub mod Calls
@@ -33,3 +34,4 @@ pub mod Decision
 pub mod Demands
 pub mod Examples
 pub mod Misreadings
+pub mod SkippingExamples

@@ -191,6 +191,19 @@ module _ {A : Type 0} where
       go true q e′ rest = let r = rest e′ in (r .0, List·Memᴰ·tail (r .1), r .2)
       go false q e′ rest = (y, List·Memᴰ·head refl, q)
 
+  -- tests that agree on a list's members
+  pub any-agree : (f g : A → Bool) (xs : List A) → ((x : A) → List·Memᴰ x xs → f x ≡ g x) → anyOf f xs ≡ anyOf g xs
+  any-agree f g xs h =
+      bool-ext (anyOf f xs) (anyOf g xs)
+      (λ e. let r = any-elim f xs e in any-intro g (r .0) xs (r .1) (sym (h (r .0) (r .1)) ∙ r .2))
+      (λ e. let r = any-elim g xs e in any-intro f (r .0) xs (r .1) (h (r .0) (r .1) ∙ r .2))
+
+  pub all-agree : (f g : A → Bool) (xs : List A) → ((x : A) → List·Memᴰ x xs → f x ≡ g x) → allOf f xs ≡ allOf g xs
+  all-agree f g xs h =
+      bool-ext (allOf f xs) (allOf g xs)
+      (λ e. all-intro g xs (λ x m. sym (h x m) ∙ all-elim f xs e x m))
+      (λ e. all-intro f xs (λ x m. h x m ∙ all-elim g xs e x m))
+
   pub keep-intro : (test : A → Bool) (x : A) (xs : List A) → List·Memᴰ x xs → test x ≡ true → List·Memᴰ x (keep test xs)
   unfolding keep
   keep-intro test x [] m e = absurd (List·Memᴰ·not-nil m)
