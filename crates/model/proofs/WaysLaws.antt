@@ -67,18 +67,19 @@ module _ {A B : Type 0} where
   length-flat f [] = refl
   length-flat f (x ∷ xs) = length-append (f x) (flatMap f xs) ∙ ap (λ (n : ℕ). length (f x) + n) (length-flat f xs)
 
--- a range may begin later, where the factors before are 1
-product-later : (f : ℕ → ℕ) (k a n : ℕ) → ((i : ℕ) → a ≤ i → i < a + k → f i ≡ 1) → productOf f (upFrom a (k + n)) ≡ productOf f (upFrom (a + k) n)
-unfolding productOf upFrom
-product-later f zero a n h =
+-- what is kept of a range begins later, where nothing before is kept
+keep-later : (test : ℕ → Bool) (k a n : ℕ) → ((i : ℕ) → a ≤ i → i < a + k → test i ≡ false) → keep test (upFrom a (k + n)) ≡ keep test (upFrom (a + k) n)
+unfolding keep upFrom
+keep-later test zero a n h =
     let e : zero + n ≡ n = omega arith in
     let d : a ≡ a + zero = omega arith in
-    ap₂ (λ (i j : ℕ). productOf f (upFrom i j)) d e
-product-later f (suc k) a n h =
+    ap₂ (λ (i j : ℕ). keep test (upFrom i j)) d e
+keep-later test (suc k) a n h =
     let e : suc k + n ≡ suc (k + n) = omega arith in
     let d : suc a + k ≡ a + suc k = omega arith in
-    ap (λ (i : ℕ). productOf f (upFrom a i)) e ∙ ap (λ (i : ℕ). i * productOf f (upFrom (suc a) (k + n))) (h a (omega arith) (omega arith))
-    ∙ one-mul (productOf f (upFrom (suc a) (k + n))) ∙ product-later f k (suc a) n (λ i l u. h i (omega arith) (omega arith)) ∙ ap (λ (i : ℕ). productOf f (upFrom i n)) d
+    ap (λ (i : ℕ). keep test (upFrom a i)) e
+    ∙ ap (λ (b : Bool). elim b as (λ _. List ℕ) [ true ↦ a ∷ keep test (upFrom (suc a) (k + n)) | false ↦ keep test (upFrom (suc a) (k + n)) ]) (h a (omega arith) (omega arith))
+    ∙ keep-later test k (suc a) n (λ i l u. h i (omega arith) (omega arith)) ∙ ap (λ (i : ℕ). keep test (upFrom i n)) d
 
 -- ---- the number of ways
 
@@ -92,6 +93,23 @@ module _ (m : ℕ) (parent : ℕ → ℕ) (places : ℕ → ℕ → List ℕ) (T
       let e : parent d ≡ c = eqb-true (parent d) c (and-right (ltb 0 d) (eqb (parent d) c) (r .1)) in
       let h : d < m = omega arith in
       (subst (λ (i : ℕ). i < d) e (T .earlier d z h), h)
+
+  -- the children of c are after c
+  pub children-after : (c : ℕ) → c < m → childrenOf m parent c ≡ keep (λ d. ltb 0 d && eqb (parent d) c) (upFrom (suc c) (m - suc c))
+  unfolding childrenOf
+  children-after c h =
+      let e : m ≡ suc c + (m - suc c) = omega arith in
+      let f : 0 + suc c ≡ suc c = omega arith in
+      ap (λ (i : ℕ). keep test (upFrom 0 i)) e ∙ keep-later test (suc c) 0 (m - suc c) (λ i l u. before i (omega arith)) ∙ ap (λ (i : ℕ). keep test (upFrom i (m - suc c))) f
+    where
+      test : ℕ → Bool
+      test d = ltb 0 d && eqb (parent d) c
+
+      before : (i : ℕ) → i < suc c → test i ≡ false
+      before zero u = refl
+      before (suc i) u =
+          let l : parent (suc i) < suc i = T .earlier (suc i) (omega arith) (omega arith) in
+          ap₂ (λ (a b : Bool). a && b) (lt-ltb 0 (suc i) (omega arith)) (ne-eqb (parent (suc i)) c (λ w. omega arith))
 
   -- a bound that reaches the last node is as good as any
   ways-enough : (n k c x : ℕ) → m ≤ n + c → m ≤ k + c → c < m → waysIn n m parent places c x ≡ waysIn k m parent places c x
@@ -152,28 +170,20 @@ module _ (m : ℕ) (parent : ℕ → ℕ) (places : ℕ → ℕ → List ℕ) (T
           let u : parent c ≡ q → ⊥ = eqb-false (parent c) q f in
           factor-out (suc q) (es ++ v ∷ []) c (omega arith) ∙ sym (ap₂ _*_ (child-out q v c z u) (factor-out q es c l))
 
-  -- the children of q are after q
+  left-factors : (q : ℕ) (es : List ℕ) → waysLeft m parent places q es ≡ productOf (factor q es) (upFrom q (m - q))
+  unfolding waysLeft
+  left-factors q es = product-keep (λ c. ways m parent places c (imageIn es (parent c))) (λ c. ltb (parent c) q) (upFrom q (m - q))
+
   children-factors : (q v : ℕ) → q < m → productOf (λ d. ways m parent places d v) (childrenOf m parent q) ≡ productOf (childFactor q v) (upFrom (suc q) (m - suc q))
-  unfolding childrenOf
   children-factors q v h =
-      let e : m ≡ suc q + (m - suc q) = omega arith in
-      product-keep (λ d. ways m parent places d v) (λ d. ltb 0 d && eqb (parent d) q) (upFrom 0 m)
-      ∙ ap (λ (i : ℕ). productOf (childFactor q v) (upFrom 0 i)) e
-      ∙ product-later (childFactor q v) (suc q) 0 (m - suc q) (λ i l u. before i (omega arith))
-      ∙ ap (λ (i : ℕ). productOf (childFactor q v) (upFrom i (m - suc q))) (omega arith)
-    where
-      before : (i : ℕ) → i < suc q → childFactor q v i ≡ 1
-      before zero u = refl
-      before (suc i) u =
-          let l : parent (suc i) < suc i = T .earlier (suc i) (omega arith) (omega arith) in
-          child-out q v (suc i) (omega arith) (λ w. omega arith)
+      ap (productOf (λ d. ways m parent places d v)) (children-after q h) ∙ product-keep (λ d. ways m parent places d v) (λ d. ltb 0 d && eqb (parent d) q) (upFrom (suc q) (m - suc q))
 
   ways-next : (es : List ℕ) (v : ℕ) → length es < m
       → waysLeft m parent places (suc (length es)) (es ++ v ∷ [])
       ≡ productOf (λ d. ways m parent places d v) (childrenOf m parent (length es)) * productOf (factor (length es) es) (upFrom (suc (length es)) (m - suc (length es)))
-  unfolding waysLeft
   ways-next es v h =
-      product-agree (factor (suc q) (es ++ v ∷ [])) (λ c. childFactor q v c * factor q es c) range (λ c k. (let u = upFrom-mem (suc q) (m - suc q) c k in factor-next es v c (omega arith)))
+      left-factors (suc q) (es ++ v ∷ [])
+      ∙ product-agree (factor (suc q) (es ++ v ∷ [])) (λ c. childFactor q v c * factor q es c) range (λ c k. (let u = upFrom-mem (suc q) (m - suc q) c k in factor-next es v c (omega arith)))
       ∙ product-times (childFactor q v) (factor q es) range ∙ ap (λ (i : ℕ). i * productOf (factor q es) range) (sym (children-factors q v h))
     where
       q : ℕ
@@ -185,19 +195,19 @@ module _ (m : ℕ) (parent : ℕ → ℕ) (places : ℕ → ℕ → List ℕ) (T
   ways-split : (es : List ℕ) → 0 < length es → length es < m
       → waysLeft m parent places (length es) es
       ≡ ways m parent places (length es) (imageIn es (parent (length es))) * productOf (factor (length es) es) (upFrom (suc (length es)) (m - suc (length es)))
-  unfolding waysLeft productOf upFrom
+  unfolding productOf upFrom
   ways-split es z h =
       let q : ℕ = length es in
       let e : m - q ≡ suc (m - suc q) = omega arith in
-      ap (λ (i : ℕ). productOf (factor q es) (upFrom q i)) e ∙ ap (λ (i : ℕ). i * productOf (factor q es) (upFrom (suc q) (m - suc q))) (factor-in q es q (T .earlier q z h))
+      left-factors q es ∙ ap (λ (i : ℕ). productOf (factor q es) (upFrom q i)) e ∙ ap (λ (i : ℕ). i * productOf (factor q es) (upFrom (suc q) (m - suc q))) (factor-in q es q (T .earlier q z h))
 
   -- ---- the number of completions
 
   pub length-completions : (n : ℕ) (es : List ℕ) → 0 < length es → n + length es ≡ m → length (completions parent places n es) ≡ waysLeft m parent places (length es) es
-  unfolding completions waysLeft productOf upFrom
+  unfolding completions productOf upFrom
   length-completions zero es z e =
       let k : m - length es ≡ 0 = omega arith in
-      sym (ap (λ (i : ℕ). productOf (factor (length es) es) (upFrom (length es) i)) k)
+      sym (left-factors (length es) es ∙ ap (λ (i : ℕ). productOf (factor (length es) es) (upFrom (length es) i)) k)
   length-completions (suc n) es z e =
       let h : length es < m = omega arith in
       length-flat (λ v. completions parent places n (es ++ v ∷ [])) (places q x)
@@ -276,16 +286,7 @@ module _ (K m : ℕ) (parent : ℕ → ℕ) (places : ℕ → ℕ → List ℕ) 
       (sum-agree (λ y. min K (productOf (λ d. ways m parent places d y) (childrenOf m parent c))) (λ y. min K (productOf (λ d. min K (ways m parent places d y)) (childrenOf m parent c))) (places c x)
       (λ y k. sym (product-capped K (λ d. ways m parent places d y) (childrenOf m parent c))))
 
-  pub left-capped : (q : ℕ) (es : List ℕ) → 0 < K
-      → min K (waysLeft m parent places q es)
-      ≡ min K (productOf (λ c. elim (ltb (parent c) q) [ true ↦ min K (ways m parent places c (imageIn es (parent c))) | false ↦ 1 ]) (upFrom q (m - q)))
+  pub left-capped : (q : ℕ) (es : List ℕ)
+      → min K (waysLeft m parent places q es) ≡ min K (productOf (λ c. min K (ways m parent places c (imageIn es (parent c)))) (keep (λ c. ltb (parent c) q) (upFrom q (m - q))))
   unfolding waysLeft
-  left-capped q es z =
-      sym (product-capped K (factor m parent places T q es) (upFrom q (m - q)))
-      ∙ ap (min K)
-      (product-agree (λ c. min K (factor m parent places T q es c)) (λ c. orOne (min K (ways m parent places c (imageIn es (parent c)))) (ltb (parent c) q)) (upFrom q (m - q))
-      (λ c k. go (ltb (parent c) q) (ways m parent places c (imageIn es (parent c)))))
-    where
-      go : (b : Bool) (n : ℕ) → min K (orOne n b) ≡ orOne (min K n) b
-      go true n = refl
-      go false n = omega arith
+  left-capped q es = sym (product-capped K (λ c. ways m parent places c (imageIn es (parent c))) (keep (λ c. ltb (parent c) q) (upFrom q (m - q))))

@@ -46,11 +46,10 @@ waysIn (suc n) m parent places c x = sumOf (λ y. productOf (λ d. waysIn n m pa
 unfoldable pub ways : ℕ → (ℕ → ℕ) → (ℕ → ℕ → List ℕ) → ℕ → ℕ → ℕ
 ways m = waysIn m m
 
--- in how many ways the nodes from q on can be placed, after the images of the first q: those whose parent is placed stand for all
--- below them
+-- in how many ways the nodes from q on can be placed, after the images es of the first q: those whose parent is placed stand for
+-- all below them
 unfoldable pub waysLeft : ℕ → (ℕ → ℕ) → (ℕ → ℕ → List ℕ) → ℕ → List ℕ → ℕ
-waysLeft m parent places q es =
-    productOf (λ c. elim (ltb (parent c) q) [ true ↦ ways m parent places c (imageIn es (parent c)) | false ↦ 1 ]) (upFrom q (m - q))
+waysLeft m parent places q es = productOf (λ c. ways m parent places c (imageIn es (parent c))) (keep (λ c. ltb (parent c) q) (upFrom q (m - q)))
 
 -- the run over n trials that all pass: they are counted, or the limit is met among them
 unfoldable pub skip : ℕ → ℕ → ℕ → Progress
