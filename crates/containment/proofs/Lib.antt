@@ -11,6 +11,9 @@ pub mod SetLoops
 pub mod Judging
 pub mod TableSets
 pub mod StepLoop
+pub mod RowLaws
+pub mod SkipTables
 pub mod Deciding
 pub mod CaseLaws
 pub mod AnswerLaws
+pub mod Skipping

@@ -2,13 +2,13 @@
 -- at least the intersection over its places; and a partial placement that meets by such least offers meets by what any completion
 -- offers. So all completions pass, and the run over them only advances the counters by their number. Assumes nothing.
 use Prim.Native.Nat.{ℕ, zero, suc, _+_, _-_, _≤_, _<_, min}
-use mathlib.Core.Path.{_≡_, refl, sym, ap, ap₂, _∙_, subst}
+use mathlib.Core.Path.{_≡_, refl, sym, ap, _∙_, subst}
 use mathlib.Core.Bool.{Bool, true, false, _&&_}
 use mathlib.Core.Logic.{inr}
 use mathlib.Core.List.{List, [], _∷_, _++_, List·Memᴰ, List·Memᴰ·eq-of-singleton}
 use native.Mathlib.Omega.{arith}
 use lib.Dec.{eqb, ltb}
-use lib.ListN.{length, take, List·getD-append}
+use lib.ListN.{length, List·getD-append}
 use lib.Seq.{getD-append-seam}
 use borrow.Author.Tests.{ltb-true, ltb-false, lt-ltb, le-ltb, eqb-true, eqb-false}
 use Rattle.model.specs.Lists.{upFrom, anyOf, allOf}
@@ -20,7 +20,7 @@ use Rattle.model.specs.Canonical.{chain}
 use Rattle.model.specs.Quick.{hangsFrom, meets, closed, union, hang, given, quick}
 use Rattle.model.specs.Verdict.{Progress, going, halted, run}
 use Rattle.model.specs.Skipping.{completions, waysLeft, skip, lowIn, low, sureIn, sure, surely}
-use Rattle.model.proofs.ListLaws.{and-intro, and-left, and-right, any-agree, all-agree, any-below, all-elim, flat-elim, length-snoc, upFrom-mem}
+use Rattle.model.proofs.ListLaws.{and-left, and-right, any-agree, all-agree, any-below, all-elim, flat-elim, length-snoc, upFrom-mem}
 use Rattle.model.proofs.NodeByNode.{UnderOf, under-lt}
 use Rattle.model.proofs.QuickLaws.{Within, hangs-under, meets-more, union-more, hang-more, given-intro, given-equation}
 use Rattle.model.proofs.Verdict.{AllPass, run-pass, run-stop, take-mem}
@@ -111,7 +111,7 @@ module _ (S : Summary) (P Q : Pattern) (places : ℕ → ℕ → List ℕ) (T : 
   low-equation c x p h = low-enough (length P) (suc (length P)) c x p (omega arith) (omega arith) h
 
   -- what child c of j passes on at least, where `sures c` hangs from it
-  abbrev passed : (ℕ → ℕ → Bool) → ℕ → List ℕ → ℕ → ℕ → ℕ → Bool
+  abbrev pub passed : (ℕ → ℕ → Bool) → ℕ → List ℕ → ℕ → ℕ → ℕ → Bool
   passed sures q es j c p =
       elim (ltb c q) as (λ _. Bool) [
         | true ↦ hang S Q (position P c) (sures c) (chain S (imageIn es j) (imageIn es c)) p

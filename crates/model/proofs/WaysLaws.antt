@@ -5,7 +5,6 @@
 use Prim.Native.Nat.{ℕ, zero, suc, _+_, _-_, _*_, _≤_, _<_, min}
 use mathlib.Core.Path.{_≡_, refl, sym, ap, ap₂, _∙_, subst}
 use mathlib.Core.Bool.{Bool, true, false, _&&_}
-use mathlib.Core.Logic.{_⊎_, inl, inr}
 use mathlib.Core.List.{List, [], _∷_, _++_, flatMap, List·Memᴰ, List·Memᴰ·head, List·Memᴰ·tail}
 use native.Mathlib.Omega.{arith}
 use native.Mathlib.Nat.{add-mul, one-mul, mul-one, mul-zero, zero-mul, mul-comm, mul-mul-mul-comm, le-mul-of-pos-right, min-eq-left, min-eq-right}
@@ -84,7 +83,8 @@ keep-later test (suc k) a n h =
 -- ---- the number of ways
 
 module _ (m : ℕ) (parent : ℕ → ℕ) (places : ℕ → ℕ → List ℕ) (T : Rooted m parent) where
-  children-later : (c d : ℕ) → List·Memᴰ d (childrenOf m parent c) → (c < d) × (d < m)
+  -- a child has the greater number
+  pub children-later : (c d : ℕ) → List·Memᴰ d (childrenOf m parent c) → (c < d) × (d < m)
   unfolding childrenOf
   children-later c d k =
       let r = keep-elim (λ d. ltb 0 d && eqb (parent d) c) d (upFrom 0 m) k in

@@ -1,0 +1,322 @@
+-- Skipping by the tables is the model's. The places that stepping takes are the model's places, so what it lists are the completions;
+-- by the tables what each node passes on at least is the model's, and so is the number of completions up to the cap. Assumes nothing.
+use Prim.Native.Nat.{ℕ, zero, suc, _+_, _-_, _*_, _≤_, _<_, min}
+use mathlib.Core.Path.{_≡_, refl, sym, ap, ap₂, _∙_, subst}
+use mathlib.Core.Bool.{Bool, true, false, _&&_}
+use mathlib.Core.Logic.{_⊎_, inl, inr}
+use mathlib.Core.List.{List, [], _∷_, _++_, List·Memᴰ}
+use native.Mathlib.Omega.{arith}
+use native.Mathlib.Nat.{one-mul, eq-zero-or-pos}
+use lib.Bits.{bitAnd, bitOr}
+use lib.Dec.{eqb, ltb}
+use lib.ListN.{length, getD, take, replicate, length-replicate, getD-replicate}
+use lib.Seq.{length-take-le, getD-take}
+use borrow.Author.Tests.{ltb-true, ltb-false, eqb-true}
+use Rattle.model.specs.Lists.{upFrom, keep, anyOf, maskBelow}
+use Rattle.model.specs.Tree.{Rooted, Edge, Below}
+use Rattle.model.specs.Summary.{Summary, asDocument}
+use Rattle.model.specs.Pattern.{Pattern, IsPatternTree, patternParent, descends, position, Embeds}
+use Rattle.model.specs.Embeddings.{edgeTest, imageIn, isPath}
+use Rattle.model.specs.Canonical.{chain}
+use Rattle.model.specs.Facts.{SummaryFacts}
+use Rattle.model.specs.Quick.{hangsFrom, meets, closed, union, hang}
+use Rattle.model.specs.Verdict.{going, run}
+use Rattle.model.specs.Skipping.{placesOf, productOf, completions, ways, waysLeft, skip, low, sure, surely}
+use Rattle.model.proofs.ListLaws.{and-left, and-right, upFrom-mem, keep-elim, any-agree}
+use Rattle.model.proofs.Masks.{has, mask-below, mask-none}
+use Rattle.model.proofs.TreeLaws.{test-edge, edge-below, length-asDocument}
+use Rattle.model.proofs.Verdict.{AllPass}
+use Rattle.model.proofs.WaysLaws.{product-agree, length-completions}
+use Rattle.model.proofs.Skipping.{Completes, completions-sound, passed, sure-equation, surely-completed, run-skip, skip-capped}
+use Rattle.bits.proofs.MaskLaws.{mask-or, mask-and}
+use Rattle.containment.specs.Judging.{gather, meetsBy, Sets, hangBy, passBy, judgeBy}
+use Rattle.containment.specs.Prepared.{ChainSets, Columns, StepSets}
+use Rattle.containment.specs.Stepping.{members, stepFrom, sitesBy}
+use Rattle.containment.specs.Skipping.{placesBy, loop, cell, lowTable, waysTable, sureBy, surelyBy, leftBy, PlacedBy, MaySkip}
+use Rattle.containment.proofs.KeepLaws.{flat-agree}
+use Rattle.containment.proofs.MemberLaws.{members-mask}
+use Rattle.containment.proofs.SetLaws.{meets-mask}
+use Rattle.containment.proofs.ChainLaws.{hang-mask}
+use Rattle.containment.proofs.GatherLaws.{gather-entries}
+use Rattle.containment.proofs.Judging.{judge-quick}
+use Rattle.containment.proofs.Deciding.{reach-mask, path-parts}
+use Rattle.containment.proofs.RowLaws.{loop-keep, loop-product}
+use Rattle.containment.proofs.SkipTables.{columns-rooted, ways-table, low-table}
+
+-- ---- completions
+
+-- stepping goes through the completions
+pub steps-completions : (parents edges children descendants parts : List ℕ) (n : ℕ) (es : List ℕ)
+    → stepFrom (sitesBy parents edges children descendants parts) n es ≡ completions (λ c. getD parents c 0) (λ c x. members (placesBy edges children descendants parts c x)) n es
+unfolding stepFrom completions sitesBy placesBy
+steps-completions parents edges children descendants parts zero es = refl
+steps-completions parents edges children descendants parts (suc n) es =
+    flat-agree (λ v. stepFrom (sitesBy parents edges children descendants parts) n (es ++ v ∷ [])) (λ v. completions (λ c. getD parents c 0) (λ c x. members (placesBy edges children descendants parts c x)) n (es ++ v ∷ []))
+    (members (sitesBy parents edges children descendants parts es)) (λ v k. steps-completions parents edges children descendants parts n (es ++ v ∷ []))
+
+-- ---- how many
+
+module _ (m n : ℕ) (parents counts : List ℕ) (places : ℕ → ℕ → List ℕ) (K : ℕ) (some : 0 < K)
+    (counted : (c x : ℕ) → 0 < c → c < m → x < n → getD counts (cell c x) 0 ≡ min K (ways m (λ c. getD parents c 0) places c x)) where
+  abbrev up : ℕ → ℕ
+  up c = getD parents c 0
+
+  -- the nodes from q on whose parent is placed
+  abbrev free : ℕ → List ℕ
+  free q = keep (λ c. ltb (up c) q) (upFrom q (m - q))
+
+  free-says : (q c : ℕ) → q ≤ m → List·Memᴰ c (free q) → (q ≤ c) × (c < m) × (up c < q)
+  free-says q c l k =
+      let r = keep-elim (λ c. ltb (up c) q) c (upFrom q (m - q)) k in
+      let u = upFrom-mem q (m - q) c (r .0) in
+      (u .0, omega arith, ltb-true (up c) q (r .1))
+
+  pub left-right : (q : ℕ) (es : List ℕ) → 0 < q → q ≤ m → ((j : ℕ) → j < q → getD es j 0 < n) → leftBy K parents counts m q es ≡ min K (waysLeft m up places q es)
+  unfolding leftBy waysLeft
+  left-right q es z l inside =
+      let one : 1 ≡ min K 1 = omega arith in
+      loop-keep (λ c. ltb (up c) q) (λ acc c. min K (acc * getD counts (cell c (getD es (up c) 0)) 0)) 1 (upFrom q (m - q))
+      ∙ ap (λ (a : ℕ). loop (λ acc c. min K (acc * getD counts (cell c (getD es (up c) 0)) 0)) a (free q)) one
+      ∙ loop-product K (λ c. getD counts (cell c (getD es (up c) 0)) 0) (λ c. ways m up places c (getD es (up c) 0)) 1 (free q) (λ c k. (let r = free-says q c l k in counted c (getD es (up c) 0) (omega arith) (r .1) (inside (up c) (r .2))))
+      ∙ ap (min K) (one-mul (productOf (λ c. ways m up places c (getD es (up c) 0)) (free q)))
+
+  -- only the first q images are read
+  pub left-take : (q : ℕ) (es : List ℕ) → q ≤ m → waysLeft m up places q (take q es) ≡ waysLeft m up places q es
+  unfolding waysLeft
+  left-take q es l =
+      product-agree (λ c. ways m up places c (getD (take q es) (up c) 0)) (λ c. ways m up places c (getD es (up c) 0)) (free q)
+      (λ c k. (let r = free-says q c l k in ap (ways m up places c) (getD-take q es (up c) 0 (r .2))))
+
+-- ---- with the right tables
+
+module _ (S : Summary) (P Q : Pattern) (T : Sets) (parents edges positions children descendants parts : List ℕ) (C : ChainSets S Q T) (K : Columns P parents positions)
+    (Z : StepSets S P edges children descendants parts) (s : SummaryFacts S) (p : IsPatternTree P) (narrow : length S ≤ 64) (small : length P ≤ 16) where
+  abbrev parent : ℕ → ℕ
+  parent c = getD parents c 0
+
+  abbrev masks : ℕ → ℕ → ℕ
+  masks = placesBy edges children descendants parts
+
+  abbrev places : ℕ → ℕ → List ℕ
+  places c x = members (masks c x)
+
+  rooted : Rooted (length P) parent
+  rooted = columns-rooted P parents positions K p
+
+  -- what a place says
+  record Place (c x y : ℕ) : Type 0 where
+    edge : Edge (descends P c) (asDocument S) x y
+    path : isPath S P c y ≡ true
+    inside : y < length S
+
+  place-mask : (c x : ℕ) → c < length P → x < length S → masks c x ≡ maskBelow (λ y. edgeTest (descends P c) (asDocument S) x y && isPath S P c y) (length S)
+  unfolding placesBy
+  place-mask c x h l =
+      ap₂ bitAnd (reach-mask S P parents edges positions children descendants parts K Z x c l h) (Z .part c h) ∙ mask-and (edgeTest (descends P c) (asDocument S) x) (isPath S P c) (length S)
+
+  -- the places by masks are the model's
+  pub places-right : (c x : ℕ) → c < length P → x < length S → members (placesBy edges children descendants parts c x) ≡ placesOf S P c x
+  unfolding placesOf
+  places-right c x h l = ap members (place-mask c x h l) ∙ members-mask (λ y. edgeTest (descends P c) (asDocument S) x y && isPath S P c y) (length S) narrow
+
+  place-says : (c x y : ℕ) → c < length P → x < length S → List·Memᴰ y (places c x) → Place c x y
+  unfolding placesOf
+  place-says c x y h l m =
+      let k = keep-elim test y (upFrom 0 (length S)) (subst (λ (ys : List ℕ). List·Memᴰ y ys) (places-right c x h l) m) in
+      let i = upFrom-mem 0 (length S) y (k .0) in
+      record {
+        edge = test-edge (descends P c) (asDocument S) x y (s .tree) (and-left (edgeTest (descends P c) (asDocument S) x y) (isPath S P c y) (k .1));
+        path = and-right (edgeTest (descends P c) (asDocument S) x y) (isPath S P c y) (k .1);
+        inside = omega arith;
+      }
+    where
+      test : ℕ → Bool
+      test y = edgeTest (descends P c) (asDocument S) x y && isPath S P c y
+
+  reached : (c x y : ℕ) → 0 < c → c < length P → x < length S → List·Memᴰ y (places c x) → Below (asDocument S) x y
+  reached c x y z h l m = edge-below (descends P c) (asDocument S) x y (place-says c x y h l m .edge)
+
+  root-inside : 0 < length S
+  root-inside = subst (λ (n : ℕ). 0 < n) (length-asDocument S) (s .tree .inhabited)
+
+  -- ---- images that stand at places of theirs
+
+  module _ (q : ℕ) (es : List ℕ) (le : q ≤ length P) (root : imageIn es 0 ≡ 0) (chosen : (c : ℕ) → 0 < c → c < q → List·Memᴰ (imageIn es c) (places c (imageIn es (parent c)))) where
+    inside-below : (n c : ℕ) → c < n → c < q → imageIn es c < length S
+    inside-below zero c i h = absurd (omega arith)
+    inside-below (suc n) c i h = go (eq-zero-or-pos c) (λ j l k. inside-below n j l k)
+      where
+        go : (c ≡ 0) ⊎ (0 < c) → ((j : ℕ) → j < n → j < q → imageIn es j < length S) → imageIn es c < length S
+        go (inl e) rest = subst (λ (x : ℕ). x < length S) (sym (ap (imageIn es) e ∙ root)) root-inside
+        go (inr z) rest =
+            let l : parent c < c = rooted .earlier c z (omega arith) in
+            place-says c (imageIn es (parent c)) (imageIn es c) (omega arith) (rest (parent c) (omega arith) (omega arith)) (chosen c z h) .inside
+
+    images-inside : (c : ℕ) → c < q → imageIn es c < length S
+    images-inside c h = inside-below (suc c) c (omega arith) h
+
+    images-place : (c : ℕ) → 0 < c → c < q → Place c (imageIn es (parent c)) (imageIn es c)
+    images-place c z h =
+        let l : parent c < c = rooted .earlier c z (omega arith) in
+        place-says c (imageIn es (parent c)) (imageIn es c) (omega arith) (images-inside (parent c) (omega arith)) (chosen c z h)
+
+    -- what every node passes on at least
+
+    module _ (lows : List ℕ) (lowest : (c x : ℕ) → 0 < c → c < length P → x < length S → getD lows (cell c x) 0 ≡ maskBelow (low S P Q places c x) (length Q)) where
+      abbrev sures : ℕ → ℕ → Bool
+      sures = sure S P Q places q es
+
+      -- c to its parent
+      abbrev handed : ℕ → ℕ → Bool
+      handed c = passed S P Q places p sures q es (parent c) c
+
+      hung : (c : ℕ) → 0 < c → c < q → passBy T parents positions es c (maskBelow (sures c) (length Q)) ≡ maskBelow (hang S Q (position P c) (sures c) (chain S (imageIn es (parent c)) (imageIn es c))) (length Q)
+      unfolding passBy
+      hung c z h =
+          ap (λ (k : ℕ). hangBy T (imageIn es (parent c)) (imageIn es c) k (maskBelow (sures c) (length Q))) (K .place c (omega arith))
+          ∙ hang-mask S Q T C (s .tree) (imageIn es (parent c)) (imageIn es c) (position P c) (sures c) (edge-below (descends P c) (asDocument S) (imageIn es (parent c)) (imageIn es c) (images-place c z h .edge)) (K .range c (omega arith))
+
+      passes : (c : ℕ) → 0 < c → c < length P → sureBy T parents positions lows q es c (maskBelow (sures c) (length Q)) ≡ maskBelow (handed c) (length Q)
+      unfolding sureBy
+      passes c z h = go (ltb c q) refl
+        where
+          lower : (b : Bool) → ltb (parent c) q ≡ b
+              → (elim b as (λ _. ℕ) [ true ↦ getD lows (cell c (imageIn es (parent c))) 0 | false ↦ 0 ]) ≡ maskBelow (λ r. b && low S P Q places c (imageIn es (parent c)) r) (length Q)
+          lower true e = lowest c (imageIn es (parent c)) z h (images-inside (parent c) (ltb-true (parent c) q e))
+          lower false e = sym (mask-none (λ _. false) (length Q) (λ r k. refl))
+
+          go : (b : Bool) → ltb c q ≡ b
+              → (elim b as (λ _. ℕ) [ true ↦ passBy T parents positions es c (maskBelow (sures c) (length Q)) | false ↦ elim (ltb (parent c) q) as (λ _. ℕ) [ true ↦ getD lows (cell c (imageIn es (parent c))) 0 | false ↦ 0 ] ])
+              ≡ maskBelow (λ r. elim b as (λ _. Bool) [ true ↦ hang S Q (position P c) (sures c) (chain S (imageIn es (parent c)) (imageIn es c)) r | false ↦ ltb (parent c) q && low S P Q places c (imageIn es (parent c)) r ]) (length Q)
+          go true e = hung c z (ltb-true c q e)
+          go false e = lower (ltb (parent c) q) refl
+
+      -- what hangs from j hangs from the parent, where j is the parent
+      at-parent : (f : ℕ → Bool) (j c : ℕ) → c < length P → (hangsFrom P j c && f j) ≡ (ltb 0 c && eqb (parent c) j && f (parent c))
+      unfolding hangsFrom
+      at-parent f j c h = ap (λ (u : ℕ). ltb 0 c && eqb u j && f j) (sym (K .parent c h)) ∙ go (eqb (parent c) j) refl
+        where
+          shut : (a b b′ : Bool) → (a && false && b) ≡ (a && false && b′)
+          shut true b b′ = refl
+          shut false b b′ = refl
+
+          go : (b : Bool) → eqb (parent c) j ≡ b → (ltb 0 c && b && f j) ≡ (ltb 0 c && b && f (parent c))
+          go true e = ap (λ (u : ℕ). ltb 0 c && true && f u) (sym (eqb-true (parent c) j e))
+          go false e = shut (ltb 0 c) (f j) (f (parent c))
+
+      sum : (j r : ℕ) → j < length P → sures j r ≡ anyOf (λ c. ltb 0 c && eqb (parent c) j && handed c r) (upFrom 0 (length P))
+      sum j r h =
+          sure-equation S P Q places p q es j r h
+          ∙ any-agree (λ c. hangsFrom P j c && passed S P Q places p sures q es j c r) (λ c. ltb 0 c && eqb (parent c) j && handed c r) (upFrom 0 (length P))
+          (λ c m. (let k = upFrom-mem 0 (length P) c m in at-parent (λ i. passed S P Q places p sures q es i c r) j c (omega arith)))
+
+      sure-mask : getD (gather parent (sureBy T parents positions lows q es) (length P - 1) (replicate 16 0)) 0 0 ≡ maskBelow (sures 0) (length Q)
+      sure-mask =
+          gather-entries (length P) (length Q) parent (sureBy T parents positions lows q es) sures handed (rooted .earlier) passes (λ j r h k. sum j r h)
+          (replicate 16 0) 0 (subst (λ (l : ℕ). length P ≤ l) (sym (length-replicate {A = ℕ} 16 0)) small) (λ y h. getD-replicate {A = ℕ} 16 y 0 0 (omega arith)) (p .inhabited)
+
+      -- the test by masks is the model's
+      pub surely-right : 0 < length Q → surelyBy T parents positions lows (length P) q es ≡ surely S P Q places q es
+      unfolding surelyBy surely
+      surely-right z =
+          ap (λ (k : ℕ). at k (bitOr (getD (T .closed) 0 0) (getD (gather parent (sureBy T parents positions lows q es) (length P - 1) (replicate 16 0)) 0 0))) (K .place 0 (p .inhabited))
+          ∙ ap (at (position P 0)) (ap₂ bitOr (C .closes 0 root-inside) sure-mask ∙ mask-or (closed S Q 0) (sures 0) (length Q))
+          ∙ ap (λ (m : ℕ). has m 0) (meets-mask S Q (T .fitting) (T .allowed) (T .low) (T .high) (T .deep) (C .node) 0 (position P 0) (union (closed S Q 0) (sures 0)) root-inside (K .range 0 (p .inhabited)))
+          ∙ mask-below (meets S Q 0 (position P 0) (union (closed S Q 0) (sures 0))) (length Q) 0 z
+        where
+          at : ℕ → ℕ → Bool
+          at k m = has (meetsBy (T .fitting) (T .allowed) (T .low) (T .high) 0 k m) 0
+
+  -- ---- all completions pass, and are so many
+
+  module _ (q : ℕ) (es : List ℕ) (z : 0 < q) (le : q ≤ length P) (long : q ≤ length es) (G : PlacedBy parents masks (getD parts 0 0) q es) where
+    -- a completion's images stand at places of theirs, so it is an embedding
+    module _ (fs : List ℕ) (M : Completes (length P) parent places q es fs) where
+      root-kept : imageIn fs 0 ≡ 0
+      root-kept = M .kept 0 z ∙ G .first
+
+      all-chosen : (c : ℕ) → 0 < c → c < length P → List·Memᴰ (imageIn fs c) (places c (imageIn fs (parent c)))
+      all-chosen c i h = go (ltb c q) refl
+        where
+          go : (b : Bool) → ltb c q ≡ b → List·Memᴰ (imageIn fs c) (places c (imageIn fs (parent c)))
+          go true e =
+              let k : c < q = ltb-true c q e in
+              let l : parent c < c = rooted .earlier c i h in
+              subst (λ (y : ℕ). List·Memᴰ y (places c (imageIn fs (parent c)))) (sym (M .kept c k))
+              (subst (λ (x : ℕ). List·Memᴰ (imageIn es c) (places c x)) (sym (M .kept (parent c) (omega arith))) (G .placed c i k))
+          go false e = M .placed c (ltb-false c q e) h
+
+      stands : (c : ℕ) → 0 < c → c < length P → Place c (imageIn fs (parent c)) (imageIn fs c)
+      stands = images-place (length P) fs (omega arith) root-kept all-chosen
+
+      path : (c : ℕ) → c < length P → isPath S P c (imageIn fs c) ≡ true
+      path zero h =
+          subst (λ (x : ℕ). isPath S P 0 x ≡ true) (sym root-kept)
+          (sym (ap (λ (m : ℕ). has m 0) (Z .part 0 h) ∙ mask-below (isPath S P 0) (length S) 0 root-inside) ∙ G .top)
+      path (suc c) h = stands (suc c) (omega arith) h .path
+
+      within : (c : ℕ) → c < length P → imageIn fs c < length (asDocument S)
+      within c h = subst (λ (n : ℕ). imageIn fs c < n) (sym (length-asDocument S)) (images-inside (length P) fs (omega arith) root-kept all-chosen c h)
+
+      completed-embeds : Embeds P (asDocument S) (imageIn fs)
+      completed-embeds =
+          record {
+            inside = within;
+            root = root-kept;
+            labels = λ c h. path-parts S P s p .label c (imageIn fs c) h (within c h) (path c h);
+            edges = λ c i h. subst (λ (j : ℕ). Edge (descends P c) (asDocument S) (imageIn fs j) (imageIn fs c)) (K .parent c h) (stands c i h .edge);
+          }
+
+      -- by the model's parents
+      completed : Completes (length P) (patternParent P) places q es fs
+      completed = record { kept = M .kept; placed = λ c l h. subst (λ (j : ℕ). List·Memᴰ (imageIn fs c) (places c (imageIn fs j))) (K .parent c h) (M .placed c l h) }
+
+    -- what stepping lists
+    listed : (fs : List ℕ) → List·Memᴰ fs (completions parent places (length P - q) (take q es)) → Completes (length P) parent places q es fs
+    listed fs k =
+        let n : length (take q es) ≡ q = length-take-le q es long in
+        let m = completions-sound rooted (length P - q) (take q es) fs (omega arith) (omega arith) k in
+        record {
+          kept = λ c h. m .kept c (omega arith) ∙ getD-take q es c 0 h;
+          placed = λ c l h. m .placed c (omega arith) h;
+        }
+
+    module _ (lows : List ℕ) (lowest : (c x : ℕ) → 0 < c → c < length P → x < length S → getD lows (cell c x) 0 ≡ maskBelow (low S P Q places c x) (length Q)) (y : 0 < length Q) where
+      pub surely-all : surelyBy T parents positions lows (length P) q es ≡ true → AllPass (judgeBy T parents positions (length P)) (completions parent places (length P - q) (take q es))
+      surely-all e fs k =
+          let m = listed fs k in
+          judge-quick S P Q T parents positions fs C K (s .tree) p small (completed-embeds fs m) y
+          ∙ surely-completed S P Q places p q es fs (completed fs m) z (sym (surely-right q es le (G .first) (G .placed) lows lowest y) ∙ e)
+
+    -- their number, up to the cap
+    module _ (cap : ℕ) (counts : List ℕ) (some : 0 < cap) (counted : (c x : ℕ) → 0 < c → c < length P → x < length S → getD counts (cell c x) 0 ≡ min cap (ways (length P) parent places c x)) where
+      pub count-all : min cap (length (completions parent places (length P - q) (take q es))) ≡ leftBy cap parents counts (length P) q es
+      count-all =
+          let n : length (take q es) ≡ q = length-take-le q es long in
+          ap (min cap) (length-completions (length P) parent places rooted (length P - q) (take q es) (omega arith) (omega arith)
+          ∙ ap (λ (i : ℕ). waysLeft (length P) parent places i (take q es)) n ∙ left-take (length P) (length S) parents counts places cap some counted q es le)
+          ∙ sym (left-right (length P) (length S) parents counts places cap some counted q es z le (images-inside q es le (G .first) (G .placed)))
+
+  -- the tables of a case
+  abbrev pub lowsOf : List ℕ
+  lowsOf = lowTable T parents positions masks (length S) (length P) (length Q)
+
+  abbrev pub countsOf : ℕ → List ℕ
+  countsOf cap = waysTable cap parents masks (length S) (length P)
+
+  -- with them the run may be skipped
+  pub may-skip : (cap : ℕ) → 0 < cap → 0 < length Q
+      → MaySkip T parents positions (lowTable T parents positions (placesBy edges children descendants parts) (length S) (length P) (length Q)) (waysTable cap parents (placesBy edges children descendants parts) (length S) (length P)) (sitesBy parents edges children descendants parts) (placesBy edges children descendants parts) (getD parts 0 0) cap (length P)
+  may-skip cap some y =
+      record {
+        skipped = λ q left tried es z le long h G e.
+            ap (run (judgeBy T parents positions (length P)) (going left tried)) (steps-completions parents edges children descendants parts (length P - q) (take q es))
+            ∙ run-skip (judgeBy T parents positions (length P)) left tried (completions parent places (length P - q) (take q es)) (surely-all q es z le long G lowsOf lowest y e)
+            ∙ sym (skip-capped cap left tried (length (completions parent places (length P - q) (take q es))) h) ∙ ap (skip left tried) (count-all q es z le long G cap (countsOf cap) some counted);
+      }
+    where
+      lowest : (c x : ℕ) → 0 < c → c < length P → x < length S → getD lowsOf (cell c x) 0 ≡ maskBelow (low S P Q places c x) (length Q)
+      lowest = low-table S P Q T parents positions masks C K (s .tree) p reached narrow small
+
+      counted : (c x : ℕ) → 0 < c → c < length P → x < length S → getD (countsOf cap) (cell c x) 0 ≡ min cap (ways (length P) parent places c x)
+      counted = ways-table (length P) (length S) parents masks rooted cap some (λ c x v h l m. place-says c x v h l m .inside) narrow small
