@@ -3,7 +3,7 @@
 use Prim.Native.Nat.{ℕ, zero, suc, _-_, _≤_, _<_}
 use mathlib.Core.Path.{_≡_, refl, sym, ap, ap₂, _∙_, subst}
 use mathlib.Core.Bool.{Bool, true, false, _&&_, _||_, or-comm, false≢true}
-use mathlib.Core.List.{List, [], _∷_, List·Memᴰ}
+use mathlib.Core.List.{List, [], _∷_}
 use native.Mathlib.Omega.{arith}
 use lib.Bits.{bitOr}
 use lib.Dec.{eqb, ltb}
@@ -19,12 +19,6 @@ use Rattle.containment.specs.Judging.{joinUp, gather}
 -- ---- unions over ranges
 
 module _ {A : Type 0} where
-  pub any-agree : (f g : A → Bool) (xs : List A) → ((x : A) → List·Memᴰ x xs → f x ≡ g x) → anyOf f xs ≡ anyOf g xs
-  any-agree f g xs h =
-      bool-ext (anyOf f xs) (anyOf g xs)
-      (λ e. let r = any-elim f xs e in any-intro g (r .0) xs (r .1) (sym (h (r .0) (r .1)) ∙ r .2))
-      (λ e. let r = any-elim g xs e in any-intro f (r .0) xs (r .1) (h (r .0) (r .1) ∙ r .2))
-
   pub any-keep : (f g : A → Bool) (xs : List A) → anyOf f (keep g xs) ≡ anyOf (λ x. g x && f x) xs
   unfolding keep anyOf
   any-keep f g [] = refl

@@ -7,11 +7,11 @@ use mathlib.Core.Logic.{_⊎_, inl, inr}
 use mathlib.Core.List.{List, [], _∷_, _++_, List·Memᴰ}
 use native.Mathlib.Omega.{arith}
 use native.Mathlib.Nat.{one-mul, eq-zero-or-pos}
-use lib.Bits.{bitAnd, bitOr}
+use lib.Bits.{bitAnd}
 use lib.Dec.{eqb, ltb}
-use lib.ListN.{length, getD, take, replicate, length-replicate, getD-replicate}
+use lib.ListN.{length, getD, take}
 use lib.Seq.{length-take-le, getD-take}
-use borrow.Author.Tests.{ltb-true, ltb-false, eqb-true}
+use borrow.Author.Tests.{ltb-true, ltb-false}
 use Rattle.model.specs.Lists.{upFrom, keep, anyOf, maskBelow}
 use Rattle.model.specs.Tree.{Rooted, Edge, Below}
 use Rattle.model.specs.Summary.{Summary, asDocument}
@@ -19,7 +19,7 @@ use Rattle.model.specs.Pattern.{Pattern, IsPatternTree, patternParent, descends
 use Rattle.model.specs.Embeddings.{edgeTest, imageIn, isPath}
 use Rattle.model.specs.Canonical.{chain}
 use Rattle.model.specs.Facts.{SummaryFacts}
-use Rattle.model.specs.Quick.{hangsFrom, meets, closed, union, hang}
+use Rattle.model.specs.Quick.{hangsFrom, hang}
 use Rattle.model.specs.Verdict.{going, run}
 use Rattle.model.specs.Skipping.{placesOf, productOf, completions, ways, waysLeft, skip, low, sure, surely}
 use Rattle.model.proofs.ListLaws.{and-left, and-right, upFrom-mem, keep-elim, any-agree}
@@ -28,17 +28,14 @@ use Rattle.model.proofs.TreeLaws.{test-edge, edge-below, length-asDocument}
 use Rattle.model.proofs.Verdict.{AllPass}
 use Rattle.model.proofs.WaysLaws.{product-agree, length-completions}
 use Rattle.model.proofs.Skipping.{Completes, completions-sound, passed, sure-equation, surely-completed, run-skip, skip-capped}
-use Rattle.bits.proofs.MaskLaws.{mask-or, mask-and}
-use Rattle.containment.specs.Judging.{gather, meetsBy, Sets, hangBy, passBy, judgeBy}
+use Rattle.bits.proofs.MaskLaws.{mask-and}
+use Rattle.containment.specs.Judging.{Sets, passBy, judgeBy}
 use Rattle.containment.specs.Prepared.{ChainSets, Columns, StepSets}
 use Rattle.containment.specs.Stepping.{members, stepFrom, sitesBy}
 use Rattle.containment.specs.Skipping.{placesBy, loop, cell, lowTable, waysTable, sureBy, surelyBy, leftBy, PlacedBy, MaySkip}
 use Rattle.containment.proofs.KeepLaws.{flat-agree}
 use Rattle.containment.proofs.MemberLaws.{members-mask}
-use Rattle.containment.proofs.SetLaws.{meets-mask}
-use Rattle.containment.proofs.ChainLaws.{hang-mask}
-use Rattle.containment.proofs.GatherLaws.{gather-entries}
-use Rattle.containment.proofs.Judging.{judge-quick}
+use Rattle.containment.proofs.Judging.{pass-mask, at-parent, gathered-meets, judge-quick}
 use Rattle.containment.proofs.Deciding.{reach-mask, path-parts}
 use Rattle.containment.proofs.RowLaws.{loop-keep, loop-product}
 use Rattle.containment.proofs.SkipTables.{columns-rooted, ways-table, low-table}
@@ -170,12 +167,6 @@ module _ (S : Summary) (P Q : Pattern) (T : Sets) (parents edges positions child
       abbrev handed : ℕ → ℕ → Bool
       handed c = passed S P Q places p sures q es (parent c) c
 
-      hung : (c : ℕ) → 0 < c → c < q → passBy T parents positions es c (maskBelow (sures c) (length Q)) ≡ maskBelow (hang S Q (position P c) (sures c) (chain S (imageIn es (parent c)) (imageIn es c))) (length Q)
-      unfolding passBy
-      hung c z h =
-          ap (λ (k : ℕ). hangBy T (imageIn es (parent c)) (imageIn es c) k (maskBelow (sures c) (length Q))) (K .place c (omega arith))
-          ∙ hang-mask S Q T C (s .tree) (imageIn es (parent c)) (imageIn es c) (position P c) (sures c) (edge-below (descends P c) (asDocument S) (imageIn es (parent c)) (imageIn es c) (images-place c z h .edge)) (K .range c (omega arith))
-
       passes : (c : ℕ) → 0 < c → c < length P → sureBy T parents positions lows q es c (maskBelow (sures c) (length Q)) ≡ maskBelow (handed c) (length Q)
       unfolding sureBy
       passes c z h = go (ltb c q) refl
@@ -188,44 +179,21 @@ module _ (S : Summary) (P Q : Pattern) (T : Sets) (parents edges positions child
           go : (b : Bool) → ltb c q ≡ b
               → (elim b as (λ _. ℕ) [ true ↦ passBy T parents positions es c (maskBelow (sures c) (length Q)) | false ↦ elim (ltb (parent c) q) as (λ _. ℕ) [ true ↦ getD lows (cell c (imageIn es (parent c))) 0 | false ↦ 0 ] ])
               ≡ maskBelow (λ r. elim b as (λ _. Bool) [ true ↦ hang S Q (position P c) (sures c) (chain S (imageIn es (parent c)) (imageIn es c)) r | false ↦ ltb (parent c) q && low S P Q places c (imageIn es (parent c)) r ]) (length Q)
-          go true e = hung c z (ltb-true c q e)
+          go true e =
+              let k : c < q = ltb-true c q e in
+              pass-mask S P Q T parents positions C K (s .tree) p small es c (sures c) h (edge-below (descends P c) (asDocument S) (imageIn es (parent c)) (imageIn es c) (images-place c z k .edge))
           go false e = lower (ltb (parent c) q) refl
-
-      -- what hangs from j hangs from the parent, where j is the parent
-      at-parent : (f : ℕ → Bool) (j c : ℕ) → c < length P → (hangsFrom P j c && f j) ≡ (ltb 0 c && eqb (parent c) j && f (parent c))
-      unfolding hangsFrom
-      at-parent f j c h = ap (λ (u : ℕ). ltb 0 c && eqb u j && f j) (sym (K .parent c h)) ∙ go (eqb (parent c) j) refl
-        where
-          shut : (a b b′ : Bool) → (a && false && b) ≡ (a && false && b′)
-          shut true b b′ = refl
-          shut false b b′ = refl
-
-          go : (b : Bool) → eqb (parent c) j ≡ b → (ltb 0 c && b && f j) ≡ (ltb 0 c && b && f (parent c))
-          go true e = ap (λ (u : ℕ). ltb 0 c && true && f u) (sym (eqb-true (parent c) j e))
-          go false e = shut (ltb 0 c) (f j) (f (parent c))
 
       sum : (j r : ℕ) → j < length P → sures j r ≡ anyOf (λ c. ltb 0 c && eqb (parent c) j && handed c r) (upFrom 0 (length P))
       sum j r h =
           sure-equation S P Q places p q es j r h
           ∙ any-agree (λ c. hangsFrom P j c && passed S P Q places p sures q es j c r) (λ c. ltb 0 c && eqb (parent c) j && handed c r) (upFrom 0 (length P))
-          (λ c m. (let k = upFrom-mem 0 (length P) c m in at-parent (λ i. passed S P Q places p sures q es i c r) j c (omega arith)))
-
-      sure-mask : getD (gather parent (sureBy T parents positions lows q es) (length P - 1) (replicate 16 0)) 0 0 ≡ maskBelow (sures 0) (length Q)
-      sure-mask =
-          gather-entries (length P) (length Q) parent (sureBy T parents positions lows q es) sures handed (rooted .earlier) passes (λ j r h k. sum j r h)
-          (replicate 16 0) 0 (subst (λ (l : ℕ). length P ≤ l) (sym (length-replicate {A = ℕ} 16 0)) small) (λ y h. getD-replicate {A = ℕ} 16 y 0 0 (omega arith)) (p .inhabited)
+          (λ c m. (let k = upFrom-mem 0 (length P) c m in at-parent S P Q T parents positions C K (s .tree) p small (λ i. passed S P Q places p sures q es i c r) j c (omega arith)))
 
       -- the test by masks is the model's
       pub surely-right : 0 < length Q → surelyBy T parents positions lows (length P) q es ≡ surely S P Q places q es
       unfolding surelyBy surely
-      surely-right z =
-          ap (λ (k : ℕ). at k (bitOr (getD (T .closed) 0 0) (getD (gather parent (sureBy T parents positions lows q es) (length P - 1) (replicate 16 0)) 0 0))) (K .place 0 (p .inhabited))
-          ∙ ap (at (position P 0)) (ap₂ bitOr (C .closes 0 root-inside) sure-mask ∙ mask-or (closed S Q 0) (sures 0) (length Q))
-          ∙ ap (λ (m : ℕ). has m 0) (meets-mask S Q (T .fitting) (T .allowed) (T .low) (T .high) (T .deep) (C .node) 0 (position P 0) (union (closed S Q 0) (sures 0)) root-inside (K .range 0 (p .inhabited)))
-          ∙ mask-below (meets S Q 0 (position P 0) (union (closed S Q 0) (sures 0))) (length Q) 0 z
-        where
-          at : ℕ → ℕ → Bool
-          at k m = has (meetsBy (T .fitting) (T .allowed) (T .low) (T .high) 0 k m) 0
+      surely-right z = gathered-meets S P Q T parents positions C K (s .tree) p small (sureBy T parents positions lows q es) sures handed passes sum z
 
   -- ---- all completions pass, and are so many
 
