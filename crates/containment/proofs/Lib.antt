@@ -13,6 +13,7 @@ pub mod TableSets
 pub mod StepLoop
 pub mod RowLaws
 pub mod SkipTables
+pub mod SkipLoop
 pub mod Deciding
 pub mod CaseLaws
 pub mod AnswerLaws
