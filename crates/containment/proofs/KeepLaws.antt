@@ -25,6 +25,19 @@ module _ {A : Type 0} where
   unfolding keep
   keep-out test x xs e = rw (e, keep)
 
+  -- one test after another
+  pub keep-keep : (f g : A → Bool) (xs : List A) → keep f (keep g xs) ≡ keep (λ x. f x && g x) xs
+  unfolding keep
+  keep-keep f g [] = refl
+  keep-keep f g (x ∷ xs) = go (f x) (g x) refl (keep-keep f g xs)
+    where
+      go : (a b : Bool) → f x ≡ a → keep f (keep g xs) ≡ keep (λ x. f x && g x) xs
+          → keep f (elim b as (λ _. List A) [ true ↦ x ∷ keep g xs | false ↦ keep g xs ]) ≡ elim (a && b) as (λ _. List A) [ true ↦ x ∷ keep (λ x. f x && g x) xs | false ↦ keep (λ x. f x && g x) xs ]
+      go true true e r = ap (λ (t : Bool). elim t as (λ _. List A) [ true ↦ x ∷ keep f (keep g xs) | false ↦ keep f (keep g xs) ]) e ∙ ap (λ (l : List A). x ∷ l) r
+      go false true e r = ap (λ (t : Bool). elim t as (λ _. List A) [ true ↦ x ∷ keep f (keep g xs) | false ↦ keep f (keep g xs) ]) e ∙ r
+      go true false e r = r
+      go false false e r = r
+
   -- tests that agree on the members keep the same
   pub keep-agree : (f g : A → Bool) (xs : List A) → ((x : A) → List·Memᴰ x xs → f x ≡ g x) → keep f xs ≡ keep g xs
   unfolding keep

@@ -11,6 +11,7 @@ pub mod SetLoops
 pub mod Judging
 pub mod TableSets
 pub mod StepLoop
+pub mod ClimbLaws
 pub mod RowLaws
 pub mod SkipTables
 pub mod SkipLoop

@@ -13,70 +13,52 @@ use lib.ListN.{length, getD, set, length-set}
 use lib.Seq.{getD-set-same, getD-set-other}
 use borrow.Author.Tests.{ltb-true, ltb-false}
 use Rattle.model.specs.Lists.{keep, anyOf, allOf, maskBelow}
+use Rattle.model.specs.Tree.{Document, IsTree, parentOf}
+use Rattle.model.specs.Embeddings.{edgeTest}
 use Rattle.model.specs.Skipping.{sumOf, productOf}
 use Rattle.model.proofs.WaysLaws.{cap-sums, cap-products}
 use Rattle.bits.proofs.MaskLaws.{any-cons, mask-agree, mask-or, mask-and}
-use Rattle.containment.specs.Skipping.{cell, fillRow, fillRows, loop}
+use Rattle.containment.specs.Skipping.{cell, climbRow, fillRow, fillRows, loop}
+use Rattle.containment.proofs.ClimbLaws.{climb-length, climb-other, climb-entry}
 
 -- ---- rows
 
-module _ (m n : ℕ) (F : List ℕ → ℕ → ℕ → ℕ) (E : ℕ → ℕ → ℕ) (narrow : n ≤ 64)
-    (right : (t : List ℕ) (c x : ℕ) → 0 < c → c < m → x < n → ((d y : ℕ) → c < d → d < m → y < n → getD t (cell d y) 0 ≡ E d y) → F t c x ≡ E c x) where
-  -- the rows after c are right, and of row c the entries before x
-  record Filled (c x : ℕ) (t : List ℕ) : Type 0 where
+module _ (m n init : ℕ) (row : ℕ → List ℕ → List ℕ) (E : ℕ → ℕ → ℕ) (same : (c : ℕ) (t : List ℕ) → c < m → length (row c t) ≡ length t)
+    (other : (c d y : ℕ) (t : List ℕ) → c < m → y < n → (d ≡ c → ⊥) → getD (row c t) (cell d y) 0 ≡ getD t (cell d y) 0)
+    (right : (c x : ℕ) (t : List ℕ) → 0 < c → c < m → x < n → 64 * m ≤ length t → ((d y : ℕ) → c < d → d < m → y < n → getD t (cell d y) 0 ≡ E d y)
+    → getD t (cell c x) 0 ≡ init → getD (row c t) (cell c x) 0 ≡ E c x) where
+  -- the rows after c are right, and the others are as they began
+  record Filled (c : ℕ) (t : List ℕ) : Type 0 where
     long : 64 * m ≤ length t
     after : (d y : ℕ) → c < d → d < m → y < n → getD t (cell d y) 0 ≡ E d y
-    row : (y : ℕ) → y < x → getD t (cell c y) 0 ≡ E c y
+    before : (d y : ℕ) → d ≤ c → y < n → getD t (cell d y) 0 ≡ init
 
-  filled-step : (c x : ℕ) (t : List ℕ) → 0 < c → c < m → x < n → Filled c x t → Filled c (suc x) (set t (cell c x) (F t c x))
-  filled-step c x t z h l f =
+  filled-step : (c : ℕ) (t : List ℕ) → suc c < m → Filled (suc c) t → Filled c (row (suc c) t)
+  filled-step c t h f =
       record {
-        long = subst (λ (k : ℕ). 64 * m ≤ k) (sym (length-set t (cell c x) (F t c x))) (f .long);
-        after = λ d y a b k. getD-set-other t (cell c x) (cell d y) (F t c x) 0 (λ e. omega arith) ∙ f .after d y a b k;
-        row = λ y k. go y k (ltb y x) refl;
-      }
-    where
-      go : (y : ℕ) → y < suc x → (b : Bool) → ltb y x ≡ b → getD (set t (cell c x) (F t c x)) (cell c y) 0 ≡ E c y
-      go y k true e =
-          let i : y < x = ltb-true y x e in
-          getD-set-other t (cell c x) (cell c y) (F t c x) 0 (λ q. omega arith) ∙ f .row y i
-      go y k false e =
-          let i : x ≤ y = ltb-false y x e in
-          let q : x ≡ y = omega arith in
-          let r : 64 * m ≤ length t = f .long in
-          subst (λ (j : ℕ). getD (set t (cell c x) (F t c x)) (cell c j) 0 ≡ E c j) q (getD-set-same t (cell c x) (F t c x) 0 (omega arith) ∙ right t c x z h l (f .after))
-
-  filled-row : (k c x : ℕ) (t : List ℕ) → 0 < c → c < m → x + k ≡ n → Filled c x t → Filled c n (fillRow F c x k t)
-  unfolding fillRow
-  filled-row zero c x t z h e f = let q : x ≡ n = omega arith in subst (λ (i : ℕ). Filled c i t) q f
-  filled-row (suc k) c x t z h e f = filled-row k c (suc x) (set t (cell c x) (F t c x)) z h (omega arith) (filled-step c x t z h (omega arith) f)
-
-  -- the rows from c on become the rows after the one before
-  filled-next : (c : ℕ) (t : List ℕ) → Filled (suc c) n t → Filled c 0 t
-  filled-next c t f =
-      record {
-        long = f .long;
+        long = subst (λ (k : ℕ). 64 * m ≤ k) (sym (same (suc c) t h)) (f .long);
         after = λ d y a b k. go d y a b k (ltb (suc c) d) refl;
-        row = λ y k. absurd (omega arith);
+        before = λ d y a k. other (suc c) d y t h k (λ e. omega arith) ∙ f .before d y (omega arith) k;
       }
     where
-      go : (d y : ℕ) → c < d → d < m → y < n → (b : Bool) → ltb (suc c) d ≡ b → getD t (cell d y) 0 ≡ E d y
-      go d y a b k true e = f .after d y (ltb-true (suc c) d e) b k
+      go : (d y : ℕ) → c < d → d < m → y < n → (b : Bool) → ltb (suc c) d ≡ b → getD (row (suc c) t) (cell d y) 0 ≡ E d y
+      go d y a b k true e =
+          let i : suc c < d = ltb-true (suc c) d e in
+          other (suc c) d y t h k (λ e. omega arith) ∙ f .after d y i b k
       go d y a b k false e =
           let i : d ≤ suc c = ltb-false (suc c) d e in
           let q : suc c ≡ d = omega arith in
-          subst (λ (j : ℕ). getD t (cell j y) 0 ≡ E j y) q (f .row y k)
+          subst (λ (j : ℕ). getD (row (suc c) t) (cell j y) 0 ≡ E j y) q (right (suc c) y t (omega arith) h k (f .long) (f .after) (f .before (suc c) y (omega arith) k))
 
-  filled-rows : (c : ℕ) (t : List ℕ) → c < m → Filled c 0 t → Filled 0 0 (fillRows F n c t)
+  filled-rows : (c : ℕ) (t : List ℕ) → c < m → Filled c t → Filled 0 (fillRows row c t)
   unfolding fillRows
   filled-rows zero t h f = f
-  filled-rows (suc c) t h f =
-      filled-rows c (fillRow F (suc c) 0 n t) (omega arith) (filled-next c (fillRow F (suc c) 0 n t) (filled-row n (suc c) 0 t (omega arith) h (omega arith) f))
+  filled-rows (suc c) t h f = filled-rows c (row (suc c) t) (omega arith) (filled-step c t h f)
 
   -- from the last row on, every entry is right
-  pub rows-entries : (t : List ℕ) (c x : ℕ) → 64 * m ≤ length t → 0 < c → c < m → x < n → getD (fillRows F n (m - 1) t) (cell c x) 0 ≡ E c x
-  rows-entries t c x l z h k =
-      filled-rows (m - 1) t (omega arith) (record { long = l; after = λ d y a b i. absurd (omega arith); row = λ y i. absurd (omega arith) }) .after c x z h k
+  pub rows-entries : (t : List ℕ) (c x : ℕ) → 64 * m ≤ length t → ((d y : ℕ) → d < m → y < n → getD t (cell d y) 0 ≡ init) → 0 < c → c < m → x < n → getD (fillRows row (m - 1) t) (cell c x) 0 ≡ E c x
+  rows-entries t c x l s z h k =
+      filled-rows (m - 1) t (omega arith) (record { long = l; after = λ d y a b i. absurd (omega arith); before = λ d y a i. s d y (omega arith) i }) .after c x z h k
 
 -- ---- loops
 
@@ -145,3 +127,51 @@ module _ (K : ℕ) (f g : ℕ → ℕ) where
   loop-product a (x ∷ xs) h =
       ap (λ (b : ℕ). loop (λ acc x. min K (acc * f x)) b xs) (ap (λ (b : ℕ). min K (min K a * b)) (h x (List·Memᴰ·head refl)) ∙ cap-products K a (g x))
       ∙ loop-product (a * g x) xs (λ y k. h y (List·Memᴰ·tail k)) ∙ ap (min K) (mul-assoc a (g x) (productOf g xs))
+
+-- ---- one row
+
+module _ (W : Document) (tree : IsTree W) (up : List ℕ) (ups : (b : ℕ) → b < length W → getD up b 0 ≡ parentOf W b) (narrow : length W ≤ 64) (join pass : ℕ → ℕ → ℕ) (start : List ℕ → ℕ → ℕ → ℕ)
+    (far : Bool) (c : ℕ) where
+  abbrev turn : List ℕ → ℕ → List ℕ
+  turn t y = climbRow join pass up far c y y (start t c y) t
+
+  row-keeps : (K : List ℕ → Type 0) → ((t : List ℕ) (y : ℕ) → y < length W → K t → K (turn t y)) → (ys : List ℕ) (t : List ℕ) → ((y : ℕ) → List·Memᴰ y ys → y < length W) → K t → K (loop turn t ys)
+  unfolding loop
+  row-keeps K one [] t in-W g = g
+  row-keeps K one (y ∷ ys) t in-W g = row-keeps K one ys (turn t y) (λ z k. in-W z (List·Memᴰ·tail k)) (one t y (in-W y (List·Memᴰ·head refl)) g)
+
+  pub row-length : (ys : List ℕ) (t : List ℕ) → ((y : ℕ) → List·Memᴰ y ys → y < length W) → length (fillRow join pass start up far c ys t) ≡ length t
+  unfolding fillRow
+  row-length ys t in-W = row-keeps (λ u. length u ≡ length t) (λ u y h e. climb-length W tree up ups narrow join pass c far y y (start u c y) u h ∙ e) ys t in-W refl
+
+  pub row-other : (ys : List ℕ) (t : List ℕ) (d x : ℕ) → ((y : ℕ) → List·Memᴰ y ys → y < length W) → x < length W → (d ≡ c → ⊥) → getD (fillRow join pass start up far c ys t) (cell d x) 0 ≡ getD t (cell d x) 0
+  unfolding fillRow
+  row-other ys t d x in-W l ne =
+      row-keeps (λ u. getD u (cell d x) 0 ≡ getD t (cell d x) 0) (λ u y h e. climb-other W tree up ups narrow join pass c far y y (start u c y) u d x h l ne ∙ e) ys t in-W refl
+
+  module _ (value : ℕ → ℕ → ℕ → ℕ) (here : (b h : ℕ) → 0 < b → b < length W → value b h (getD up b 0) ≡ h)
+      (above : (b h x : ℕ) → 0 < b → b < length W → x < getD up b 0 → value b h x ≡ value (getD up b 0) (pass (getD up b 0) h) x)
+      (m : ℕ) (E : ℕ → ℕ → ℕ) (G : ℕ → ℕ) (starts : (t : List ℕ) (y : ℕ) → y < length W → ((d x : ℕ) → c < d → d < m → x < length W → getD t (cell d x) 0 ≡ E d x) → start t c y ≡ G y) where
+    -- the rows after c are right
+    abbrev After : List ℕ → Type 0
+    After t = (d x : ℕ) → c < d → d < m → x < length W → getD t (cell d x) 0 ≡ E d x
+
+    row-loop : (ys : List ℕ) (t : List ℕ) (x : ℕ) → ((y : ℕ) → List·Memᴰ y ys → y < length W) → 64 * suc c ≤ length t → After t → x < length W
+        → getD (loop turn t ys) (cell c x) 0 ≡ loop (λ acc y. elim (edgeTest far W x y) as (λ _. ℕ) [ true ↦ join acc (value y (G y) x) | false ↦ acc ]) (getD t (cell c x) 0) ys
+    unfolding loop
+    row-loop [] t x in-W long f l = refl
+    row-loop (y ∷ ys) t x in-W long f l =
+        let i : y < length W = in-W y (List·Memᴰ·head refl) in
+        row-loop ys (turn t y) x (λ z k. in-W z (List·Memᴰ·tail k)) (subst (λ (n : ℕ). 64 * suc c ≤ n) (sym (climb-length W tree up ups narrow join pass c far y y (start t c y) t i)) long)
+        (λ d z a b k. climb-other W tree up ups narrow join pass c far y y (start t c y) t d z i k (λ e. omega arith) ∙ f d z a b k) l
+        ∙ ap (λ (a : ℕ). loop turns a ys) (climb-entry W tree up ups narrow join pass c value here above far y y (start t c y) t x (omega arith) i long l ∙ ap (λ (g : ℕ). elim (edgeTest far W x y) as (λ _. ℕ) [ true ↦ join (getD t (cell c x) 0) (value y g x) | false ↦ getD t (cell c x) 0 ]) (starts t y i f))
+      where
+        turns : ℕ → ℕ → ℕ
+        turns acc y = elim (edgeTest far W x y) as (λ _. ℕ) [ true ↦ join acc (value y (G y) x) | false ↦ acc ]
+
+    -- an entry is joined with what comes up from each place that the edge reaches
+    pub row-entry : (ys : List ℕ) (t : List ℕ) (x : ℕ) → ((y : ℕ) → List·Memᴰ y ys → y < length W) → 64 * suc c ≤ length t → After t → x < length W
+        → getD (fillRow join pass start up far c ys t) (cell c x) 0 ≡ loop (λ acc y. join acc (value y (G y) x)) (getD t (cell c x) 0) (keep (edgeTest far W x) ys)
+    unfolding fillRow
+    row-entry ys t x in-W long f l =
+        row-loop ys t x in-W long f l ∙ loop-keep (edgeTest far W x) (λ acc y. join acc (value y (G y) x)) (getD t (cell c x) 0) ys

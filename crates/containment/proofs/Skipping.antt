@@ -13,7 +13,7 @@ use lib.ListN.{length, getD, take}
 use lib.Seq.{length-take-le, getD-take}
 use borrow.Author.Tests.{ltb-true, ltb-false}
 use Rattle.model.specs.Lists.{upFrom, keep, anyOf, maskBelow}
-use Rattle.model.specs.Tree.{Rooted, Edge, Below}
+use Rattle.model.specs.Tree.{Rooted, parentOf, Edge, Below}
 use Rattle.model.specs.Summary.{Summary, asDocument}
 use Rattle.model.specs.Pattern.{Pattern, IsPatternTree, patternParent, descends, position, Embeds}
 use Rattle.model.specs.Embeddings.{edgeTest, imageIn, isPath}
@@ -33,7 +33,7 @@ use Rattle.containment.specs.Judging.{Sets, passBy, judgeBy}
 use Rattle.containment.specs.Prepared.{ChainSets, Columns, StepSets}
 use Rattle.containment.specs.Stepping.{members, stepFrom, sitesBy}
 use Rattle.containment.specs.Skipping.{placesBy, loop, cell, lowTable, waysTable, sureBy, surelyBy, leftBy, PlacedBy, MaySkip}
-use Rattle.containment.proofs.KeepLaws.{flat-agree}
+use Rattle.containment.proofs.KeepLaws.{keep-keep, flat-agree}
 use Rattle.containment.proofs.MemberLaws.{members-mask}
 use Rattle.containment.proofs.Judging.{pass-mask, at-parent, gathered-meets, judge-quick}
 use Rattle.containment.proofs.Deciding.{reach-mask, path-parts}
@@ -265,16 +265,45 @@ module _ (S : Summary) (P Q : Pattern) (T : Sets) (parents edges positions child
           ∙ ap (λ (i : ℕ). waysLeft (length P) parent places i (take q es)) n ∙ left-take (length P) (length S) parents counts places cap some counted q es le)
           ∙ sym (left-right (length P) (length S) parents counts places cap some counted q es z le (images-inside q es le (G .first) (G .placed)))
 
-  -- the tables of a case
-  abbrev pub lowsOf : List ℕ
-  lowsOf = lowTable T parents positions masks (length S) (length P) (length Q)
+  -- ---- the tables of a case
 
-  abbrev pub countsOf : ℕ → List ℕ
-  countsOf cap = waysTable cap parents masks (length S) (length P)
+  across : {x : ℕ} → x < length S → x < length (asDocument S)
+  across {x} l = subst (λ (n : ℕ). x < n) (sym (length-asDocument S)) l
+
+  back : {x : ℕ} → x < length (asDocument S) → x < length S
+  back {x} l = subst (λ (n : ℕ). x < n) (length-asDocument S) l
+
+  -- a node's paths
+  paths : (c : ℕ) → c < length P → members (getD parts c 0) ≡ keep (isPath S P c) (upFrom 0 (length S))
+  paths c h = ap members (Z .part c h) ∙ members-mask (isPath S P c) (length S) narrow
+
+  paths-inside : (c y : ℕ) → c < length P → List·Memᴰ y (members (getD parts c 0)) → y < length (asDocument S)
+  paths-inside c y h k =
+      let r = keep-elim (isPath S P c) y (upFrom 0 (length S)) (subst (λ (ys : List ℕ). List·Memᴰ y ys) (paths c h) k) in
+      let u = upFrom-mem 0 (length S) y (r .0) in
+      across (omega arith)
+
+  -- those that the edge reaches from x are the places
+  paths-reached : (c x : ℕ) → c < length P → x < length (asDocument S) → keep (edgeTest (eqb (getD edges c 0) 1) (asDocument S) x) (members (getD parts c 0)) ≡ members (placesBy edges children descendants parts c x)
+  unfolding placesOf
+  paths-reached c x h l =
+      ap (λ (b : Bool). keep (edgeTest b (asDocument S) x) (members (getD parts c 0))) (Z .edge c h)
+      ∙ ap (keep (edgeTest (descends P c) (asDocument S) x)) (paths c h)
+      ∙ keep-keep (edgeTest (descends P c) (asDocument S) x) (isPath S P c) (upFrom 0 (length S))
+      ∙ sym (places-right c x h (back l))
+
+  up-parents : (b : ℕ) → b < length (asDocument S) → getD (T .up) b 0 ≡ parentOf (asDocument S) b
+  up-parents b l = C .ups b (back l)
+
+  abbrev lowsOf : List ℕ
+  lowsOf = lowTable T parents edges positions parts (length P) (length Q)
+
+  abbrev countsOf : ℕ → List ℕ
+  countsOf K = waysTable K (T .up) parents edges parts (length P)
 
   -- with them the run may be skipped
   pub may-skip : (cap : ℕ) → 0 < cap → 0 < length Q
-      → MaySkip T parents positions (lowTable T parents positions (placesBy edges children descendants parts) (length S) (length P) (length Q)) (waysTable cap parents (placesBy edges children descendants parts) (length S) (length P)) (sitesBy parents edges children descendants parts) (placesBy edges children descendants parts) (getD parts 0 0) cap (length P)
+      → MaySkip T parents positions (lowTable T parents edges positions parts (length P) (length Q)) (waysTable cap (T .up) parents edges parts (length P)) (sitesBy parents edges children descendants parts) (placesBy edges children descendants parts) (getD parts 0 0) cap (length P)
   may-skip cap some y =
       record {
         skipped = λ q left tried es z le long h G e.
@@ -283,8 +312,11 @@ module _ (S : Summary) (P Q : Pattern) (T : Sets) (parents edges positions child
             ∙ sym (skip-capped cap left tried (length (completions parent places (length P - q) (take q es))) h) ∙ ap (skip left tried) (count-all q es z le long G cap (countsOf cap) some counted);
       }
     where
+      wide : length (asDocument S) ≤ 64
+      wide = subst (λ (n : ℕ). n ≤ 64) (sym (length-asDocument S)) narrow
+
       lowest : (c x : ℕ) → 0 < c → c < length P → x < length S → getD lowsOf (cell c x) 0 ≡ maskBelow (low S P Q places c x) (length Q)
-      lowest = low-table S P Q T parents positions masks C K (s .tree) p reached narrow small
+      lowest c x z h l = low-table S P Q T parents edges positions parts masks C K (s .tree) p wide small up-parents paths-inside paths-reached (λ c x y z h l m. reached c x y z h (back l) m) c x z h (across l)
 
       counted : (c x : ℕ) → 0 < c → c < length P → x < length S → getD (countsOf cap) (cell c x) 0 ≡ min cap (ways (length P) parent places c x)
-      counted = ways-table (length P) (length S) parents masks rooted cap some (λ c x v h l m. place-says c x v h l m .inside) narrow small
+      counted c x z h l = ways-table (asDocument S) (s .tree) wide (T .up) parents edges parts masks (length P) small rooted up-parents paths-inside paths-reached cap some c x z h (across l)

@@ -11,7 +11,7 @@ use Rattle.model.specs.Lists.{upFrom}
 use Rattle.model.specs.Verdict.{going, run}
 use Rattle.model.specs.Skipping.{skip}
 use Rattle.model.proofs.Masks.{has}
-use Rattle.containment.specs.Judging.{gather, meetsBy, Sets, hangBy, passBy, judgeBy}
+use Rattle.containment.specs.Judging.{gather, meetsBy, Sets, nodeBy, passBy, judgeBy}
 use Rattle.containment.specs.Stepping.{members, stepFrom, reachBy}
 
 -- the places of node c where its parent stands at x: those that its edge reaches and that its part's mask has
@@ -19,7 +19,7 @@ unfoldable pub placesBy : List ℕ → List ℕ → List ℕ → List ℕ → �
 placesBy edges children descendants parts c x = bitAnd (reachBy children descendants x (getD edges c 0)) (getD parts c 0)
 
 -- what a loop over a list comes to
-unfoldable pub loop : (ℕ → ℕ → ℕ) → ℕ → List ℕ → ℕ
+unfoldable pub loop : {A : Type 0} → (A → ℕ → A) → A → List ℕ → A
 loop turn acc [] = acc
 loop turn acc (x ∷ xs) = loop turn (turn acc x) xs
 
@@ -28,15 +28,28 @@ loop turn acc (x ∷ xs) = loop turn (turn acc x) xs
 abbrev pub cell : ℕ → ℕ → ℕ
 cell c x = 64 * c + x
 
--- n entries of row c from x on, each by F, which reads the rows after it
-unfoldable pub fillRow : (List ℕ → ℕ → ℕ → ℕ) → ℕ → ℕ → ℕ → List ℕ → List ℕ
-fillRow F c x zero t = t
-fillRow F c x (suc n) t = fillRow F c (suc x) n (set t (cell c x) (F t c x))
+-- h joined into entry i
+unfoldable pub joinAt : (ℕ → ℕ → ℕ) → ℕ → ℕ → List ℕ → List ℕ
+joinAt join i h t = set t i (join (getD t i 0) h)
+
+-- up from b, at most k nodes: what comes up, h, is joined into row c at each node above b, or at the first alone where a descendant
+-- edge is not asked; `pass` says what becomes of it on its way through a node
+unfoldable pub climbRow : (ℕ → ℕ → ℕ) → (ℕ → ℕ → ℕ) → List ℕ → Bool → ℕ → ℕ → ℕ → ℕ → List ℕ → List ℕ
+climbRow join pass up far c zero b h t = t
+climbRow join pass up far c (suc k) b h t =
+    elim (ltb 0 b) [
+      | true ↦ elim far [ true ↦ climbRow join pass up true c k (getD up b 0) (pass (getD up b 0) h) (joinAt join (cell c (getD up b 0)) h t) | false ↦ joinAt join (cell c (getD up b 0)) h t ]
+      | false ↦ t
+    ]
+
+-- row c: from each of the places ys in turn, with what `start` says there by the rows after it
+unfoldable pub fillRow : (ℕ → ℕ → ℕ) → (ℕ → ℕ → ℕ) → (List ℕ → ℕ → ℕ → ℕ) → List ℕ → Bool → ℕ → List ℕ → List ℕ → List ℕ
+fillRow join pass start up far c ys t = loop (λ t y. climbRow join pass up far c y y (start t c y) t) t ys
 
 -- the rows from node c down to node 1
-unfoldable pub fillRows : (List ℕ → ℕ → ℕ → ℕ) → ℕ → ℕ → List ℕ → List ℕ
-fillRows F n zero t = t
-fillRows F n (suc c) t = fillRows F n c (fillRow F (suc c) 0 n t)
+unfoldable pub fillRows : (ℕ → List ℕ → List ℕ) → ℕ → List ℕ → List ℕ
+fillRows row zero t = t
+fillRows row (suc c) t = fillRows row c (row (suc c) t)
 
 -- a loop over the children of node c, of m nodes: each gives its entry at y
 unfoldable pub childLoop : (ℕ → ℕ → ℕ) → ℕ → List ℕ → ℕ → List ℕ → ℕ → ℕ → ℕ
@@ -46,26 +59,29 @@ childLoop join start parents m t c y = loop (λ acc d. elim (eqb (getD parents d
 unfoldable pub underBy : List ℕ → ℕ → List ℕ → ℕ → ℕ → ℕ
 underBy = childLoop bitOr 0
 
+-- what node c itself offers there at least
+unfoldable pub offerBy : Sets → List ℕ → List ℕ → ℕ → List ℕ → ℕ → ℕ → ℕ
+offerBy T parents positions m t c y = nodeBy T y (getD positions c 0) (underBy parents m t c y)
+
 -- what node c offers at least to the node on x, wherever it is placed below: everything, of k second-pattern nodes, where it has no
 -- place
-unfoldable pub lowBy : Sets → List ℕ → List ℕ → (ℕ → ℕ → ℕ) → ℕ → ℕ → List ℕ → ℕ → ℕ → ℕ
-lowBy T parents positions places m k t c x =
-    loop (λ acc y. bitAnd acc (hangBy T x y (getD positions c 0) (underBy parents m t c y))) (2 ^ k - 1) (members (places c x))
+unfoldable pub lowRow : Sets → List ℕ → List ℕ → List ℕ → List ℕ → ℕ → ℕ → List ℕ → List ℕ
+lowRow T parents edges positions parts m c =
+    fillRow bitAnd (λ x h. nodeBy T x 0 h) (offerBy T parents positions m) (T .up) (eqb (getD edges c 0) 1) c (members (getD parts c 0))
 
--- of n summary nodes
-unfoldable pub lowTable : Sets → List ℕ → List ℕ → (ℕ → ℕ → ℕ) → ℕ → ℕ → ℕ → List ℕ
-lowTable T parents positions places n m k = fillRows (lowBy T parents positions places m k) n (m - 1) (replicate 1024 0)
+abbrev pub lowTable : Sets → List ℕ → List ℕ → List ℕ → List ℕ → ℕ → ℕ → List ℕ
+lowTable T parents edges positions parts m k = fillRows (lowRow T parents edges positions parts m) (m - 1) (replicate 1024 (2 ^ k - 1))
 
 -- in how many ways all below node c can be placed where it stands at y, cut at the cap K
 unfoldable pub timesBy : ℕ → List ℕ → ℕ → List ℕ → ℕ → ℕ → ℕ
 timesBy K = childLoop (λ acc e. min K (acc * e)) 1
 
 -- and node c with all below it, where its parent stands at x
-unfoldable pub waysBy : ℕ → List ℕ → (ℕ → ℕ → ℕ) → ℕ → List ℕ → ℕ → ℕ → ℕ
-waysBy K parents places m t c x = loop (λ acc y. min K (acc + timesBy K parents m t c y)) 0 (members (places c x))
+unfoldable pub waysRow : ℕ → List ℕ → List ℕ → List ℕ → List ℕ → ℕ → ℕ → List ℕ → List ℕ
+waysRow K up parents edges parts m c = fillRow (λ acc n. min K (acc + n)) (λ x n. n) (timesBy K parents m) up (eqb (getD edges c 0) 1) c (members (getD parts c 0))
 
-unfoldable pub waysTable : ℕ → List ℕ → (ℕ → ℕ → ℕ) → ℕ → ℕ → List ℕ
-waysTable K parents places n m = fillRows (waysBy K parents places m) n (m - 1) (replicate 1024 0)
+abbrev pub waysTable : ℕ → List ℕ → List ℕ → List ℕ → List ℕ → ℕ → List ℕ
+waysTable K up parents edges parts m = fillRows (waysRow K up parents edges parts m) (m - 1) (replicate 1024 0)
 
 -- ---- a partial embedding: the images es of the first q nodes
 
