@@ -90,6 +90,24 @@ module _ (join pass : ℕ → ℕ → ℕ) (up : List ℕ) (c : ℕ) where
   unfolding climbRow
   climb-near k b h t z = rw (lt-ltb 0 b z, climbRow)
 
+  -- what joining keeps, the climb keeps
+  pub climb-keeps : (K : List ℕ → Type 0) → ((a h : ℕ) (t : List ℕ) → K t → K (joinAt join (cell c a) h t)) → (far : Bool) (k b h : ℕ) (t : List ℕ) → K t → K (climbRow join pass up far c k b h t)
+  unfolding climbRow
+  climb-keeps K one far zero b h t g = g
+  climb-keeps K one far (suc k) b h t g = go (ltb 0 b) far (λ a i u m. climb-keeps K one true k a i u m)
+    where
+      a : ℕ
+      a = getD up b 0
+
+      go : (e f : Bool) → ((a i : ℕ) (u : List ℕ) → K u → K (climbRow join pass up true c k a i u))
+          → K (elim e as (λ _. List ℕ) [ true ↦ elim f as (λ _. List ℕ) [ true ↦ climbRow join pass up true c k a (pass a h) (joinAt join (cell c a) h t) | false ↦ joinAt join (cell c a) h t ] | false ↦ t ])
+      go true true rest = rest a (pass a h) (joinAt join (cell c a) h t) (one a h t g)
+      go true false rest = one a h t g
+      go false f rest = g
+
+  pub climb-length : (far : Bool) (k b h : ℕ) (t : List ℕ) → length (climbRow join pass up far c k b h t) ≡ length t
+  climb-length far k b h t = climb-keeps (λ u. length u ≡ length t) (λ a g u e. join-length join (cell c a) g u ∙ e) far k b h t refl
+
 -- ---- entries
 
 module _ (W : Document) (tree : IsTree W) (up : List ℕ) (ups : (b : ℕ) → b < length W → getD up b 0 ≡ parentOf W b) (narrow : length W ≤ 64) (join pass : ℕ → ℕ → ℕ) (c : ℕ) where
@@ -99,12 +117,12 @@ module _ (W : Document) (tree : IsTree W) (up : List ℕ) (ups : (b : ℕ) → b
   up-lt : (b : ℕ) → 0 < b → b < length W → getD up b 0 < b
   up-lt b z h = subst (λ (a : ℕ). a < b) (sym (ups b h)) (tree .earlier b z h)
 
-  -- induction over a climb: what one entry joined keeps, the climb keeps
-  climb-keeps : (K : List ℕ → Type 0) → ((a h : ℕ) (t : List ℕ) → a < length W → K t → K (joinAt join (cell c a) h t))
+  -- the same, where only nodes of the tree are joined at
+  climb-within : (K : List ℕ → Type 0) → ((a h : ℕ) (t : List ℕ) → a < length W → K t → K (joinAt join (cell c a) h t))
       → (far : Bool) (k b h : ℕ) (t : List ℕ) → b < length W → K t → K (climbRow join pass up far c k b h t)
   unfolding climbRow
-  climb-keeps K one far zero b h t l g = g
-  climb-keeps K one far (suc k) b h t l g = go (ltb 0 b) refl far (λ f a i u n m. climb-keeps K one f k a i u n m)
+  climb-within K one far zero b h t l g = g
+  climb-within K one far (suc k) b h t l g = go (ltb 0 b) refl far (λ f a i u n m. climb-within K one f k a i u n m)
     where
       a : ℕ
       a = getD up b 0
@@ -115,13 +133,10 @@ module _ (W : Document) (tree : IsTree W) (up : List ℕ) (ups : (b : ℕ) → b
       go true q false rest = let n : a < b = up-lt b (ltb-true 0 b q) l in one a h t (omega arith) g
       go false q f rest = g
 
-  pub climb-length : (far : Bool) (k b h : ℕ) (t : List ℕ) → b < length W → length (climbRow join pass up far c k b h t) ≡ length t
-  climb-length far k b h t l = climb-keeps (λ u. length u ≡ length t) (λ a g u n e. join-length join (cell c a) g u ∙ e) far k b h t l refl
-
   -- the other rows are left as they are
   pub climb-other : (far : Bool) (k b h : ℕ) (t : List ℕ) (d y : ℕ) → b < length W → y < length W → (d ≡ c → ⊥) → getD (climbRow join pass up far c k b h t) (cell d y) 0 ≡ getD t (cell d y) 0
   climb-other far k b h t d y l i ne =
-      climb-keeps (λ u. getD u (cell d y) 0 ≡ getD t (cell d y) 0) (λ a g u n e. join-other join (cell c a) g (cell d y) u (λ q. absurd (ne (omega arith))) ∙ e) far k b h t l refl
+      climb-within (λ u. getD u (cell d y) 0 ≡ getD t (cell d y) 0) (λ a g u n e. join-other join (cell c a) g (cell d y) u (λ q. absurd (ne (omega arith))) ∙ e) far k b h t l refl
 
   module _ (value : ℕ → ℕ → ℕ → ℕ) (here : (b h : ℕ) → 0 < b → b < length W → value b h (getD up b 0) ≡ h)
       (above : (b h x : ℕ) → 0 < b → b < length W → x < getD up b 0 → value b h x ≡ value (getD up b 0) (pass (getD up b 0) h) x) where

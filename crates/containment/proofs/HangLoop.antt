@@ -26,7 +26,7 @@ pub record HangInv (T : Sets) (a h₀ x₀ h x : ℕ) : Type 0 where
   pub climbs : (whole : ℕ) → Climbing T a whole x₀ h₀ → Climbing T a whole x h
 
 -- a node's offer does not look at the parents
-node-same : (T : Sets) (x k e : ℕ) → nodeBy (setsOf [] (T .fitting) (T .closed) (T .allowed) (T .low) (T .high) (T .deep)) x k e ≡ nodeBy T x k e
+pub node-same : (T : Sets) (x k e : ℕ) → nodeBy (setsOf [] (T .fitting) (T .closed) (T .allowed) (T .low) (T .high) (T .deep)) x k e ≡ nodeBy T x k e
 unfolding nodeBy
 node-same T x k e = refl
 

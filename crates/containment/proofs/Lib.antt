@@ -13,6 +13,8 @@ pub mod TableSets
 pub mod StepLoop
 pub mod ClimbLaws
 pub mod RowLaws
+pub mod TableLoops
+pub mod ClimbLoop
 pub mod SkipTables
 pub mod SkipLoop
 pub mod Deciding

@@ -18,7 +18,7 @@ use Rattle.model.specs.Embeddings.{edgeTest}
 use Rattle.model.specs.Skipping.{sumOf, productOf}
 use Rattle.model.proofs.WaysLaws.{cap-sums, cap-products}
 use Rattle.bits.proofs.MaskLaws.{any-cons, mask-agree, mask-or, mask-and}
-use Rattle.containment.specs.Skipping.{cell, climbRow, fillRow, fillRows, loop}
+use Rattle.containment.specs.Skipping.{cell, climbRow, fillTurn, fillRows, loop}
 use Rattle.containment.proofs.ClimbLaws.{climb-length, climb-other, climb-entry}
 
 -- ---- rows
@@ -133,19 +133,17 @@ module _ (K : ℕ) (f g : ℕ → ℕ) where
 module _ (W : Document) (tree : IsTree W) (up : List ℕ) (ups : (b : ℕ) → b < length W → getD up b 0 ≡ parentOf W b) (narrow : length W ≤ 64) (join pass : ℕ → ℕ → ℕ) (start : List ℕ → ℕ → ℕ → ℕ)
     (far : Bool) (c : ℕ) where
   abbrev turn : List ℕ → ℕ → List ℕ
-  turn t y = climbRow join pass up far c y y (start t c y) t
+  turn = fillTurn join pass start up far c
 
   row-keeps : (K : List ℕ → Type 0) → ((t : List ℕ) (y : ℕ) → y < length W → K t → K (turn t y)) → (ys : List ℕ) (t : List ℕ) → ((y : ℕ) → List·Memᴰ y ys → y < length W) → K t → K (loop turn t ys)
   unfolding loop
   row-keeps K one [] t in-W g = g
   row-keeps K one (y ∷ ys) t in-W g = row-keeps K one ys (turn t y) (λ z k. in-W z (List·Memᴰ·tail k)) (one t y (in-W y (List·Memᴰ·head refl)) g)
 
-  pub row-length : (ys : List ℕ) (t : List ℕ) → ((y : ℕ) → List·Memᴰ y ys → y < length W) → length (fillRow join pass start up far c ys t) ≡ length t
-  unfolding fillRow
-  row-length ys t in-W = row-keeps (λ u. length u ≡ length t) (λ u y h e. climb-length W tree up ups narrow join pass c far y y (start u c y) u h ∙ e) ys t in-W refl
+  pub row-length : (ys : List ℕ) (t : List ℕ) → ((y : ℕ) → List·Memᴰ y ys → y < length W) → length (loop (fillTurn join pass start up far c) t ys) ≡ length t
+  row-length ys t in-W = row-keeps (λ u. length u ≡ length t) (λ u y h e. climb-length join pass up c far y y (start u c y) u ∙ e) ys t in-W refl
 
-  pub row-other : (ys : List ℕ) (t : List ℕ) (d x : ℕ) → ((y : ℕ) → List·Memᴰ y ys → y < length W) → x < length W → (d ≡ c → ⊥) → getD (fillRow join pass start up far c ys t) (cell d x) 0 ≡ getD t (cell d x) 0
-  unfolding fillRow
+  pub row-other : (ys : List ℕ) (t : List ℕ) (d x : ℕ) → ((y : ℕ) → List·Memᴰ y ys → y < length W) → x < length W → (d ≡ c → ⊥) → getD (loop (fillTurn join pass start up far c) t ys) (cell d x) 0 ≡ getD t (cell d x) 0
   row-other ys t d x in-W l ne =
       row-keeps (λ u. getD u (cell d x) 0 ≡ getD t (cell d x) 0) (λ u y h e. climb-other W tree up ups narrow join pass c far y y (start u c y) u d x h l ne ∙ e) ys t in-W refl
 
@@ -162,7 +160,7 @@ module _ (W : Document) (tree : IsTree W) (up : List ℕ) (ups : (b : ℕ) → b
     row-loop [] t x in-W long f l = refl
     row-loop (y ∷ ys) t x in-W long f l =
         let i : y < length W = in-W y (List·Memᴰ·head refl) in
-        row-loop ys (turn t y) x (λ z k. in-W z (List·Memᴰ·tail k)) (subst (λ (n : ℕ). 64 * suc c ≤ n) (sym (climb-length W tree up ups narrow join pass c far y y (start t c y) t i)) long)
+        row-loop ys (turn t y) x (λ z k. in-W z (List·Memᴰ·tail k)) (subst (λ (n : ℕ). 64 * suc c ≤ n) (sym (climb-length join pass up c far y y (start t c y) t)) long)
         (λ d z a b k. climb-other W tree up ups narrow join pass c far y y (start t c y) t d z i k (λ e. omega arith) ∙ f d z a b k) l
         ∙ ap (λ (a : ℕ). loop turns a ys) (climb-entry W tree up ups narrow join pass c value here above far y y (start t c y) t x (omega arith) i long l ∙ ap (λ (g : ℕ). elim (edgeTest far W x y) as (λ _. ℕ) [ true ↦ join (getD t (cell c x) 0) (value y g x) | false ↦ getD t (cell c x) 0 ]) (starts t y i f))
       where
@@ -171,7 +169,6 @@ module _ (W : Document) (tree : IsTree W) (up : List ℕ) (ups : (b : ℕ) → b
 
     -- an entry is joined with what comes up from each place that the edge reaches
     pub row-entry : (ys : List ℕ) (t : List ℕ) (x : ℕ) → ((y : ℕ) → List·Memᴰ y ys → y < length W) → 64 * suc c ≤ length t → After t → x < length W
-        → getD (fillRow join pass start up far c ys t) (cell c x) 0 ≡ loop (λ acc y. join acc (value y (G y) x)) (getD t (cell c x) 0) (keep (edgeTest far W x) ys)
-    unfolding fillRow
+        → getD (loop (fillTurn join pass start up far c) t ys) (cell c x) 0 ≡ loop (λ acc y. join acc (value y (G y) x)) (getD t (cell c x) 0) (keep (edgeTest far W x) ys)
     row-entry ys t x in-W long f l =
         row-loop ys t x in-W long f l ∙ loop-keep (edgeTest far W x) (λ acc y. join acc (value y (G y) x)) (getD t (cell c x) 0) ys

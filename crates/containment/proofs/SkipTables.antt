@@ -27,7 +27,7 @@ use Rattle.bits.proofs.MaskLaws.{mask-agree}
 use Rattle.containment.specs.Judging.{Sets, nodeBy, climbBy, hangBy}
 use Rattle.containment.specs.Prepared.{ChainSets, Columns}
 use Rattle.containment.specs.Stepping.{members}
-use Rattle.containment.specs.Skipping.{loop, cell, childLoop, underBy, offerBy, lowRow, lowTable, timesBy, waysRow, waysTable}
+use Rattle.containment.specs.Skipping.{loop, cell, childTurn, childLoop, underBy, offerBy, lowRow, lowTable, timesBy, waysRow, waysTable}
 use Rattle.containment.proofs.KeepLaws.{keep-agree}
 use Rattle.containment.proofs.ChainLaws.{climb-stop, climb-step, hang-mask}
 use Rattle.containment.proofs.GatherLaws.{any-keep}
@@ -73,7 +73,7 @@ module _ (m : ℕ) (parents : List ℕ) (T : Rooted m (λ c. getD parents c 0)) 
   -- a loop over the nodes after c that takes the children of c
   child-loop : (places : ℕ → ℕ → List ℕ) (join : ℕ → ℕ → ℕ) (start : ℕ) (t : List ℕ) (c y : ℕ) → c < m
       → childLoop join start parents m t c y ≡ loop (λ acc d. join acc (getD t (cell d y) 0)) start (childrenOf m parent c)
-  unfolding childLoop
+  unfolding childLoop childTurn
   child-loop places join start t c y h =
       loop-keep (λ d. eqb (parent d) c) (λ acc d. join acc (getD t (cell d y) 0)) start range
       ∙ ap (loop (λ acc d. join acc (getD t (cell d y) 0)) start)

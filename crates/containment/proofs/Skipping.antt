@@ -32,7 +32,7 @@ use Rattle.bits.proofs.MaskLaws.{mask-and}
 use Rattle.containment.specs.Judging.{Sets, passBy, judgeBy}
 use Rattle.containment.specs.Prepared.{ChainSets, Columns, StepSets}
 use Rattle.containment.specs.Stepping.{members, stepFrom, sitesBy}
-use Rattle.containment.specs.Skipping.{placesBy, loop, cell, lowTable, waysTable, sureBy, surelyBy, leftBy, PlacedBy, MaySkip}
+use Rattle.containment.specs.Skipping.{placesBy, loop, cell, lowTable, waysTable, sureBy, sureGiven, surelyBy, leftTurn, leftBy, PlacedBy, MaySkip}
 use Rattle.containment.proofs.KeepLaws.{keep-keep, flat-agree}
 use Rattle.containment.proofs.MemberLaws.{members-mask}
 use Rattle.containment.proofs.Judging.{pass-mask, at-parent, gathered-meets, judge-quick}
@@ -69,7 +69,7 @@ module _ (m n : ℕ) (parents counts : List ℕ) (places : ℕ → ℕ → List 
       (u .0, omega arith, ltb-true (up c) q (r .1))
 
   pub left-right : (q : ℕ) (es : List ℕ) → 0 < q → q ≤ m → ((j : ℕ) → j < q → getD es j 0 < n) → leftBy K parents counts m q es ≡ min K (waysLeft m up places q es)
-  unfolding leftBy waysLeft
+  unfolding leftBy leftTurn waysLeft
   left-right q es z l inside =
       let one : 1 ≡ min K 1 = omega arith in
       loop-keep (λ c. ltb (up c) q) (λ acc c. min K (acc * getD counts (cell c (getD es (up c) 0)) 0)) 1 (upFrom q (m - q))
@@ -192,7 +192,7 @@ module _ (S : Summary) (P Q : Pattern) (T : Sets) (parents edges positions child
 
       -- the test by masks is the model's
       pub surely-right : 0 < length Q → surelyBy T parents positions lows (length P) q es ≡ surely S P Q places q es
-      unfolding surelyBy surely
+      unfolding surelyBy sureGiven surely
       surely-right z = gathered-meets S P Q T parents positions C K (s .tree) p small (sureBy T parents positions lows q es) sures handed passes sum z
 
   -- ---- all completions pass, and are so many

@@ -4,7 +4,7 @@ use Prim.Native.Nat.{ℕ, zero, suc, _+_, _-_, _^_, _≤_, _<_}
 use mathlib.Core.Path.{_≡_, refl, sym, ap, ap₂, _∙_, subst}
 use mathlib.Core.Bool.{Bool, true, false}
 use mathlib.Core.Logic.{inl, inr}
-use mathlib.Core.List.{List, [], _∷_, _++_, flatMap}
+use mathlib.Core.List.{List, [], _∷_, _++_, flatMap, List·Memᴰ, List·Memᴰ·head, List·Memᴰ·tail}
 use native.Mathlib.Omega.{arith}
 use native.Mathlib.Numerals.{add-one}
 use native.Mathlib.Nat.{lt-of-le-of-lt, lt-of-lt-of-le}
@@ -89,7 +89,12 @@ pub record StepInv (test : List ℕ → Bool) (sites : List ℕ → ℕ) (n m q 
   pub inside : (c : ℕ) → c < m → getD images c 0 < n
   pub sum : l + t ≡ left + tried
   pub fits : rest < 2 ^ n
+  pub among : (v : ℕ) → List·Memᴰ v (members rest) → List·Memᴰ v (members (sites (take q entry)))
   pub same : run test (going l t) (flatMap (λ v. stepFrom sites (m - (q + 1)) (take q entry ++ v ∷ [])) (members rest)) ≡ run test (going left tried) (stepFrom sites (m - q) (take q entry))
+
+-- a mask's first member, and the others
+pub first-left : {rest v rest′ : ℕ} → rest < 2 ^ 64 → (rest ≡ 0 → ⊥) → v ≡ trailingZeros 64 rest → rest′ ≡ rest - 2 ^ v → members rest ≡ v ∷ members rest′
+first-left {rest} w ne p p′ = members-first rest w ne ∙ ap₂ {C = List ℕ} (λ (u x : ℕ). u ∷ members x) (sym p) (ap (λ (u : ℕ). rest - 2 ^ u) (sym p) ∙ sym p′)
 
 -- `Going` has tag 0
 no-tag : OneOf (1 ∷ 2 ∷ []) 0 → ⊥
@@ -124,6 +129,7 @@ module _ {test : List ℕ → Bool} {sites : List ℕ → ℕ} {n m q left tried
         inside = i;
         sum = refl;
         fits = f;
+        among = λ v k. subst (λ (s : ℕ). List·Memᴰ v (members s)) e k;
         same = ap (λ (k : ℕ). run test (going left tried) (flatMap (λ v. stepFrom sites (m - (q + 1)) (take q entry ++ v ∷ [])) (members k))) e ∙ ap (λ (k : ℕ). run test (going left tried) (stepFrom sites k (take q entry))) more;
       }
     where
@@ -156,14 +162,11 @@ module _ {test : List ℕ → Bool} {sites : List ℕ → ℕ} {n m q left tried
     next-same =
         ap (λ (g : Progress). run test g (flatMap F (members rest′))) (S .same ∙ ap (λ (es : List ℕ). run test (going l t) (stepFrom sites (m - (q + 1)) es)) longer)
         ∙ sym (run-append test (going l t) (F v) (flatMap F (members rest′)))
-        ∙ ap (run test (going l t)) (sym (flat-cons F v (members rest′)) ∙ ap (flatMap F) (sym first))
+        ∙ ap (run test (going l t)) (sym (flat-cons F v (members rest′)) ∙ ap (flatMap F) (sym (first-left w ne p p′)))
         ∙ I .same
       where
         F : ℕ → List (List ℕ)
         F u = stepFrom sites (m - (q + 1)) (take q entry ++ u ∷ [])
-
-        first : members rest ≡ v ∷ members rest′
-        first = members-first rest w ne ∙ ap₂ {C = List ℕ} (λ (u x : ℕ). u ∷ members x) (sym p) (ap (λ (u : ℕ). rest - 2 ^ u) (sym p) ∙ sym p′)
 
   pub step-again : {images : List ℕ} {rest l t v rest′ : ℕ} {images′ images″ : List ℕ} {r : Run} {a b : ℕ} → StepInv test sites n m q left tried entry images rest l t → q < m → rest < 2 ^ 64 → (rest ≡ 0 → ⊥)
       → v ≡ trailingZeros 64 rest → rest′ ≡ rest - 2 ^ v → images′ ≡ set images q v → length images″ ≡ length images → Stepped test sites n m (q + 1) l t images′ images″ r → r ≡ Going a b
@@ -176,6 +179,7 @@ module _ {test : List ℕ → Bool} {sites : List ℕ → ℕ} {n m q left tried
         inside = S .inside;
         sum = run-sum test l t a b (stepFrom sites (m - (q + 1)) (take (q + 1) images′)) (sym (S .same) ∙ G) ∙ I .sum;
         fits = let k : rest < 2 ^ n = I .fits in omega arith;
+        among = λ u k. I .among u (subst (λ (us : List ℕ). List·Memᴰ u us) (sym (first-left w ne p p′)) (List·Memᴰ·tail k));
         same = ap (λ (g : Progress). run test g (flatMap (λ u. stepFrom sites (m - (q + 1)) (take q entry ++ u ∷ [])) (members rest′))) (sym G) ∙ next-same I h w ne p p′ s S;
       }
 
@@ -204,7 +208,7 @@ pub node-left : {q m : ℕ} → q ≤ m → (q ≡ m → ⊥) → q < m
 node-left h ne = omega arith
 
 -- other images in the summary do as well
-room-images : {up fitting closed allowed low high parents positions images : List ℕ} (images′ : List ℕ) → JudgeRoom up fitting closed allowed low high parents positions images
+pub room-images : {up fitting closed allowed low high parents positions images : List ℕ} (images′ : List ℕ) → JudgeRoom up fitting closed allowed low high parents positions images
     → length images′ ≡ length parents → ((c : ℕ) → c < length parents → getD images′ c 0 < length up) → JudgeRoom up fitting closed allowed low high parents positions images′
 room-images images′ R p i =
     record { chain = R .chain; tree = R .tree; small = R .small; places = R .places; range = R .range; placed = p; inside = i }
@@ -254,6 +258,10 @@ module _ {test : List ℕ → Bool} {sites : List ℕ → ℕ} {n m q left tried
   -- the mask fits its type
   pub rest-fits : n ≤ 64 → rest < 2 ^ 64
   rest-fits h = lt-of-lt-of-le (I .fits) (pow-mono h)
+
+  -- the first place left is one of the node's
+  pub first-among : {v : ℕ} → rest < 2 ^ 64 → (rest ≡ 0 → ⊥) → v ≡ trailingZeros 64 rest → List·Memᴰ v (members (sites (take q entry)))
+  first-among {v} w ne p = I .among v (subst (λ (us : List ℕ). List·Memᴰ v us) (sym (first-left w ne p refl)) (List·Memᴰ·head refl))
 
   pub placed-inside : {images′ : List ℕ} {v : ℕ} → q < m → v < n → images′ ≡ set images q v → (c : ℕ) → c < m → getD images′ c 0 < n
   placed-inside {images′} {v} h k s c i = subst (λ (xs : List ℕ). getD xs c 0 < n) (sym s) (go (eqb c q) refl)

@@ -42,9 +42,9 @@ climbRow join pass up far c (suc k) b h t =
       | false ↦ t
     ]
 
--- row c: from each of the places ys in turn, with what `start` says there by the rows after it
-unfoldable pub fillRow : (ℕ → ℕ → ℕ) → (ℕ → ℕ → ℕ) → (List ℕ → ℕ → ℕ → ℕ) → List ℕ → Bool → ℕ → List ℕ → List ℕ → List ℕ
-fillRow join pass start up far c ys t = loop (λ t y. climbRow join pass up far c y y (start t c y) t) t ys
+-- row c: up from y, with what `start` says there by the rows after it
+abbrev pub fillTurn : (ℕ → ℕ → ℕ) → (ℕ → ℕ → ℕ) → (List ℕ → ℕ → ℕ → ℕ) → List ℕ → Bool → ℕ → List ℕ → ℕ → List ℕ
+fillTurn join pass start up far c t y = climbRow join pass up far c y y (start t c y) t
 
 -- the rows from node c down to node 1
 unfoldable pub fillRows : (ℕ → List ℕ → List ℕ) → ℕ → List ℕ → List ℕ
@@ -52,8 +52,11 @@ fillRows row zero t = t
 fillRows row (suc c) t = fillRows row c (row (suc c) t)
 
 -- a loop over the children of node c, of m nodes: each gives its entry at y
+unfoldable pub childTurn : (ℕ → ℕ → ℕ) → List ℕ → List ℕ → ℕ → ℕ → ℕ → ℕ → ℕ
+childTurn join parents t c y acc d = elim (eqb (getD parents d 0) c) [ true ↦ join acc (getD t (cell d y) 0) | false ↦ acc ]
+
 unfoldable pub childLoop : (ℕ → ℕ → ℕ) → ℕ → List ℕ → ℕ → List ℕ → ℕ → ℕ → ℕ
-childLoop join start parents m t c y = loop (λ acc d. elim (eqb (getD parents d 0) c) [ true ↦ join acc (getD t (cell d y) 0) | false ↦ acc ]) start (upFrom (suc c) (m - suc c))
+childLoop join start parents m t c y = loop (childTurn join parents t c y) start (upFrom (suc c) (m - suc c))
 
 -- what hangs at least from node c at y, by the rows of its children
 unfoldable pub underBy : List ℕ → ℕ → List ℕ → ℕ → ℕ → ℕ
@@ -64,10 +67,12 @@ unfoldable pub offerBy : Sets → List ℕ → List ℕ → ℕ → List ℕ →
 offerBy T parents positions m t c y = nodeBy T y (getD positions c 0) (underBy parents m t c y)
 
 -- what node c offers at least to the node on x, wherever it is placed below: everything, of k second-pattern nodes, where it has no
--- place
+-- place. From one of its paths, and from all
+abbrev pub lowTurn : Sets → List ℕ → List ℕ → List ℕ → ℕ → ℕ → List ℕ → ℕ → List ℕ
+lowTurn T parents edges positions m c = fillTurn bitAnd (λ x h. nodeBy T x 0 h) (offerBy T parents positions m) (T .up) (eqb (getD edges c 0) 1) c
+
 unfoldable pub lowRow : Sets → List ℕ → List ℕ → List ℕ → List ℕ → ℕ → ℕ → List ℕ → List ℕ
-lowRow T parents edges positions parts m c =
-    fillRow bitAnd (λ x h. nodeBy T x 0 h) (offerBy T parents positions m) (T .up) (eqb (getD edges c 0) 1) c (members (getD parts c 0))
+lowRow T parents edges positions parts m c t = loop (lowTurn T parents edges positions m c) t (members (getD parts c 0))
 
 abbrev pub lowTable : Sets → List ℕ → List ℕ → List ℕ → List ℕ → ℕ → ℕ → List ℕ
 lowTable T parents edges positions parts m k = fillRows (lowRow T parents edges positions parts m) (m - 1) (replicate 1024 (2 ^ k - 1))
@@ -76,9 +81,12 @@ lowTable T parents edges positions parts m k = fillRows (lowRow T parents edges 
 unfoldable pub timesBy : ℕ → List ℕ → ℕ → List ℕ → ℕ → ℕ → ℕ
 timesBy K = childLoop (λ acc e. min K (acc * e)) 1
 
--- and node c with all below it, where its parent stands at x
+-- and node c with all below it, where its parent stands at x. From one of its paths, and from all
+abbrev pub waysTurn : ℕ → List ℕ → List ℕ → List ℕ → ℕ → ℕ → List ℕ → ℕ → List ℕ
+waysTurn K up parents edges m c = fillTurn (λ acc n. min K (acc + n)) (λ x n. n) (timesBy K parents m) up (eqb (getD edges c 0) 1) c
+
 unfoldable pub waysRow : ℕ → List ℕ → List ℕ → List ℕ → List ℕ → ℕ → ℕ → List ℕ → List ℕ
-waysRow K up parents edges parts m c = fillRow (λ acc n. min K (acc + n)) (λ x n. n) (timesBy K parents m) up (eqb (getD edges c 0) 1) c (members (getD parts c 0))
+waysRow K up parents edges parts m c t = loop (waysTurn K up parents edges m c) t (members (getD parts c 0))
 
 abbrev pub waysTable : ℕ → List ℕ → List ℕ → List ℕ → List ℕ → ℕ → List ℕ
 waysTable K up parents edges parts m = fillRows (waysRow K up parents edges parts m) (m - 1) (replicate 1024 0)
@@ -94,15 +102,21 @@ sureBy T parents positions lows q es c e =
       | false ↦ elim (ltb (getD parents c 0) q) [ true ↦ getD lows (cell c (getD es (getD parents c 0) 0)) 0 | false ↦ 0 ]
     ]
 
+-- what hangs at least from each of m nodes
+unfoldable pub sureGiven : Sets → List ℕ → List ℕ → List ℕ → ℕ → ℕ → List ℕ → List ℕ
+sureGiven T parents positions lows m q es = gather (λ c. getD parents c 0) (sureBy T parents positions lows q es) (m - 1) (replicate 16 0)
+
 -- every completion to m nodes surely passes
 unfoldable pub surelyBy : Sets → List ℕ → List ℕ → List ℕ → ℕ → ℕ → List ℕ → Bool
 surelyBy T parents positions lows m q es =
-    has (meetsBy (T .fitting) (T .allowed) (T .low) (T .high) 0 (getD positions 0 0) (bitOr (getD (T .closed) 0 0) (getD (gather (λ c. getD parents c 0) (sureBy T parents positions lows q es) (m - 1) (replicate 16 0)) 0 0))) 0
+    has (meetsBy (T .fitting) (T .allowed) (T .low) (T .high) 0 (getD positions 0 0) (bitOr (getD (T .closed) 0 0) (getD (sureGiven T parents positions lows m q es) 0 0))) 0
 
--- how many completions there are, cut at the cap K
+-- how many completions there are, cut at the cap K: a node whose parent is placed stands for all below it
+unfoldable pub leftTurn : ℕ → List ℕ → List ℕ → ℕ → List ℕ → ℕ → ℕ → ℕ
+leftTurn K parents counts q es acc c = elim (ltb (getD parents c 0) q) [ true ↦ min K (acc * getD counts (cell c (getD es (getD parents c 0) 0)) 0) | false ↦ acc ]
+
 unfoldable pub leftBy : ℕ → List ℕ → List ℕ → ℕ → ℕ → List ℕ → ℕ
-leftBy K parents counts m q es =
-    loop (λ acc c. elim (ltb (getD parents c 0) q) [ true ↦ min K (acc * getD counts (cell c (getD es (getD parents c 0) 0)) 0) | false ↦ acc ]) 1 (upFrom q (m - q))
+leftBy K parents counts m q es = loop (leftTurn K parents counts q es) 1 (upFrom q (m - q))
 
 -- the first q images stand well: the root at the root, which its mask has, and every other at one of its places from its parent's
 -- image

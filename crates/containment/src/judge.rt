@@ -1,5 +1,6 @@
 // The quick test of an embedding by masks. Sets of the second pattern's nodes are 16-bit masks.
 
+use crate::cells::least_at;
 use bits::has16;
 use format::nodes::PatternNode;
 use format::nodes::SummaryNode;
@@ -12,8 +13,9 @@ ghost use Prim.Native.Nat.{_≤_, _<_};
 ghost use lib.Bits.{bitOr};
 ghost use lib.ListN.{length, getD, set as setAt};
 ghost use mathlib.Core.List.{[]};
-ghost use Rattle.containment.specs.Judging.{fullBy, meetsBy, offersBy, setsOf, nodeBy, hangBy, passBy, givenBy, judgeBy};
+ghost use Rattle.containment.specs.Judging.{fullBy, meetsBy, offersBy, setsOf, nodeBy, hangBy, passBy};
 ghost use Rattle.containment.specs.Room.{NodeRoom, ChainRoom, JudgeRoom};
+ghost use Rattle.containment.specs.Skipping.{sureBy, sureGiven, surelyBy};
 
 // The pattern nodes all of whose children are in acc.
 pub fn full(low: &[u16], high: &[u16], acc: u16) -> u16
@@ -58,7 +60,7 @@ pub fn offered(
 }
 
 // What a node on x with position n, its filled-up children and what hangs from it, g, offer.
-fn node(
+pub fn node(
     fitting: &[u16],
     closed: &[u16],
     allowed: &[u16],
@@ -144,8 +146,9 @@ pub fn join(t: &mut [u16], j: usize, set: u16)
     t[j] = t[j] | set;
 }
 
-// What hangs from the first pattern's root: each node, from the last on, passes on to its parent.
-fn given(
+// What first-pattern node c passes on to its parent at least, where e hangs from it and the nodes before q are placed: the least that
+// it offers where it is not placed and its parent is.
+fn handed(
     up: &[u16],
     fitting: &[u16],
     closed: &[u16],
@@ -155,16 +158,17 @@ fn given(
     deep: u16,
     parents: &[u16],
     positions: &[u16],
+    least: &[u16],
     images: &[u16],
+    q: PatternNode,
+    c: PatternNode,
+    e: u16,
 ) -> u16
-    requires { ⌜ JudgeRoom (now up) (now fitting) (now closed) (now allowed) (now low) (now high) (now parents) (now positions) (now images) ⌝ }
-    ensures { λ r. ⌜ r ≡ getD (givenBy (setsOf (now (up .entry)) (now (fitting .entry)) (now (closed .entry)) (now (allowed .entry)) (now (low .entry)) (now (high .entry)) deep) (now (parents .entry)) (now (positions .entry)) (now (images .entry)) (length (now (parents .entry)))) 0 0 ⌝ }
+    requires { ⌜ (JudgeRoom (now up) (now fitting) (now closed) (now allowed) (now low) (now high) (now parents) (now positions) (now images)) × (length (now up) ≤ 64) × (1024 ≤ length (now least)) × (0 < c .0) × (c .0 < length (now parents)) ⌝ }
+    ensures { λ r. ⌜ r ≡ sureBy (setsOf (now (up .entry)) (now (fitting .entry)) (now (closed .entry)) (now (allowed .entry)) (now (low .entry)) (now (high .entry)) deep) (now (parents .entry)) (now (positions .entry)) (now (least .entry)) (q .0) (now (images .entry)) (c .0) e ⌝ }
 {
-    let mut t = [0u16; 16];
-    let mut c = parents.len();
-    while 1 < c {
-        c -= 1;
-        let set = pass(
+    if c.0 < q.0 {
+        return pass(
             up,
             fitting,
             closed,
@@ -175,6 +179,52 @@ fn given(
             parents,
             positions,
             images,
+            c,
+            e,
+        );
+    }
+    let j = pattern_parent(parents, c);
+    if j.0 < q.0 {
+        return least_at(least, c, image_of(images, j));
+    }
+    0
+}
+
+// What hangs at least from the first pattern's root: each node, from the last on, passes on to its parent.
+fn given(
+    up: &[u16],
+    fitting: &[u16],
+    closed: &[u16],
+    allowed: &[u16],
+    low: &[u16],
+    high: &[u16],
+    deep: u16,
+    parents: &[u16],
+    positions: &[u16],
+    least: &[u16],
+    images: &[u16],
+    q: PatternNode,
+) -> u16
+    requires { ⌜ (JudgeRoom (now up) (now fitting) (now closed) (now allowed) (now low) (now high) (now parents) (now positions) (now images)) × (length (now up) ≤ 64) × (1024 ≤ length (now least)) ⌝ }
+    ensures { λ r. ⌜ r ≡ getD (sureGiven (setsOf (now (up .entry)) (now (fitting .entry)) (now (closed .entry)) (now (allowed .entry)) (now (low .entry)) (now (high .entry)) deep) (now (parents .entry)) (now (positions .entry)) (now (least .entry)) (length (now (parents .entry))) (q .0) (now (images .entry))) 0 0 ⌝ }
+{
+    let mut t = [0u16; 16];
+    let mut c = parents.len();
+    while 1 < c {
+        c -= 1;
+        let set = handed(
+            up,
+            fitting,
+            closed,
+            allowed,
+            low,
+            high,
+            deep,
+            parents,
+            positions,
+            least,
+            images,
+            q,
             PatternNode(c),
             t[c],
         );
@@ -183,7 +233,8 @@ fn given(
     t[0]
 }
 
-// The embedding `images` of the first pattern passes: the second pattern's root meets at the root.
+// Every completion of the images of the nodes before q surely passes: by what hangs from it at least, the second pattern's root meets
+// at the root. Of the images of all nodes: the embedding passes.
 pub fn judge(
     up: &[u16],
     fitting: &[u16],
@@ -194,10 +245,12 @@ pub fn judge(
     deep: u16,
     parents: &[u16],
     positions: &[u16],
+    least: &[u16],
     images: &[u16],
+    q: PatternNode,
 ) -> bool
-    requires { ⌜ JudgeRoom (now up) (now fitting) (now closed) (now allowed) (now low) (now high) (now parents) (now positions) (now images) ⌝ }
-    ensures { λ r. ⌜ r ≡ judgeBy (setsOf (now (up .entry)) (now (fitting .entry)) (now (closed .entry)) (now (allowed .entry)) (now (low .entry)) (now (high .entry)) deep) (now (parents .entry)) (now (positions .entry)) (length (now (parents .entry))) (now (images .entry)) ⌝ }
+    requires { ⌜ (JudgeRoom (now up) (now fitting) (now closed) (now allowed) (now low) (now high) (now parents) (now positions) (now images)) × (length (now up) ≤ 64) × (1024 ≤ length (now least)) ⌝ }
+    ensures { λ r. ⌜ r ≡ surelyBy (setsOf (now (up .entry)) (now (fitting .entry)) (now (closed .entry)) (now (allowed .entry)) (now (low .entry)) (now (high .entry)) deep) (now (parents .entry)) (now (positions .entry)) (now (least .entry)) (length (now (parents .entry))) (q .0) (now (images .entry)) ⌝ }
 {
     let g = given(
         up,
@@ -209,7 +262,9 @@ pub fn judge(
         deep,
         parents,
         positions,
+        least,
         images,
+        q,
     );
     has16(
         met(

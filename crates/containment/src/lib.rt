@@ -1,8 +1,10 @@
 // Embeddings of the first pattern into the summary (document 01: placements), stepped and judged by masks, nothing laid out.
 
+pub mod cells;
 pub mod decide;
 pub mod judge;
 pub mod sets;
+pub mod skip;
 pub mod steps;
 pub mod verdict;
 
