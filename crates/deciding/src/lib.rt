@@ -14,7 +14,7 @@ use questions::refusals::verdict_refusal;
 ghost use mathlib.Core.Path.{_≡_};
 ghost use Prim.Native.Nat.{ℕ, _+_, _≤_, _<_};
 ghost use lib.ListN.{length, take};
-ghost use Rattle.model.specs.Limits.{minBuffer};
+ghost use Rattle.model.specs.Limits.{maxLimit, minBuffer};
 ghost use Rattle.model.specs.Pattern.{arity as arityOf};
 ghost use Rattle.model.specs.Bytes.{caseOf, writtenAtFront};
 ghost use Rattle.model.proofs.Questions.{AcceptedCase};
@@ -119,7 +119,7 @@ fn decide(
     answer: &mut [u8],
 ) -> Containment
     requires { ⌜ CaseLent (now parents) (now labels) (now strongs) n (now pparents) (now plabels) (now pedges) (now ppositions) m (now qparents) (now qlabels) (now qedges) (now qpositions) q ⌝ }
-    requires { ⌜ (k ≡ arityOf (patternFrom (now pparents) (now plabels) (now pedges) (now ppositions) m)) × (minBuffer ≤ length (now answer)) ⌝ }
+    requires { ⌜ (k ≡ arityOf (patternFrom (now pparents) (now plabels) (now pedges) (now ppositions) m)) × (minBuffer ≤ length (now answer)) × (limit ≤ maxLimit) ⌝ }
     ensures { λ r. ⌜ Told (caseFrom (now (parents .entry)) (now (labels .entry)) (now (strongs .entry)) n (now (pparents .entry)) (now (plabels .entry)) (now (pedges .entry)) (now (ppositions .entry)) m (now (qparents .entry)) (now (qlabels .entry)) (now (qedges .entry)) (now (qpositions .entry)) q) limit (now (answer .entry)) (now (answer .exit)) r ⌝ }
 {
     let mut images = [0u16; 16];
@@ -163,7 +163,7 @@ fn decide(
 
 // The verdict on an accepted case: its tables are read into columns.
 fn accepted(case: &[u8], limit: u64, answer: &mut [u8]) -> Containment
-    requires { ⌜ AcceptedCase (now case) × (minBuffer ≤ length (now answer)) ⌝ }
+    requires { ⌜ AcceptedCase (now case) × (minBuffer ≤ length (now answer)) × (limit ≤ maxLimit) ⌝ }
     ensures { λ r. ⌜ Told (caseOf (now (case .entry))) limit (now (answer .entry)) (now (answer .exit)) r ⌝ }
 {
     let mut parents = [0u16; 64];

@@ -161,7 +161,7 @@ decide-requires c κs =
     let s = begun k in
     let t = summary-there (summed k) in (
       read-lent (facts s) t (first-there f) (second-there g),
-      (read-arity (facts s) t (first-there f) (second-there g) _ (k .first-at .ensures) (a .arity .ensures .0), s .pre .1),
+      (read-arity (facts s) t (first-there f) (second-there g) _ (k .first-at .ensures) (a .arity .ensures .0), s .pre .1, s .pre .2),
     )
 
 same-length : tie.Need-same-length

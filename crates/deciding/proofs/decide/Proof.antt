@@ -23,7 +23,7 @@ slice-aggregate-verdict : tie.Need-slice-aggregate-verdict
 slice-aggregate-verdict c = search needs
 
 verdict-requires : tie.Need-verdict-requires
-verdict-requires c κs = (start c .pre .0, small c)
+verdict-requires c κs = (start c .pre .0, (small c, start c .pre .1 .2))
 
 enum-known-r : tie.Need-enum-known-r
 enum-known-r c = search needs

@@ -28,7 +28,7 @@ returns c = answered-refused _ _ _ _ (c .before .verdict-refusal .ensures) (c .i
 accepted-requires : tie.Need-accepted-requires
 accepted-requires c κs =
     let f = accepted-verdict _ _ _ _ (none (c .before)) in
-    (f .case, f .buffer)
+    (f .case, f .buffer, f .limitHigh)
 
 answer-of-requires : tie.Need-answer-of-requires
 answer-of-requires c κs = search needs
