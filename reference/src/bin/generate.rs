@@ -1,10 +1,10 @@
 //! `generate boundaries`, `generate random SEED COUNT`, `generate cases SEED
-//! COUNT` and `generate layouts SEED COUNT` write test vectors to standard
-//! output.
+//! COUNT`, `generate layouts SEED COUNT` and `generate many SEED COUNT` write
+//! test vectors to standard output.
 
 #![forbid(unsafe_code)]
 
-use reference::generate::{boundaries, cases, layouts, random};
+use reference::generate::{boundaries, cases, layouts, many, random};
 use reference::vectors::Vector;
 use std::io::{self, Write};
 use std::process::ExitCode;
@@ -12,7 +12,8 @@ use std::process::ExitCode;
 const USAGE: &str = "usage: generate boundaries
        generate random SEED COUNT
        generate cases SEED COUNT
-       generate layouts SEED COUNT";
+       generate layouts SEED COUNT
+       generate many SEED COUNT";
 
 fn main() -> ExitCode {
     let words: Vec<String> = std::env::args().skip(1).collect();
@@ -22,6 +23,7 @@ fn main() -> ExitCode {
         ["random", seed, count] => seeded(seed, count, random),
         ["cases", seed, count] => seeded(seed, count, cases),
         ["layouts", seed, count] => seeded(seed, count, layouts),
+        ["many", seed, count] => seeded(seed, count, many),
         _ => None,
     };
     match vectors {

@@ -61,7 +61,7 @@ fn large(prng: &mut Prng) -> Plan {
 }
 
 /// Few enough free nodes for thousands of placements.
-fn many(prng: &mut Prng) -> Plan {
+pub fn many(prng: &mut Prng) -> Plan {
     let size = prng.between(20, 64);
     let outline = trees::outline(prng, size);
     let fixed = Freedom {

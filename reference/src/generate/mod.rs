@@ -1,12 +1,14 @@
 //! Test vectors, drawn from a seed or at every boundary of every question.
 //! `changes` has every way to break a question, `boundaries` applies them
 //! singly and in pairs, `trees` draws outlines, selections and volumes, and
-//! `random`, `cases` and `layouts` put them together.
+//! `random`, `cases` and `layouts` put them together; `many` has verdicts over
+//! very many placements.
 
 mod boundaries;
 mod cases;
 mod changes;
 mod layouts;
+mod many;
 #[cfg(test)]
 mod meaning;
 mod plan;
@@ -17,5 +19,6 @@ mod trees;
 pub use boundaries::boundaries;
 pub use cases::cases;
 pub use layouts::layouts;
+pub use many::many;
 pub use prng::Prng;
 pub use random::random;
