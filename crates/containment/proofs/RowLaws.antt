@@ -9,8 +9,7 @@ use native.Mathlib.Omega.{arith}
 use native.Mathlib.Nat.{mul-assoc, mul-one, add-assoc, add-zero}
 use lib.Bits.{bitAnd, bitOr}
 use lib.Dec.{ltb}
-use lib.ListN.{length, getD, set, length-set}
-use lib.Seq.{getD-set-same, getD-set-other}
+use lib.ListN.{length, getD}
 use borrow.Author.Tests.{ltb-true, ltb-false}
 use Rattle.model.specs.Lists.{keep, anyOf, allOf, maskBelow}
 use Rattle.model.specs.Tree.{Document, IsTree, parentOf}
@@ -18,7 +17,7 @@ use Rattle.model.specs.Embeddings.{edgeTest}
 use Rattle.model.specs.Skipping.{sumOf, productOf}
 use Rattle.model.proofs.WaysLaws.{cap-sums, cap-products}
 use Rattle.bits.proofs.MaskLaws.{any-cons, mask-agree, mask-or, mask-and}
-use Rattle.containment.specs.Skipping.{cell, climbRow, fillTurn, fillRows, loop}
+use Rattle.containment.specs.Skipping.{cell, fillTurn, fillRows, loop}
 use Rattle.containment.proofs.ClimbLaws.{climb-length, climb-other, climb-entry}
 
 -- ---- rows

@@ -1,7 +1,7 @@
 -- The tables that skipping reads hold what the model says: rows are filled from the last node to the first, so the rows of a node's
 -- children are right when its own is filled, by a climb from each of its paths. Assumes nothing.
 use Prim.Native.Nat.{ℕ, zero, suc, _+_, _-_, _*_, _^_, _≤_, _<_, min}
-use mathlib.Core.Path.{_≡_, refl, sym, ap, ap₂, _∙_, subst}
+use mathlib.Core.Path.{_≡_, refl, sym, ap, _∙_, subst}
 use mathlib.Core.Bool.{Bool, true, false, _&&_, _||_}
 use mathlib.Core.List.{List, List·Memᴰ}
 use native.Mathlib.Omega.{arith}
@@ -19,7 +19,7 @@ use Rattle.model.specs.Embeddings.{edgeTest}
 use Rattle.model.specs.Canonical.{chain}
 use Rattle.model.specs.Quick.{hangsFrom, hang}
 use Rattle.model.specs.Skipping.{productOf, sumOf, childrenOf, ways, low}
-use Rattle.model.proofs.ListLaws.{upFrom-mem, keep-elim, any-agree}
+use Rattle.model.proofs.ListLaws.{upFrom-mem, any-agree}
 use Rattle.model.proofs.Masks.{mask-none}
 use Rattle.model.proofs.WaysLaws.{children-later, children-after, ways-equation}
 use Rattle.model.proofs.Skipping.{low-equation}
@@ -91,10 +91,6 @@ module _ (W : Document) (tree : IsTree W) (narrow : length W ≤ 64) (up parents
 
   abbrev places : ℕ → ℕ → List ℕ
   places c x = members (masks c x)
-
-  place-inside : (c x y : ℕ) → c < m → x < length W → List·Memᴰ y (places c x) → y < length W
-  place-inside c x y h l k =
-      inside c y h (keep-elim (edgeTest (far c) W x) y (members (getD parts c 0)) (subst (λ (ys : List ℕ). List·Memᴰ y ys) (sym (reach c x h l)) k) .0)
 
   up-falls : (b : ℕ) → 0 < b → b < length W → getD up b 0 < b
   up-falls b z h = subst (λ (a : ℕ). a < b) (sym (ups b h)) (tree .earlier b z h)

@@ -1,21 +1,17 @@
-use borrow.Author.Needs.{needs}
+-- `containment::judge::given` meets its contract: nodes have their turn from the last on, as the definition goes. Assumes nothing.
 use Prim.Native.Nat.{ℕ, _-_, _≤_, _<_}
-use mathlib.Core.Path.{refl, ap}
 use mathlib.Core.List.{List}
+use mathlib.Core.Path.{refl, ap}
 use native.Mathlib.Omega.{arith}
 use lib.ListN.{length, getD, replicate}
+use borrow.Author.Needs.{needs}
 use Rattle.containment.specs.Judging.{setsOf}
 use Rattle.containment.specs.Room.{JudgeRoom}
 use Rattle.containment.specs.Skipping.{sureBy, sureGiven}
-use Rattle.containment.proofs.RoomLaws.{parent-lt}
 use Rattle.containment.proofs.GivenLoop.{Gathering, gathering-start, gathering-step, gathering-end, join-turn}
+use Rattle.containment.proofs.RoomLaws.{parent-lt}
 use Rattle.containment.proofs.judge.given.Statement.{statement}
 use Rattle.containment.proofs.judge.given.Tie as tie
-use Rattle.containment.proofs.judge.given.Reads as reads
-use Rattle.containment.proofs.judge.given.Lts as lts
-use Rattle.containment.proofs.judge.handed.Reads as handed-reads
-use Rattle.containment.proofs.judge.join.Reads as join-reads
-use Rattle.format.proofs.nodes.number.Reads as number-reads
 
 abbrev Inv-loop : tie.InvT-loop
 Inv-loop up fitting closed allowed low high deep parents positions least images q t₀ c₀ t c =
@@ -25,46 +21,36 @@ Inv-loop up fitting closed allowed low high deep parents positions least images 
 abbrev μ-loop : tie.MeasureT-loop
 μ-loop up fitting closed allowed low high deep parents positions least images q t₀ c₀ t c = c
 
--- src/judge.rt:213:5
 loop-holds : tie.Need-loop-holds Inv-loop μ-loop
 loop-holds c = let s = c .before .before .before .before .before .before .before .before .before .before .pre in (s .0, s .1, s .2, gathering-start (s .0 .tree .inhabited))
 
--- src/judge.rt:214:9
 sub-c : tie.Need-sub-c Inv-loop μ-loop
 sub-c c = search needs
 
--- src/judge.rt:229:13
 mul-handed : tie.Need-mul-handed Inv-loop μ-loop
 mul-handed c = search needs
 
--- src/judge.rt:229:13
 array-read-handed : tie.Need-array-read-handed Inv-loop μ-loop
 array-read-handed c = search needs
 
--- src/judge.rt:215:13
 handed-requires : tie.Need-handed-requires Inv-loop μ-loop
 handed-requires c κs = search needs
 
--- src/judge.rt:231:14
 slice-aggregate-join : tie.Need-slice-aggregate-join Inv-loop μ-loop
 slice-aggregate-join c = search needs
 
--- src/judge.rt:231:22
 number-requires : tie.Need-number-requires Inv-loop μ-loop
 number-requires c κs = search needs
 
--- src/judge.rt:231:9
 join-requires : tie.Need-join-requires Inv-loop μ-loop
 join-requires c κs =
     let l = c .before .before .before .before .loop in
     let k : c .number .result < l .c - 1 = parent-lt (l .inv .0) (omega arith) (omega arith) (c .number .ensures) in
     omega arith
 
--- src/judge.rt:213:5
 loop-less : tie.Need-loop-less Inv-loop μ-loop
 loop-less c = search needs
 
--- src/judge.rt:213:5
 loop-again : tie.Need-loop-again Inv-loop μ-loop
 loop-again c =
     let l = c .before .before .before .before .before .before .loop in (
@@ -75,11 +61,9 @@ loop-again c =
           (join-turn _ _ _ _ _ _ _ (c .before .before .number .ensures) (c .before .before .before .before .handed .ensures) (c .before .join .ensures)) (c .before .join .kept .0),
     )
 
--- src/judge.rt:233:5
 array-read-result : tie.Need-array-read-result Inv-loop μ-loop
 array-read-result c = search needs
 
--- src/judge.rt:194:1
 returns : tie.Need-returns Inv-loop μ-loop
 unfolding sureGiven
 returns c = ap (λ (l : List ℕ). getD l 0 0) (gathering-end (c .before .loop .inv .3) (c .loop-test .left))
