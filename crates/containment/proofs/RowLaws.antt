@@ -75,12 +75,6 @@ loop-keep test turn acc (x ∷ xs) = go (test x) (λ a. loop-keep test turn a xs
     go true rest = rest (turn acc x)
     go false rest = rest acc
 
--- loops that take the same turns
-pub loop-agree : (f g : ℕ → ℕ → ℕ) (acc : ℕ) (xs : List ℕ) → ((a x : ℕ) → List·Memᴰ x xs → f a x ≡ g a x) → loop f acc xs ≡ loop g acc xs
-unfolding loop
-loop-agree f g acc [] h = refl
-loop-agree f g acc (x ∷ xs) h = ap (λ (a : ℕ). loop f a xs) (h acc x (List·Memᴰ·head refl)) ∙ loop-agree f g (g acc x) xs (λ a y k. h a y (List·Memᴰ·tail k))
-
 all-cons : (test : ℕ → Bool) (x : ℕ) (xs : List ℕ) → allOf test (x ∷ xs) ≡ (test x && allOf test xs)
 unfolding allOf
 all-cons test x xs = go (test x)
