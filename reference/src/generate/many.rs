@@ -1,10 +1,12 @@
 //! Verdicts over very many placements, each trial of few nodes: up to the
 //! limit, exactly at it and one past it; one failing placement far down, and
-//! many behind a long run that passes.
+//! many behind a long run that passes; all passing, at different places by
+//! turns.
 
 use super::cases;
 use super::plan::{least_length, OutlineRow, Plan, SelectionRow};
 use super::prng::Prng;
+use super::trees;
 use crate::vectors::{Vector, VERDICT};
 
 const LIMIT: u64 = 1_000_000;
@@ -50,15 +52,19 @@ fn verdict(plan: Plan, limit: u64) -> Vector {
 }
 
 /// Some 3,000 to 1,000,000 placements in blocks or with one that fails, and a
-/// limit near their number or far above it; or a case near the limits.
+/// limit near their number or far above it; or other cases up to a limit that
+/// the reference reaches soon.
 fn drawn(prng: &mut Prng) -> Vector {
     let (most, nodes) = [(31, 3), (31, 4), (15, 5), (10, 6), (5, 8)][prng.below(5)];
     let width = prng.between(most * 2 / 3, most);
-    let plan = match prng.below(4) {
-        0 => one_without(width, nodes, prng.below(width)),
-        1 => two_blocks(width, prng.between(1, 4), nodes),
-        2 => star(width, nodes),
-        _ => return verdict(cases::many(prng), 30_000),
+    let soon = 1 + prng.draw() % 30_000;
+    let plan = match prng.below(8) {
+        0 | 1 => one_without(width, nodes, prng.below(width)),
+        2 | 3 => two_blocks(width, prng.between(1, 4), nodes),
+        4 => star(width, nodes),
+        5 => return verdict(vast(prng), soon),
+        6 => return verdict(by_turns(prng), soon),
+        _ => return verdict(cases::many(prng), soon),
     };
     let all = (width as u64).pow(nodes as u32);
     let limit = [all - 1, all, all + 1, 1 + prng.draw() % all, LIMIT][prng.below(5)];
@@ -111,4 +117,66 @@ fn two_blocks(passing: usize, failing: usize, free: usize) -> Plan {
         first,
         vec![[0, ROOT, CHILD, 1], [0, FIRST, CHILD, 0]],
     )
+}
+
+/// A first selection of 15 nodes that may stand anywhere, and a second
+/// that asks no more: up to 63^15 placements, all of which pass.
+fn vast(prng: &mut Prng) -> Plan {
+    let mut outline: Vec<OutlineRow> = vec![[0, 1, 0]];
+    while outline.len() < 64 {
+        let parent = prng.below(outline.len().min(8)) as u16;
+        let label = 10 + outline.len() as u16;
+        outline.push([parent, label, u16::from(prng.percent(10))]);
+    }
+    let mut first: Vec<SelectionRow> = vec![[0, 1, 0, 1]];
+    while first.len() <= 15 {
+        let parent = if prng.percent(80) {
+            0
+        } else {
+            prng.below(first.len()) as u16
+        };
+        first.push([parent, 0, 1, 0]);
+    }
+    let second = trees::weaken(prng, &first);
+    plan(outline, first, second)
+}
+
+/// The second asks for a b with a child c. The first has a b, then free nodes,
+/// and last a c below the b, at one of the places where now this b has it as
+/// its child and now a b further down. So all trials pass, but no node's
+/// places have an offer in common until the c is placed; now and then the
+/// lowest place is spoilt, and some fail.
+fn by_turns(prng: &mut Prng) -> Plan {
+    let mut outline: Vec<OutlineRow> = vec![[0, 1, 0], [0, 2, 0]];
+    let turns = prng.between(2, 6);
+    let mut b = 1;
+    for _ in 0..turns {
+        let label = if prng.percent(95) { 2 } else { 4 };
+        outline.push([b, 3, 0]);
+        outline.push([b, label, 0]);
+        b = outline.len() as u16 - 1;
+    }
+    outline.push([b, 3, 0]);
+    while outline.len() < prng.between(30, 64) {
+        let parent = if prng.percent(70) {
+            0
+        } else {
+            prng.below(outline.len()) as u16
+        };
+        outline.push([
+            parent,
+            100 + outline.len() as u16,
+            u16::from(prng.percent(20)),
+        ]);
+    }
+    let mut first: Vec<SelectionRow> = vec![[0, 1, 0, 1], [0, 2, 0, 0]];
+    for _ in 0..prng.between(1, 13) {
+        first.push([prng.below(2) as u16, 0, 1, 0]);
+    }
+    first.push([1, 3, 1, 0]);
+    let mut second: Vec<SelectionRow> = vec![[0, 1, 0, 1], [0, 2, 1, 0], [1, 3, 0, 0]];
+    if prng.percent(30) {
+        second.push([0, 0, 1, 0]);
+    }
+    plan(outline, first, second)
 }
