@@ -1,11 +1,11 @@
 // Embeddings of the first pattern into the summary (document 01: placements), stepped and judged by masks, nothing laid out.
 
-pub mod cells;
-pub mod decide;
-pub mod judge;
-pub mod sets;
-pub mod skip;
-pub mod steps;
+mod cells;
+mod decide;
+mod judge;
+mod sets;
+mod skip;
+mod steps;
 pub mod verdict;
 
 // How far the trials have come: how many may still be tried and how many have passed; or one failed, or the limit was met with
