@@ -61,6 +61,12 @@ pub fn subset16(a: u16, b: u16) -> bool
     a & b == a
 }
 
+pub fn subset64(a: u64, b: u64) -> bool
+    ensures { λ r. ⌜ r ≡ eqb (bitAnd a b) a ⌝ }
+{
+    a & b == a
+}
+
 // A count as an index.
 fn wide(n: u32) -> usize
     ensures { λ r. ⌜ r ≡ n ⌝ }

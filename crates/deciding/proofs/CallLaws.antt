@@ -17,7 +17,7 @@ use Rattle.model.proofs.Questions.{AcceptedCase, accepted-verdict}
 use Rattle.model.proofs.Calls.{verdict-refused, verdict-accepted}
 use Rattle.model.proofs.Demands.{demand-3}
 use Rattle.model.proofs.Verdict.{verdict-tried}
-use Rattle.format.specs.Tables.{patternAt}
+use Rattle.format.specs.Given.{patternAt}
 use Rattle.questions.proofs.TableLaws.{first-pattern}
 use Rattle.questions.proofs.AcceptedLaws.{SummaryColumns, PatternColumns}
 use Rattle.containment.specs.Answer.{answerOf, caseFrom, verdictOf, CaseLent}

@@ -15,7 +15,8 @@ use Rattle.model.specs.Summary.{SummaryRecord, noSummaryRecord, withoutStrong, 
 use Rattle.model.specs.Pattern.{PatternRecord, Pattern, noPatternRecord}
 use Rattle.model.specs.Bytes.{field, section, recordsAt, summaryRecordAt, patternRecordAt, documentRecordAt, firstAt, secondAt, caseOf, documentOf, listOf, writtenAtFront}
 use Rattle.format.specs.Column.{column}
-use Rattle.format.specs.Tables.{recordFrom, documentFrom, patternAt}
+use Rattle.format.specs.Tables.{recordFrom, documentFrom}
+use Rattle.format.specs.Given.{patternAt}
 use Rattle.format.proofs.RangeLaws.{getD-map-below, map-below-ext}
 use Rattle.model.proofs.ListLaws.{length-map-upFrom}
 use Rattle.format.proofs.FrontLaws.{front-getD, fill-none, fill-more}

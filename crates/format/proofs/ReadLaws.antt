@@ -12,7 +12,8 @@ use Rattle.model.specs.Pattern.{PatternRecord, noPatternRecord, Pattern}
 use Rattle.model.specs.Bytes.{field, summaryRecordAt, patternRecordAt, documentRecordAt, section, caseOf, documentOf, writtenAtFront}
 use Rattle.model.proofs.ListLaws.{getD-map}
 use Rattle.format.specs.Column.{column}
-use Rattle.format.specs.Tables.{documentFrom, summaryFrom, patternFrom, patternAt, SummaryRead, PatternRead, DocumentRead}
+use Rattle.format.specs.Tables.{documentFrom, summaryFrom, patternFrom, SummaryRead, PatternRead, DocumentRead}
+use Rattle.format.specs.Given.{patternAt}
 use Rattle.format.proofs.FrontLaws.{front-getD}
 use Rattle.format.proofs.TableLaws.{length-documentFrom, getD-documentFrom, length-summaryFrom, getD-summaryFrom, length-patternFrom, getD-patternFrom}
 use Rattle.format.proofs.ColumnLaws.{section-length, summary-parents, summary-labels, summary-strongs, pattern-parents, pattern-labels, pattern-edges, pattern-positions, document-parents, document-labels}

@@ -3,8 +3,7 @@ use Prim.Native.Nat.{ℕ}
 use mathlib.Core.Path.{_≡_}
 use mathlib.Core.List.{List, map}
 use lib.ListN.{length, getD}
-use Rattle.model.specs.Limits.{patternWidth}
-use Rattle.model.specs.Bytes.{patternRecordAt, section, writtenAtFront}
+use Rattle.model.specs.Bytes.{writtenAtFront}
 use Rattle.model.specs.Lists.{upFrom}
 use Rattle.model.specs.Tree.{DocumentRecord, Document}
 use Rattle.model.specs.Summary.{SummaryRecord, Summary}
@@ -30,10 +29,6 @@ patternNode parents labels edges positions i =
 -- the pattern of the first m of them
 unfoldable pub patternFrom : List ℕ → List ℕ → List ℕ → List ℕ → ℕ → Pattern
 patternFrom parents labels edges positions m = map (patternNode parents labels edges positions) (upFrom 0 m)
-
--- the pattern whose count is field `at`
-abbrev pub patternAt : List ℕ → ℕ → Pattern
-patternAt b at = section patternRecordAt patternWidth b at
 
 -- the columns of a summary at the front of three tables, the rest untouched, and its count
 pub record SummaryRead (S : Summary) (parents₀ labels₀ strongs₀ parents labels strongs : List ℕ) (n : ℕ) : Type 0 where

@@ -6,8 +6,15 @@ ghost use lib.ListN.{length};
 ghost use Rattle.model.specs.Bytes.{field as fieldOf};
 
 // A byte as a number.
-fn wide(x: u8) -> usize
+fn byte(x: u8) -> usize
     ensures { λ r. ⌜ (r ≡ x) × (r < 256) ⌝ }
+{
+    x as usize
+}
+
+// A number of a table as an index.
+pub fn wide(x: u16) -> usize
+    ensures { λ r. ⌜ (r ≡ x) × (r < 65536) ⌝ }
 {
     x as usize
 }
@@ -17,5 +24,5 @@ pub fn field(s: &[u8], i: usize) -> usize
     requires { do ⌜ 2 * i + 1 < (← ⟦s.len()⟧) ⌝ }
     ensures { λ r. ⌜ (r ≡ fieldOf (now (s .entry)) i) × (r < 65536) ⌝ }
 {
-    wide(s[2 * i]) + 256 * wide(s[2 * i + 1])
+    byte(s[2 * i]) + 256 * byte(s[2 * i + 1])
 }

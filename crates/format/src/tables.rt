@@ -7,7 +7,8 @@ ghost use Prim.Native.Nat.{_≤_};
 ghost use lib.ListN.{length};
 ghost use Rattle.model.specs.Limits.{summaryWidth, patternWidth, documentWidth};
 ghost use Rattle.model.specs.Bytes.{field as fieldOf, caseOf, documentOf, WholeSection};
-ghost use Rattle.format.specs.Tables.{SummaryRead, PatternRead, DocumentRead, patternAt};
+ghost use Rattle.format.specs.Tables.{SummaryRead, PatternRead, DocumentRead};
+ghost use Rattle.format.specs.Given.{patternAt};
 
 // The outline of a case. The result is its count.
 pub fn read_summary(b: &[u8], parents: &mut [u16], labels: &mut [u16], strongs: &mut [u16]) -> usize

@@ -9,7 +9,7 @@ ghost use Rattle.model.specs.Bytes.{fieldBytes, encodeDocument, encodeCounted, 
 ghost use Rattle.format.specs.Tables.{documentFrom};
 
 // Field i becomes value, low byte first.
-fn put_field(out: &mut [u8], i: usize, value: u16)
+pub fn put_field(out: &mut [u8], i: usize, value: u16)
     requires { ⌜ 2 * i + 1 < length (now out) ⌝ }
     ensures { λ _. ⌜ now (out .exit) ≡ sets (now (out .entry)) (2 * i) (fieldBytes value) ⌝ }
 {

@@ -17,7 +17,8 @@ use Rattle.model.specs.Questions.{selected}
 use Rattle.model.proofs.ListLaws.{by-bool}
 use Rattle.model.proofs.Bytes.{whole-case, front-length}
 use Rattle.model.proofs.Questions.{AcceptedCase, DocumentFacts, selected-facts}
-use Rattle.format.specs.Tables.{documentFrom, summaryFrom, patternFrom, patternAt, SummaryRead, PatternRead, DocumentRead}
+use Rattle.format.specs.Tables.{documentFrom, summaryFrom, patternFrom, SummaryRead, PatternRead, DocumentRead}
+use Rattle.format.specs.Given.{patternAt}
 use Rattle.format.proofs.TableLaws.{summary-document}
 use Rattle.format.proofs.ReadLaws.{summary-back, pattern-back, document-back}
 use Rattle.questions.specs.Sections.{selectedAt}

@@ -21,7 +21,7 @@ use Rattle.model.proofs.TreeLaws.{length-asDocument, test-below, below-test, be
 use Rattle.model.proofs.Embeddings.{embeddings-sound, embeddings-complete-list}
 use Rattle.model.proofs.Bytes.{whole-case}
 use Rattle.model.proofs.Questions.{accepted-case, selected-facts}
-use Rattle.format.specs.Tables.{patternAt}
+use Rattle.format.specs.Given.{patternAt}
 use Rattle.questions.specs.Sections.{selectedAt}
 use Rattle.questions.specs.Images.{imageReached, imageKept, Images}
 use Rattle.questions.proofs.TestLaws.{pos-ltb}

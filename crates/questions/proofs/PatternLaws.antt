@@ -11,7 +11,7 @@ use Rattle.model.specs.Fitting.{parentRule}
 use Rattle.model.specs.Bytes.{firstAt, secondAt, caseOf}
 use Rattle.model.specs.Questions.{patternRecordKept, patternKept, patternsKept, positionsOnce, positionsKept, selected}
 use Rattle.model.proofs.ListLaws.{by-bool}
-use Rattle.format.specs.Tables.{patternAt}
+use Rattle.format.specs.Given.{patternAt}
 use Rattle.questions.specs.Sections.{selectedAt}
 use Rattle.questions.proofs.TestLaws.{and-assoc}
 use Rattle.questions.proofs.TableLaws.{first-pattern, second-pattern}

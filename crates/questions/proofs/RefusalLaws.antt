@@ -10,7 +10,7 @@ use Rattle.model.specs.Pattern.{arity}
 use Rattle.model.specs.Bytes.{field, caseOf, isWholeCase, documentOf}
 use Rattle.model.specs.Questions.{caseWhole, countsInRange, summaryKept, siblingsDiffer, patternsKept, positionsKept, ask, listInRange, selected, Question, refusal, caseQuestions}
 use Rattle.model.proofs.Questions.{AllYes, Numbered, accepted-all-yes, refusal-after, refusal-kept}
-use Rattle.format.specs.Tables.{patternAt}
+use Rattle.format.specs.Given.{patternAt}
 use Rattle.questions.specs.Sections.{selectedAt}
 use Rattle.questions.proofs.TableLaws.{document-count}
 use Rattle.questions.proofs.PatternLaws.{selected-pattern}

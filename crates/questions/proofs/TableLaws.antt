@@ -11,7 +11,7 @@ use Rattle.model.specs.Summary.{noSummaryRecord, withoutStrong, asDocument}
 use Rattle.model.specs.Bytes.{field, summaryRecordAt, patternRecordAt, documentRecordAt, firstAt, secondAt, caseOf, documentOf, listOf}
 use Rattle.model.proofs.TreeLaws.{length-asDocument}
 use Rattle.format.proofs.ColumnLaws.{section-length, summary-record, list-column, length-column, getD-column}
-use Rattle.format.specs.Tables.{patternAt}
+use Rattle.format.specs.Given.{patternAt}
 
 -- ---- the tables of a case
 

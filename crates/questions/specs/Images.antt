@@ -12,7 +12,7 @@ use Rattle.model.specs.Summary.{Summary, asDocument, summaryLabel}
 use Rattle.model.specs.Pattern.{Pattern, IsPatternTree, patternParent, patternLabel, descends, labelFits}
 use Rattle.model.specs.Embeddings.{edgeTest, imageIn}
 use Rattle.model.specs.Bytes.{field, WholeSection, caseOf}
-use Rattle.format.specs.Tables.{patternAt}
+use Rattle.format.specs.Given.{patternAt}
 
 -- the root's image is the root, and any other node's is reached by its edge from its parent's image
 unfoldable pub imageReached : Summary → Pattern → List ℕ → ℕ → Bool

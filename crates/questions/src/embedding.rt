@@ -12,7 +12,7 @@ ghost use Rattle.model.specs.Summary.{asDocument};
 ghost use Rattle.model.specs.Embeddings.{childTest, belowTest, edgeTest};
 ghost use Rattle.model.specs.Bytes.{field as fieldOf, caseOf, listOf};
 ghost use Rattle.model.specs.Questions.{isPlacement, refusal, caseQuestions};
-ghost use Rattle.format.specs.Tables.{patternAt};
+ghost use Rattle.format.specs.Given.{patternAt};
 ghost use Rattle.questions.specs.Sections.{InSection};
 ghost use Rattle.questions.specs.Images.{imageReached, imageKept, Images};
 use crate::pattern::pattern_edge;

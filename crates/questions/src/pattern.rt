@@ -11,7 +11,7 @@ ghost use Rattle.model.specs.Lists.{countOf};
 ghost use Rattle.model.specs.Pattern.{PatternRecord, noPatternRecord, patternParent, patternLabel, position as positionOf, arity as arityOf};
 ghost use Rattle.model.specs.Bytes.{caseOf, isWholeCase, WholeSection};
 ghost use Rattle.model.specs.Questions.{patternRecordKept, patternKept, patternsKept, positionsOnce, positionsKept, positionGiven};
-ghost use Rattle.format.specs.Tables.{patternAt};
+ghost use Rattle.format.specs.Given.{patternAt};
 ghost use Rattle.questions.specs.Sections.{selectedAt, InSection};
 use crate::case::first_at;
 use crate::case::second_at;

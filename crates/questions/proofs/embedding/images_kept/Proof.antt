@@ -4,7 +4,7 @@ use Prim.Native.Nat.{_-_}
 use mathlib.Core.Path.{sym}
 use native.Mathlib.Omega.{arith}
 use Rattle.model.specs.Bytes.{caseOf, listOf}
-use Rattle.format.specs.Tables.{patternAt}
+use Rattle.format.specs.Given.{patternAt}
 use Rattle.questions.specs.Images.{imageKept}
 use Rattle.questions.proofs.TestLaws.{said-no, said-yes}
 use Rattle.questions.proofs.TableLaws.{pattern-count}

@@ -5,7 +5,7 @@ use Prim.Native.Nat.{_-_}
 use mathlib.Core.Path.{sym}
 use native.Mathlib.Omega.{arith}
 use Rattle.model.specs.Questions.{patternRecordKept, patternKept}
-use Rattle.format.specs.Tables.{patternAt}
+use Rattle.format.specs.Given.{patternAt}
 use Rattle.questions.proofs.TestLaws.{said-no, said-yes}
 use Rattle.questions.proofs.TableLaws.{pattern-count}
 use Rattle.questions.proofs.LoopLaws.{Passed, passed-none, passed-more, all-passed, one-failed}

@@ -9,7 +9,7 @@ use lib.Dec.{eqb}
 use Rattle.model.specs.Lists.{countOf}
 use Rattle.model.specs.Pattern.{PatternRecord}
 use Rattle.model.specs.Questions.{positionsOnce}
-use Rattle.format.specs.Tables.{patternAt}
+use Rattle.format.specs.Given.{patternAt}
 use Rattle.questions.proofs.LoopLaws.{Passed, passed-none, passed-more, all-passed, one-failed}
 use Rattle.questions.proofs.pattern.positions_once.Statement.{statement}
 use Rattle.questions.proofs.pattern.positions_once.Tie as tie

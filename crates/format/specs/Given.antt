@@ -1,0 +1,45 @@
+-- Given data stay bytes: the tables that stand in them, and what a function that reads one asks of its bytes.
+use Prim.Native.Nat.{ℕ, _≤_}
+use mathlib.Core.List.{List}
+use lib.ListN.{length}
+use Rattle.model.specs.Limits.{maxSummary, maxPattern, maxDocument, summaryWidth, patternWidth, documentWidth}
+use Rattle.model.specs.Tree.{Document, IsTree}
+use Rattle.model.specs.Summary.{Summary, asDocument}
+use Rattle.model.specs.Pattern.{Pattern, IsPatternTree}
+use Rattle.model.specs.Bytes.{patternRecordAt, documentRecordAt, section, caseOf, documentOf, WholeSection}
+
+-- the summary of a case (document 01: outline)
+abbrev pub summaryIn : List ℕ → Summary
+summaryIn b = caseOf b .summary
+
+-- the pattern whose count is field `at` (document 01: selection)
+abbrev pub patternAt : List ℕ → ℕ → Pattern
+patternAt b at = section patternRecordAt patternWidth b at
+
+-- a tree whose records have that width, the first two fields parent and label: a document, or a summary read as one
+unfoldable pub treeOf : ℕ → List ℕ → Document
+treeOf width t = section documentRecordAt width t 0
+
+-- the section is whole and its table a tree of few enough nodes
+pub record SummaryGiven (b : List ℕ) : Type 0 where
+  pub whole : WholeSection summaryWidth b 0
+  pub tree : IsTree (asDocument (summaryIn b))
+  pub few : length (summaryIn b) ≤ maxSummary
+
+pub record PatternGiven (b : List ℕ) (at : ℕ) : Type 0 where
+  pub whole : WholeSection patternWidth b at
+  pub tree : IsPatternTree (patternAt b at)
+  pub few : length (patternAt b at) ≤ maxPattern
+
+pub record DocumentGiven (w : List ℕ) : Type 0 where
+  pub whole : WholeSection documentWidth w 0
+  pub tree : IsTree (documentOf w)
+  pub few : length (documentOf w) ≤ maxDocument
+
+-- of a tree that may be either, with at most `most` nodes
+pub record TreeGiven (width : ℕ) (t : List ℕ) (most : ℕ) : Type 0 where
+  pub narrow : width ≤ patternWidth
+  pub pair : documentWidth ≤ width
+  pub whole : WholeSection width t 0
+  pub tree : IsTree (treeOf width t)
+  pub few : length (treeOf width t) ≤ most

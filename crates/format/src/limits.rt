@@ -1,0 +1,30 @@
+// Limits and record widths, each named once.
+
+// The largest limit of a verdict, and the most a tally may come to.
+pub const MAX_LIMIT: u64 = 1_000_000;
+
+pub const MAX_TALLY: u64 = 1_000_000_000_000;
+
+// The bytes that an answer buffer has at least, and the records that a lent table has at least.
+pub const MIN_BUFFER: usize = 4_096;
+
+pub const MIN_TABLE: usize = 1_024;
+
+// The most bytes of a case.
+pub const MAX_CASE_BYTES: usize = 65_536;
+
+// The most nodes of a summary, of a pattern and of a document; the last position.
+pub const MAX_SUMMARY: u64 = 64;
+
+pub const MAX_PATTERN: u64 = 16;
+
+pub const MAX_DOCUMENT: u64 = 1_024;
+
+pub const MAX_POSITION: usize = 8;
+
+// Fields of a summary record, a pattern record and a document record.
+pub const SUMMARY_WIDTH: usize = 3;
+
+pub const PATTERN_WIDTH: usize = 4;
+
+pub const DOCUMENT_WIDTH: usize = 2;

@@ -1,0 +1,34 @@
+// Where the sections of a case stand: each is known by the field that holds its count.
+
+use crate::field::field;
+use crate::limits::PATTERN_WIDTH;
+use crate::limits::SUMMARY_WIDTH;
+ghost use mathlib.Core.Path.{_≡_};
+ghost use mathlib.Core.Bool.{true};
+ghost use Prim.Native.Nat.{_+_, _*_, _<_};
+ghost use Rattle.model.specs.Limits.{patternWidth};
+ghost use Rattle.model.specs.Bytes.{firstAt, secondAt, sectionEnd, isWholeCase};
+
+// The first pattern's, after the summary.
+pub fn first_at(b: &[u8]) -> usize
+    requires { do ⌜ 1 < (← ⟦b.len()⟧) ⌝ }
+    ensures { λ r. ⌜ r ≡ firstAt (now (b .entry)) ⌝ }
+{
+    1 + SUMMARY_WIDTH * field(b, 0)
+}
+
+// The field after the pattern whose count is field `at`.
+pub fn pattern_end(b: &[u8], at: usize) -> usize
+    requires { do ⌜ 2 * at + 1 < (← ⟦b.len()⟧) ⌝ }
+    ensures { λ r. ⌜ r ≡ sectionEnd patternWidth (now (b .entry)) at ⌝ }
+{
+    at + 1 + PATTERN_WIDTH * field(b, at)
+}
+
+// The second pattern's.
+pub fn second_at(b: &[u8]) -> usize
+    requires { ⌜ isWholeCase (now b) ≡ true ⌝ }
+    ensures { λ r. ⌜ r ≡ secondAt (now (b .entry)) ⌝ }
+{
+    pattern_end(b, first_at(b))
+}
