@@ -1,6 +1,7 @@
 pub mod RangeLaws
 pub mod FrontLaws
 pub mod SectionLaws
+pub mod ListLaws
 pub mod GivenLaws
 pub mod TableLaws
 pub mod ColumnLaws

@@ -1,34 +1,34 @@
 -- Question 13 by the test of each image: a list is among the placements exactly when it is an embedding (model's theorem), and an
 -- embedding is tested node by node. Assumes nothing.
-use Prim.Native.Nat.{ℕ, zero, suc, _*_, _/_, _%_, _≤_, _<_}
-use mathlib.Core.Path.{_≡_, refl, sym, ap, ap₂, _∙_, subst, subst⁻¹}
+use Prim.Native.Nat.{ℕ, zero, suc, _/_, _%_, _≤_, _<_}
+use mathlib.Core.Path.{_≡_, refl, sym, ap, _∙_, subst, subst⁻¹}
 use mathlib.Core.Bool.{Bool, true, false, _&&_}
 use mathlib.Core.Logic.{_⊎_, inl, inr}
 use mathlib.Core.List.{List, List·Memᴰ}
 use native.Mathlib.Omega.{arith}
 use lib.Dec.{eqb, ltb}
-use lib.ListN.{length}
+use lib.ListN.{length, getD}
+use borrow.Author.Needs.{needs}
 use borrow.Author.Tests.{ltb-true, eqb-true, lt-ltb, eq-eqb}
 use Rattle.model.specs.Lists.{upFrom, anyOf, allOf, sameList}
 use Rattle.model.specs.Tree.{IsTree, Document, parentOf, Child, Below, once, down}
 use Rattle.model.specs.Summary.{Summary, asDocument, summaryParent, summaryLabel}
-use Rattle.model.specs.Pattern.{Pattern, IsPatternTree, patternParent, patternLabel, descends, labelFits, Embeds}
+use Rattle.model.specs.Pattern.{Pattern, noPatternRecord, IsPatternTree, patternParent, patternLabel, descends, labelFits, Embeds}
 use Rattle.model.specs.Embeddings.{childTest, belowTest, climbs, edgeTest, imageIn, placements}
-use Rattle.model.specs.Bytes.{field, caseOf, listOf, isWholeList}
+use Rattle.model.specs.Bytes.{caseOf, listOf, isWholeList}
 use Rattle.model.specs.Questions.{isPlacement, selected, refusal, caseQuestions}
 use Rattle.model.proofs.ListLaws.{bool-ext, and-intro, and-left, and-right, any-intro, any-elim, all-below, below-all, same-eq, same-refl}
 use Rattle.model.proofs.TreeLaws.{length-asDocument, test-below, below-test, below-cases, test-edge, edge-test}
 use Rattle.model.proofs.Embeddings.{embeddings-sound, embeddings-complete-list}
-use Rattle.model.proofs.Bytes.{whole-case}
-use Rattle.model.proofs.Questions.{accepted-case, selected-facts}
-use Rattle.format.specs.Given.{patternAt}
-use Rattle.questions.specs.Sections.{selectedAt}
-use Rattle.questions.specs.Images.{imageReached, imageKept, Images}
+use Rattle.format.specs.Given.{summaryIn, patternAt, SummaryGiven}
+use Rattle.format.proofs.GivenLaws.{given-summary}
+use Rattle.format.proofs.ListLaws.{list-count}
+use Rattle.questions.specs.Numbered.{numberedAt}
+use Rattle.questions.specs.Images.{imageReached, imageKept, keptIn, Images}
 use Rattle.questions.proofs.TestLaws.{pos-ltb}
-use Rattle.questions.proofs.TableLaws.{summary-inside, pattern-count, list-count, list-entry}
-use Rattle.questions.proofs.CaseLaws.{selected-section}
-use Rattle.questions.proofs.PatternLaws.{selected-pattern}
-use Rattle.questions.proofs.RefusalLaws.{accepted-whole}
+use Rattle.questions.proofs.NumberedLaws.{numbered-pattern}
+use Rattle.questions.proofs.RefusalLaws.{accepted}
+use Rattle.questions.proofs.AcceptedLaws.{given-numbered}
 
 module _ (S : Summary) (P : Pattern) (es : List ℕ) where
   abbrev tests : Bool
@@ -133,89 +133,96 @@ pub child-by-parent : (W : Document) (a v : ℕ) → (v ≡ 0 → ⊥) → v < l
 unfolding childTest
 child-by-parent W a v n h = rw (pos-ltb v n, lt-ltb v (length W) h) refl
 
+-- a node of the summary is one of the summary read as a document
+pub summary-inside : (S : Summary) (v : ℕ) → v < length S → v < length (asDocument S)
+summary-inside S v h = subst⁻¹ (λ (n : ℕ). v < n) (length-asDocument S) h
+
 -- the climb from v has come to x, which is below a exactly when v is
-pub record Climbed (b : List ℕ) (a v x : ℕ) : Type 0 where
-  pub inside : x < field b 0
-  pub same : belowTest (asDocument (caseOf b .summary)) a v ≡ belowTest (asDocument (caseOf b .summary)) a x
+pub record Climbed (S : Summary) (a v x : ℕ) : Type 0 where
+  pub inside : x < length S
+  pub same : belowTest (asDocument S) a v ≡ belowTest (asDocument S) a x
 
-pub climb-start : (b : List ℕ) (a v : ℕ) → v < field b 0 → Climbed b a v v
-climb-start b a v h = record { inside = h; same = refl }
+pub climb-start : (S : Summary) (a v : ℕ) → v < length S → Climbed S a v v
+climb-start S a v h = record { inside = h; same = refl }
 
-pub climb-end : (b : List ℕ) (a v x : ℕ) → Climbed b a v x → x ≤ 0 → belowTest (asDocument (caseOf b .summary)) a v ≡ false
-climb-end b a v x c z = c .same ∙ below-root (asDocument (caseOf b .summary)) a x (omega arith)
+pub climb-end : (S : Summary) (a v x : ℕ) → Climbed S a v x → x ≤ 0 → false ≡ belowTest (asDocument S) a v
+climb-end S a v x c z = sym (c .same ∙ below-root (asDocument S) a x (omega arith))
 
-module _ (b : List ℕ) (t : IsTree (asDocument (caseOf b .summary))) (a v x p : ℕ) (c : Climbed b a v x) (pos : 0 < x) (e : p ≡ summaryParent (caseOf b .summary) x) where
-  within : x < length (asDocument (caseOf b .summary))
-  within = summary-inside b x (c .inside)
+module _ (S : Summary) (a v x p : ℕ) (t : IsTree (asDocument S)) (c : Climbed S a v x) (pos : 0 < x) (e : p ≡ summaryParent S x) where
+  within : x < length (asDocument S)
+  within = summary-inside S x (c .inside)
 
   pub climb-falls : p < x
   climb-falls = subst⁻¹ (λ (n : ℕ). n < x) e (t .earlier x pos within)
 
-  pub climb-found : p ≡ a → belowTest (asDocument (caseOf b .summary)) a v ≡ true
-  climb-found q = c .same ∙ below-here (asDocument (caseOf b .summary)) t a x pos within (sym e ∙ q)
+  pub climb-found : p ≡ a → true ≡ belowTest (asDocument S) a v
+  climb-found q = sym (c .same ∙ below-here (asDocument S) t a x pos within (sym e ∙ q))
 
-  pub climb-on : (p ≡ a → ⊥) → Climbed b a v p
+  pub climb-on : (p ≡ a → ⊥) → Climbed S a v p
   climb-on n =
-      let up : belowTest (asDocument (caseOf b .summary)) a x ≡ belowTest (asDocument (caseOf b .summary)) a (summaryParent (caseOf b .summary) x) =
-      below-parent (asDocument (caseOf b .summary)) t a x pos within (λ q. n (e ∙ q)) in
+      let up = below-parent (asDocument S) t a x pos within (λ q. n (e ∙ q)) in
       let falls : p < x = climb-falls in
-      let low : x < field b 0 = c .inside in
-      record { inside = omega arith; same = c .same ∙ up ∙ ap (belowTest (asDocument (caseOf b .summary)) a) (sym e) }
+      let low : x < length S = c .inside in
+      record { inside = omega arith; same = c .same ∙ up ∙ ap (belowTest (asDocument S) a) (sym e) }
 
--- ---- images as fields
+pub ruleset climbing = (needs, climb-start, climb-end, climb-falls, climb-found, climb-on)
 
-module _ (S : Summary) (P : Pattern) (es : List ℕ) (q : ℕ) where
-  pub reached-root : q ≡ 0 → imageReached S P es q ≡ eqb (imageIn es q) 0
+-- ---- images
+
+module _ (S : Summary) (P : Pattern) (es : List ℕ) (q v : ℕ) where
+  pub reached-root : v ≡ imageIn es q → q ≡ 0 → eqb v 0 ≡ imageReached S P es q
   unfolding imageReached
-  reached-root z = rw (z, imageReached) refl
+  reached-root e z = rw (z, imageReached) (ap (λ (x : ℕ). eqb x 0) (rw z at e))
 
-  pub reached-other : (q ≡ 0 → ⊥) → imageReached S P es q ≡ edgeTest (descends P q) (asDocument S) (imageIn es (patternParent P q)) (imageIn es q)
+  pub reached-other : (r : Bool) (edge a p : ℕ) → (q ≡ 0 → ⊥) → p ≡ patternParent P q → edge ≡ getD P q noPatternRecord .edge → a ≡ imageIn es p → v ≡ imageIn es q
+      → r ≡ edgeTest (eqb edge 1) (asDocument S) a v → r ≡ imageReached S P es q
   unfolding imageReached
-  reached-other n = go q n
+  reached-other r edge a p n e f g h k = k ∙ rw (h, g, f, e) (go q n)
     where
-      go : (j : ℕ) → (j ≡ 0 → ⊥) → imageReached S P es j ≡ edgeTest (descends P j) (asDocument S) (imageIn es (patternParent P j)) (imageIn es j)
+      go : (j : ℕ) → (j ≡ 0 → ⊥) → edgeTest (descends P j) (asDocument S) (imageIn es (patternParent P j)) (imageIn es j) ≡ imageReached S P es j
       go zero m = absurd (m refl)
       go (suc j) m = refl
 
-module _ (b : List ℕ) (at : ℕ) (l : List ℕ) (i : Images b at l) (q : ℕ) (h : q < field b at) where
-  -- the image of a node is its field
-  pub image-field : imageIn (listOf l) q ≡ field l q
-  image-field = let n : length l ≡ 2 * field b at = i .count in list-entry l q (omega arith)
+-- the label at an image that was read
+pub label-at : (S : Summary) (m v w : ℕ) → m ≡ summaryLabel S v → v ≡ w → m ≡ summaryLabel S w
+label-at S m v w e f = e ∙ ap (summaryLabel S) f
 
-  -- a node's parent has an image too
-  pub parent-imaged : (p : ℕ) → (q ≡ 0 → ⊥) → p ≡ patternParent (patternAt b at) q → p < field b at
-  parent-imaged p n e =
-      let size : length (patternAt b at) ≡ field b at = pattern-count b at in
-      let low : patternParent (patternAt b at) q < q = i .patternTree .earlier q (omega arith) (subst⁻¹ (λ (m : ℕ). q < m) size h) in
-      omega arith
+-- a number that was read is below a count
+pub moved-below : (x y n : ℕ) → x ≡ y → y < n → x < n
+moved-below x y n e h = omega arith
+
+pub read-below : (v x n count : ℕ) → v ≡ x → count ≡ n → v < count → x < n
+read-below v x n count e f h = omega arith
+
+pub images-inside : (b : List ℕ) (at : ℕ) (l : List ℕ) (q : ℕ) → Images b at l → q < length (patternAt b at) → q < length (listOf l)
+images-inside b at l q i h = let count : length (listOf l) ≡ length (patternAt b at) = i .count in omega arith
+
+-- a node's parent has an image too
+pub parent-imaged : (b : List ℕ) (at : ℕ) (l : List ℕ) (q p : ℕ) → Images b at l → q < length (patternAt b at) → (q ≡ 0 → ⊥) → p ≡ patternParent (patternAt b at) q
+    → p < length (listOf l)
+parent-imaged b at l q p i h n e =
+    let low : patternParent (patternAt b at) q < q = i .pattern .tree .earlier q (omega arith) h in
+    let count : length (listOf l) ≡ length (patternAt b at) = i .count in
+    omega arith
 
 -- ---- the question
 
-module _ (b : List ℕ) (s at : ℕ) (l : List ℕ) (accepted : refusal (caseQuestions b) ≡ 0) (p : at ≡ selectedAt b s) where
-  pattern-tree : IsPatternTree (patternAt b at)
-  pattern-tree = subst IsPatternTree (selected-pattern b s at p) (selected-facts (caseOf b) s (accepted-case b accepted) .tree)
-
-  pub images-given : length l % 2 ≡ 0 → length l / 2 ≡ field b at → Images b at l
-  images-given even n =
-      record {
-        summary = whole-case b .0 (accepted-whole b accepted) .summary;
-        pattern = selected-section b s at (accepted-whole b accepted) p;
-        summaryTree = accepted-case b accepted .summary .tree;
-        patternTree = pattern-tree;
-        count = omega arith;
-      }
+module _ (b : List ℕ) (s at : ℕ) (l : List ℕ) (yes₀ : refusal (caseQuestions b) ≡ 0) (p : at ≡ numberedAt b s) where
+  pub images-given : (n : ℕ) → n ≡ length (patternAt b at) → length l / 2 ≡ n → Images b at l
+  images-given n e half =
+      record { summary = given-summary (accepted b yes₀); pattern = given-numbered (accepted b yes₀) s p; count = list-count l ∙ half ∙ e }
 
   -- 13, by the fields
-  pub embedding-by-fields : isPlacement (caseOf b) s l ≡ (eqb (length l % 2) 0
-      && (eqb (length l / 2) (field b at) && allOf (imageKept (caseOf b .summary) (patternAt b at) (listOf l)) (upFrom 0 (length (patternAt b at)))))
+  pub embedding-asked : (r : Bool) → r ≡ (eqb (length l % 2) 0 && (eqb (length l / 2) (length (patternAt b at)) && allOf (keptIn b at l) (upFrom 0 (length (patternAt b at)))))
+      → r ≡ isPlacement (caseOf b) s l
   unfolding isPlacement isWholeList
-  embedding-by-fields =
-      let S : Summary = caseOf b .summary in
+  embedding-asked r e =
+      let S : Summary = summaryIn b in
       let P : Pattern = patternAt b at in
-      let listed = listed-by-tests S P (listOf l) pattern-tree (accepted-case b accepted .summary .tree) in
+      let listed = listed-by-tests S P (listOf l) (given-numbered (accepted b yes₀) s p .tree) (given-summary (accepted b yes₀) .tree) in
       let same : anyOf (sameList (listOf l)) (placements S (selected (caseOf b) s)) ≡ anyOf (sameList (listOf l)) (placements S P) =
-      ap (λ (Q : Pattern). anyOf (sameList (listOf l)) (placements S Q)) (selected-pattern b s at p) in
-      let counts : (eqb (length (listOf l)) (length P) && allOf (imageKept S P (listOf l)) (upFrom 0 (length P)))
-      ≡ (eqb (length l / 2) (field b at) && allOf (imageKept S P (listOf l)) (upFrom 0 (length P))) =
-      ap₂ (λ (m n : ℕ). eqb m n && allOf (imageKept S P (listOf l)) (upFrom 0 (length P))) (list-count l) (pattern-count b at) in
-      ap (λ (t : Bool). eqb (length l % 2) 0 && t) (same ∙ listed ∙ counts)
+      ap (λ (Q : Pattern). anyOf (sameList (listOf l)) (placements S Q)) (numbered-pattern b s at p) in
+      let counts = ap (λ (m : ℕ). eqb m (length P) && allOf (imageKept S P (listOf l)) (upFrom 0 (length P))) (list-count l) in
+      e ∙ sym (ap (λ (t : Bool). eqb (length l % 2) 0 && t) (same ∙ listed ∙ counts))
+
+pub ruleset imaged = (needs, reached-root, reached-other, label-at, moved-below, read-below, images-inside, parent-imaged)

@@ -1,10 +1,11 @@
 pub mod TestLaws
+pub mod NumberedLaws
 pub mod LoopLaws
-pub mod TableLaws
 pub mod CaseLaws
 pub mod SummaryLaws
 pub mod PatternLaws
 pub mod DocumentLaws
 pub mod RefusalLaws
-pub mod EmbeddingLaws
 pub mod AcceptedLaws
+pub mod EmbeddingLaws
+pub mod ColumnFacts

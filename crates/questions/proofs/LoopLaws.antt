@@ -1,8 +1,8 @@
 -- Loops over a range: one that tests every number and stops at the first that fails, and one that counts those that pass.
 -- Assumes nothing.
 use Prim.Native.Nat.{ℕ, suc, _+_, _≤_, _<_}
-use mathlib.Core.Path.{_≡_, refl, ap, _∙_}
-use mathlib.Core.Bool.{Bool, true, false}
+use mathlib.Core.Path.{_≡_, refl, sym, ap, _∙_}
+use mathlib.Core.Bool.{Bool, true, false, not}
 use mathlib.Core.Logic.{_⊎_, inl, inr}
 use mathlib.Core.List.{List, [], _∷_, _++_}
 use native.Mathlib.Omega.{arith}
@@ -10,8 +10,12 @@ use native.Mathlib.Numerals.{add-one}
 use lib.ListN.{length, getD, take}
 use lib.Seq.{take-suc, take-all}
 use borrow.Author.Count.{below-more}
+use borrow.Author.Needs.{needs}
 use Rattle.model.specs.Lists.{upFrom, allOf, countOf}
 use Rattle.model.proofs.ListLaws.{true-or-false, not-both, all-intro, all-elim, mem-upFrom, upFrom-mem}
+use Rattle.format.proofs.GivenLaws.{whole-document}
+use Rattle.questions.proofs.TestLaws.{said-no, said-yes}
+use Rattle.questions.proofs.NumberedLaws.{whole-summary}
 
 -- ---- every number passes
 
@@ -39,6 +43,23 @@ module _ (test : ℕ → Bool) (a : ℕ) where
       go : (allOf test (upFrom a n) ≡ true) ⊎ (allOf test (upFrom a n) ≡ false) → allOf test (upFrom a n) ≡ false
       go (inl y) = absurd (not-both (test i) (all-elim test (upFrom a n) y i (mem-upFrom a n i l u)) e)
       go (inr q) = q
+
+-- ---- a loop `for i in 0..count` that asks `if !answer(i) { return false; }`, where count is the table's length
+
+pub kept-inside : (i count n : ℕ) → i < count → count ≡ n → i < n
+kept-inside i count n h e = omega arith
+
+pub kept-stops : (test : ℕ → Bool) (n i count : ℕ) (answer : Bool) → count ≡ n → i < count → answer ≡ test i → not answer ≡ true
+    → false ≡ allOf test (upFrom 0 n)
+kept-stops test n i count answer e h a f = sym (one-failed test 0 n i (omega arith) (omega arith) (said-no answer (test i) a f))
+
+pub kept-more : (test : ℕ → Bool) (i : ℕ) (answer : Bool) → Passed test 0 i → answer ≡ test i → not answer ≡ false → Passed test 0 (i + 1)
+kept-more test i answer p a t = passed-more test 0 i p (said-yes answer (test i) a t)
+
+pub kept-ends : (test : ℕ → Bool) (n i count : ℕ) → count ≡ n → count ≤ i → Passed test 0 i → true ≡ allOf test (upFrom 0 n)
+kept-ends test n i count e h p = sym (all-passed test 0 n i p (omega arith))
+
+pub ruleset kept = (needs, kept-inside, kept-stops, kept-more, kept-ends, passed-none, whole-summary, whole-document)
 
 -- ---- how many pass
 
@@ -73,15 +94,16 @@ module _ {A : Type 0} (test : A → Bool) (xs : List A) where
   count-more : (d : A) (i : ℕ) (t : Bool) → i < length xs → test (getD xs i d) ≡ t → countOf test (take (i + 1) xs) ≡ countOf test (take i xs) + (elim t as (λ _. ℕ) [ true ↦ 1 | false ↦ 0 ])
   count-more d i t h e = rw (add-one i, take-suc xs i d h) (count-after test (take i xs) (getD xs i d) t e)
 
-  -- one that passes, and one that does not
-  pub counted-yes : (d : A) (i n m : ℕ) → i < length xs → Counted test xs i n → test (getD xs i d) ≡ true → m ≡ n + 1 → Counted test xs (i + 1) m
-  counted-yes d i n m h c e p =
-      let k : countOf test (take (i + 1) xs) ≡ countOf test (take i xs) + 1 = count-more d i true h e in
+  -- one element more: `if passes { k += 1; }`
+  pub counted-more : (d : A) (i n m : ℕ) {Yes No : Type 0} → i < length xs → Counted test xs i n → (Yes × (m ≡ n + 1)) ⊎ (No × (m ≡ n))
+      → (Yes → test (getD xs i d) ≡ true) → (No → test (getD xs i d) ≡ false) → Counted test xs (i + 1) m
+  counted-more d i n m h c (inl w) f g =
+      let k : countOf test (take (i + 1) xs) ≡ countOf test (take i xs) + 1 = count-more d i true h (f (w .0)) in
+      let e : m ≡ n + 1 = w .1 in
       record { count = omega arith; atMost = omega arith; inside = omega arith }
-
-  pub counted-no : (d : A) (i n m : ℕ) → i < length xs → Counted test xs i n → test (getD xs i d) ≡ false → m ≡ n → Counted test xs (i + 1) m
-  counted-no d i n m h c e p =
-      let k : countOf test (take (i + 1) xs) ≡ countOf test (take i xs) + 0 = count-more d i false h e in
+  counted-more d i n m h c (inr w) f g =
+      let k : countOf test (take (i + 1) xs) ≡ countOf test (take i xs) + 0 = count-more d i false h (g (w .0)) in
+      let e : m ≡ n = w .1 in
       record { count = omega arith; atMost = omega arith; inside = omega arith }
 
   pub counted-all : (i n : ℕ) → Counted test xs i n → length xs ≤ i → n ≡ countOf test xs

@@ -1,39 +1,33 @@
--- Refusals with the case questions among others: where they refuse, that is the refusal, and where they accept, what is asked
--- after decides. Assumes nothing.
+-- A return of a refusal, after questions that were asked in order: each that was answered yes leaves the decision to what is asked
+-- after it, and the first that was answered no decides; the case questions, asked among others, do either as a whole. `search asked`
+-- goes through the questions of a call by these laws. Assumes nothing.
 use Prim.Native.Nat.{ℕ}
-use mathlib.Core.Path.{_≡_, sym, ap, ap₂, _∙_}
-use mathlib.Core.Bool.{Bool, true}
+use mathlib.Core.Path.{_≡_, refl, sym, _∙_}
+use mathlib.Core.Bool.{Bool, true, false, not}
 use mathlib.Core.List.{List, [], _∷_, _++_}
 use native.Mathlib.Omega.{arith}
-use lib.ListN.{length}
-use Rattle.model.specs.Pattern.{arity}
-use Rattle.model.specs.Bytes.{field, caseOf, isWholeCase, documentOf}
-use Rattle.model.specs.Questions.{caseWhole, countsInRange, summaryKept, siblingsDiffer, patternsKept, positionsKept, ask, listInRange, selected, Question, refusal, caseQuestions}
-use Rattle.model.proofs.Questions.{AllYes, Numbered, accepted-all-yes, refusal-after, refusal-kept}
-use Rattle.format.specs.Given.{patternAt}
-use Rattle.questions.specs.Sections.{selectedAt}
-use Rattle.questions.proofs.TableLaws.{document-count}
-use Rattle.questions.proofs.PatternLaws.{selected-pattern}
+use borrow.Author.Needs.{needs}
+use Rattle.model.specs.Limits.{documentWidth}
+use Rattle.model.specs.Bytes.{isWholeCase, WholeSection}
+use Rattle.model.specs.Questions.{caseWhole, documentKept, ask, Question, refusal, caseQuestions}
+use Rattle.model.proofs.Bytes.{whole-case}
+use Rattle.model.proofs.Questions.{AllYes, Numbered, AcceptedCase, accepted-case, document-facts, accepted-all-yes, refusal-after, refusal-kept, refusal-yes, refusal-no}
+use Rattle.format.proofs.GivenLaws.{whole-document}
+use Rattle.questions.proofs.TestLaws.{said-no, said-yes}
 
--- the case questions from each on
-abbrev pub from8 : List ℕ → List Question
-from8 b = ask 8 (positionsKept (caseOf b)) ∷ []
+-- ---- one question
 
-abbrev pub from7 : List ℕ → List Question
-from7 b = ask 7 (patternsKept (caseOf b)) ∷ from8 b
+pub asked-no : (n : ℕ) (answer test : Bool) (rest : List Question) → answer ≡ test → not answer ≡ true → n ≡ refusal (ask n test ∷ rest)
+asked-no n answer test rest e f = sym (refusal-no (ask n test) rest (said-no answer test e f))
 
-abbrev pub from6 : List ℕ → List Question
-from6 b = ask 6 (siblingsDiffer (caseOf b .summary)) ∷ from7 b
+pub asked-yes : (r n : ℕ) (answer test : Bool) (rest : List Question) → answer ≡ test → not answer ≡ false → r ≡ refusal rest → r ≡ refusal (ask n test ∷ rest)
+asked-yes r n answer test rest e t after = after ∙ sym (refusal-yes (ask n test) rest (said-yes answer test e t))
 
-abbrev pub from5 : List ℕ → List Question
-from5 b = ask 5 (summaryKept (caseOf b .summary)) ∷ from6 b
+pub asked-all : 0 ≡ refusal []
+unfolding refusal
+asked-all = refl
 
-abbrev pub from4 : List ℕ → List Question
-from4 b = ask 4 (countsInRange (caseOf b)) ∷ from5 b
-
--- those before are answered yes, so these decide
-abbrev pub Decide : (List ℕ → List Question) → List ℕ → Type 0
-Decide rest b = refusal (caseQuestions b) ≡ refusal (rest b)
+-- ---- the case questions
 
 numbered : (b : List ℕ) → Numbered (caseQuestions b)
 unfolding caseQuestions
@@ -42,21 +36,30 @@ numbered b = (omega arith, (omega arith, (omega arith, (omega arith, (omega arit
 all-yes : (b : List ℕ) → refusal (caseQuestions b) ≡ 0 → AllYes (caseQuestions b)
 all-yes b e = accepted-all-yes (caseQuestions b) (numbered b) e
 
--- an accepted case is whole
+pub case-no : (r : ℕ) (b : List ℕ) (rest : List Question) → r ≡ refusal (caseQuestions b) → (r ≡ 0 → ⊥) → r ≡ refusal (caseQuestions b ++ rest)
+case-no r b rest e f = e ∙ sym (refusal-kept (caseQuestions b) rest (λ z. f (e ∙ z)))
+
+pub case-yes : (r refused : ℕ) (b : List ℕ) (rest : List Question) → refused ≡ refusal (caseQuestions b) → refused ≡ 0 → r ≡ refusal rest
+    → r ≡ refusal (caseQuestions b ++ rest)
+case-yes r refused b rest e z after = after ∙ sym (refusal-after (caseQuestions b) rest (all-yes b (sym e ∙ z)))
+
+-- ---- what later questions require of the bytes
+
+pub asked-whole : (answer : Bool) (b : List ℕ) → answer ≡ caseWhole b → not answer ≡ false → isWholeCase b ≡ true
+unfolding caseWhole
+asked-whole answer b e t = said-yes answer (isWholeCase b) e t
+
+pub case-accepts : (refused : ℕ) (b : List ℕ) → refused ≡ refusal (caseQuestions b) → refused ≡ 0 → refusal (caseQuestions b) ≡ 0
+case-accepts refused b e z = sym e ∙ z
+
 pub accepted-whole : (b : List ℕ) → refusal (caseQuestions b) ≡ 0 → isWholeCase b ≡ true
 unfolding caseQuestions caseWhole
 accepted-whole b e = all-yes b e .0
 
-pub case-refused : (b : List ℕ) (after : List Question) (r : ℕ) → r ≡ refusal (caseQuestions b) → (r ≡ 0 → ⊥) → refusal (caseQuestions b ++ after) ≡ r
-case-refused b after r e n = refusal-kept (caseQuestions b) after (λ z. n (e ∙ z)) ∙ sym e
+pub accepted : (b : List ℕ) → refusal (caseQuestions b) ≡ 0 → AcceptedCase b
+accepted b e = record { whole = whole-case b .0 (accepted-whole b e); facts = accepted-case b e }
 
-pub case-accepted : (b : List ℕ) (after : List Question) (r : ℕ) → r ≡ refusal (caseQuestions b) → r ≡ 0 → refusal (caseQuestions b ++ after) ≡ refusal after
-case-accepted b after r e z = refusal-after (caseQuestions b) after (all-yes b (sym e ∙ z))
+pub asked-document : (answer : Bool) (w : List ℕ) → answer ≡ documentKept w → not answer ≡ false → WholeSection documentWidth w 0
+asked-document answer w e t = whole-document w (document-facts w (said-yes answer (documentKept w) e t) .whole)
 
--- 11 of the pattern that a number gives and of the document, by what the code reads of them
-pub list-asked : (b : List ℕ) (s at k : ℕ) (w : List ℕ) (n : ℕ) (r : List ℕ) (answer : Bool) → at ≡ selectedAt b s → k ≡ arity (patternAt b at) → n ≡ field w 0
-    → answer ≡ listInRange k n r → answer ≡ listInRange (arity (selected (caseOf b) s)) (length (documentOf w)) r
-list-asked b s at k w n r answer p q e a =
-    let same : k ≡ arity (selected (caseOf b) s) = q ∙ ap arity (sym (selected-pattern b s at p)) in
-    let count : n ≡ length (documentOf w) = e ∙ sym (document-count w) in
-    a ∙ ap₂ (λ (x y : ℕ). listInRange x y r) same count
+pub ruleset asked = (needs, asked-no, asked-yes, asked-all, case-no, case-yes, asked-whole, case-accepts, accepted-whole, asked-document)

@@ -1,11 +1,12 @@
 -- Laws of tests on numbers and of their conjunctions. Assumes nothing.
 use Prim.Native.Nat.{ℕ, zero, suc, _+_, _-_, _≤_, _<_}
-use mathlib.Core.Path.{_≡_, refl, sym, _∙_}
+use mathlib.Core.Path.{_≡_, refl, sym, ap, ap₂, _∙_}
 use mathlib.Core.Bool.{Bool, true, false, _&&_, not}
 use mathlib.Core.Logic.{_⊎_, inl, inr}
 use native.Mathlib.Omega.{arith}
 use lib.Dec.{leb, ltb, eqb}
-use borrow.Author.Tests.{lt-ltb, le-leb, leb-true, lt-leb, not-true, not-false}
+use borrow.Author.Needs.{needs}
+use borrow.Author.Tests.{lt-ltb, le-ltb, eq-eqb, ne-eqb, le-leb, leb-true, lt-leb, not-true, not-false}
 use Rattle.model.specs.Fitting.{parentRule}
 use Rattle.model.proofs.ListLaws.{bool-ext}
 
@@ -29,6 +30,79 @@ and-no false = refl
 pub and-assoc : (a b c : Bool) → (a && b && c) ≡ (a && (b && c))
 and-assoc true b c = refl
 and-assoc false b c = refl
+
+-- ---- tests that are joined, each asked by `if !answer { return false; }`: `search joined`
+
+pub told-no : (answer test : Bool) → answer ≡ test → not answer ≡ true → false ≡ test
+told-no answer test e f = sym (said-no answer test e f)
+
+pub told-yes : (answer test : Bool) → answer ≡ test → not answer ≡ false → true ≡ test
+told-yes answer test e t = sym (said-yes answer test e t)
+
+pub and-no-left : (a b : Bool) → false ≡ a → false ≡ (a && b)
+and-no-left a b e = ap (λ (t : Bool). t && b) e
+
+pub and-yes-left : (r a b : Bool) → true ≡ a → r ≡ b → r ≡ (a && b)
+and-yes-left r a b e g = g ∙ ap (λ (t : Bool). t && b) e
+
+pub ruleset joined = (needs, told-no, told-yes, and-no-left, and-yes-left)
+
+-- a rule of two numbers, asked of what was read of them
+module _ (rule : ℕ → ℕ → Bool) where
+  pub ruled-no : (x y v w : ℕ) (answer : Bool) → answer ≡ rule x y → x ≡ v → y ≡ w → not answer ≡ true → false ≡ rule v w
+  ruled-no x y v w answer a e g f = told-no answer (rule x y) a f ∙ ap₂ rule e g
+
+  pub ruled-yes : (x y v w : ℕ) (answer : Bool) → answer ≡ rule x y → x ≡ v → y ≡ w → not answer ≡ false → true ≡ rule v w
+  ruled-yes x y v w answer a e g t = told-yes answer (rule x y) a t ∙ ap₂ rule e g
+
+  pub ruled : (x y v w : ℕ) (answer : Bool) → answer ≡ rule x y → x ≡ v → y ≡ w → answer ≡ rule v w
+  ruled x y v w answer a e g = a ∙ ap₂ rule e g
+
+  -- the rule's own value
+  pub ruled-same : (x y v w : ℕ) → x ≡ v → y ≡ w → rule x y ≡ rule v w
+  ruled-same x y v w e g = ap₂ rule e g
+
+-- comparisons, of what was read or of the numbers themselves: `search (joined, compared)`
+pub eq-no : (x y v w : ℕ) → x ≡ v → y ≡ w → (x ≡ y → ⊥) → false ≡ eqb v w
+eq-no x y v w e g n = sym (ne-eqb v w (λ h. n (e ∙ h ∙ sym g)))
+
+pub eq-yes : (x y v w : ℕ) → x ≡ v → y ≡ w → x ≡ y → true ≡ eqb v w
+eq-yes x y v w e g h = sym (eq-eqb v w (sym e ∙ h ∙ g))
+
+pub lt-no : (x y v w : ℕ) → x ≡ v → y ≡ w → y ≤ x → false ≡ ltb v w
+lt-no x y v w e g h = sym (le-ltb v w (omega arith))
+
+pub lt-yes : (x y v w : ℕ) → x ≡ v → y ≡ w → x < y → true ≡ ltb v w
+lt-yes x y v w e g h = sym (lt-ltb v w (omega arith))
+
+pub zero-no : (x v : ℕ) → x ≡ v → x ≡ 0 → false ≡ ltb 0 v
+zero-no x v e z = sym (le-ltb 0 v (omega arith))
+
+pub zero-yes : (x v : ℕ) → x ≡ v → (x ≡ 0 → ⊥) → true ≡ ltb 0 v
+zero-yes x v e n = sym (lt-ltb 0 v (omega arith))
+
+pub is-zero : (v : ℕ) → v ≡ 0 → false ≡ ltb 0 v
+is-zero v z = zero-no v v refl z
+
+pub is-more : (v : ℕ) → (v ≡ 0 → ⊥) → true ≡ ltb 0 v
+is-more v n = zero-yes v v refl n
+
+pub is-below : (v w : ℕ) → v < w → true ≡ ltb v w
+is-below v w h = sym (lt-ltb v w h)
+
+pub is-not : (v w : ℕ) → (v ≡ w → ⊥) → false ≡ eqb v w
+is-not v w n = sym (ne-eqb v w n)
+
+pub is-same : (v w : ℕ) → v ≡ w → true ≡ eqb v w
+is-same v w e = sym (eq-eqb v w e)
+
+pub is-not-read : (v y w : ℕ) → y ≡ w → (v ≡ y → ⊥) → false ≡ eqb v w
+is-not-read v y w e n = eq-no v y v w refl e n
+
+pub is-same-read : (v y w : ℕ) → y ≡ w → v ≡ y → true ≡ eqb v w
+is-same-read v y w e h = eq-yes v y v w refl e h
+
+pub ruleset compared = (eq-no, eq-yes, lt-no, lt-yes, zero-no, zero-yes, is-zero, is-more, is-below, is-not, is-same, is-not-read, is-same-read)
 
 -- a number that is not 0
 pub pos-ltb : (n : ℕ) → (n ≡ 0 → ⊥) → ltb 0 n ≡ true

@@ -1,2 +1,3 @@
-pub mod Sections
+pub mod Numbered
+pub mod Rules
 pub mod Images

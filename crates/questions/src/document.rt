@@ -1,19 +1,21 @@
-// The records of a document, and the question on them: 10.
+// The question on a document: 10. Before it a parent may be any number.
 
 ghost use mathlib.Core.Path.{_≡_};
 ghost use mathlib.Core.Bool.{true};
+ghost use Prim.Native.Nat.{_<_};
 ghost use lib.ListN.{length};
 ghost use Rattle.model.specs.Limits.{documentWidth};
 ghost use Rattle.model.specs.Lists.{upFrom, allOf};
-ghost use Rattle.model.specs.Tree.{parentOf, labelOf};
-ghost use Rattle.model.specs.Bytes.{documentOf, isWholeDocument};
+ghost use Rattle.model.specs.Bytes.{documentOf, isWholeDocument, WholeSection};
 ghost use Rattle.model.specs.Questions.{documentRecordKept, documentKept};
-ghost use Rattle.questions.specs.Sections.{InSection};
-use crate::limits::DOCUMENT_WIDTH;
-use crate::limits::MAX_DOCUMENT;
 use crate::rules::between;
 use crate::rules::parent_rule;
+use format::document::document_count;
+use format::document::document_label;
+use format::document::document_parent;
 use format::field::field;
+use format::limits::DOCUMENT_WIDTH;
+use format::limits::MAX_DOCUMENT;
 use format::nodes::DocumentNode;
 
 // The document is whole, nothing after. Its count is read only where it is whole.
@@ -27,28 +29,13 @@ pub fn document_whole(w: &[u8]) -> bool
     bytes == 2 * (1 + DOCUMENT_WIDTH * field(w, 0))
 }
 
-// The parent of document node i, as a number: before question 10 the field may be any, so it is no document node yet.
-pub fn document_parent(w: &[u8], i: DocumentNode) -> usize
-    requires { ⌜ InSection documentWidth (now w) 0 (i .0) ⌝ }
-    ensures { λ r. ⌜ r ≡ parentOf (documentOf (now (w .entry))) (i .0) ⌝ }
-{
-    field(w, 1 + DOCUMENT_WIDTH * i.0)
-}
-
-// Its label.
-pub fn document_label(w: &[u8], i: DocumentNode) -> usize
-    requires { ⌜ InSection documentWidth (now w) 0 (i .0) ⌝ }
-    ensures { λ r. ⌜ r ≡ labelOf (documentOf (now (w .entry))) (i .0) ⌝ }
-{
-    field(w, 1 + DOCUMENT_WIDTH * i.0 + 1)
-}
-
 // Record i keeps the rules for parent and label.
 pub fn document_record_kept(w: &[u8], i: DocumentNode) -> bool
-    requires { ⌜ InSection documentWidth (now w) 0 (i .0) ⌝ }
+    requires { ⌜ WholeSection documentWidth (now w) 0 ⌝ }
+    requires { ⌜ i .0 < length (documentOf (now w)) ⌝ }
     ensures { λ r. ⌜ r ≡ documentRecordKept (documentOf (now (w .entry))) (i .0) ⌝ }
 {
-    if !parent_rule(i.0, document_parent(w, i)) {
+    if !parent_rule(i.0, document_parent(w, i).0) {
         return false;
     }
     0 < document_label(w, i)
@@ -59,7 +46,7 @@ pub fn document_records_kept(w: &[u8]) -> bool
     requires { ⌜ isWholeDocument (now w) ≡ true ⌝ }
     ensures { λ r. ⌜ r ≡ allOf (documentRecordKept (documentOf (now (w .entry)))) (upFrom 0 (length (documentOf (now (w .entry))))) ⌝ }
 {
-    let n = field(w, 0);
+    let n = document_count(w);
     for i in 0..n {
         if !document_record_kept(w, DocumentNode(i)) {
             return false;
@@ -75,7 +62,7 @@ pub fn document_kept(w: &[u8]) -> bool
     if !document_whole(w) {
         return false;
     }
-    if !between(1, MAX_DOCUMENT, field(w, 0) as u64) {
+    if !between(1, MAX_DOCUMENT, document_count(w) as u64) {
         return false;
     }
     document_records_kept(w)

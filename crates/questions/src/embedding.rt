@@ -7,45 +7,46 @@ ghost use lib.Dec.{eqb};
 ghost use lib.ListN.{length};
 ghost use Rattle.model.specs.Limits.{summaryWidth};
 ghost use Rattle.model.specs.Lists.{upFrom, allOf};
-ghost use Rattle.model.specs.Tree.{IsTree};
 ghost use Rattle.model.specs.Summary.{asDocument};
-ghost use Rattle.model.specs.Embeddings.{childTest, belowTest, edgeTest};
-ghost use Rattle.model.specs.Bytes.{field as fieldOf, caseOf, listOf};
+ghost use Rattle.model.specs.Embeddings.{childTest, belowTest, edgeTest, imageIn};
+ghost use Rattle.model.specs.Bytes.{caseOf, listOf, WholeSection};
 ghost use Rattle.model.specs.Questions.{isPlacement, refusal, caseQuestions};
-ghost use Rattle.format.specs.Given.{patternAt};
-ghost use Rattle.questions.specs.Sections.{InSection};
-ghost use Rattle.questions.specs.Images.{imageReached, imageKept, Images};
-use crate::pattern::pattern_edge;
-use crate::pattern::pattern_label;
-use crate::pattern::pattern_parent;
-use crate::pattern::selected_at;
-use crate::rules::label_fits;
-use crate::summary::summary_label;
-use crate::summary::summary_parent;
+ghost use Rattle.format.specs.Given.{summaryIn, patternAt, SummaryGiven};
+ghost use Rattle.questions.specs.Images.{reachedIn, keptIn, Images};
+use crate::pattern::numbered_at;
 use format::field::field;
+use format::labels::label_fits;
 use format::nodes::PatternNode;
 use format::nodes::SummaryNode;
+use format::pattern::pattern_count;
+use format::pattern::pattern_edge;
+use format::pattern::pattern_label;
+use format::pattern::pattern_parent;
+use format::summary::summary_count;
+use format::summary::summary_label;
+use format::summary::summary_parent;
 
 // Summary node v is a child of a.
 pub fn is_child(b: &[u8], a: SummaryNode, v: SummaryNode) -> bool
-    requires { ⌜ InSection summaryWidth (now b) 0 (v .0) ⌝ }
-    ensures { λ r. ⌜ r ≡ childTest (asDocument (caseOf (now (b .entry)) .summary)) (a .0) (v .0) ⌝ }
+    requires { ⌜ WholeSection summaryWidth (now b) 0 ⌝ }
+    requires { ⌜ v .0 < length (summaryIn (now b)) ⌝ }
+    ensures { λ r. ⌜ r ≡ childTest (asDocument (summaryIn (now (b .entry)))) (a .0) (v .0) ⌝ }
 {
     if v.0 == 0 {
         return false;
     }
-    summary_parent(b, v) == a.0
+    summary_parent(b, v).0 == a.0
 }
 
 // Summary node v is a descendant of a. The summary is a tree, so each parent that is read is a node.
 pub fn is_below(b: &[u8], a: SummaryNode, v: SummaryNode) -> bool
-    requires { ⌜ InSection summaryWidth (now b) 0 (v .0) ⌝ }
-    requires { ⌜ IsTree (asDocument (caseOf (now b) .summary)) ⌝ }
-    ensures { λ r. ⌜ r ≡ belowTest (asDocument (caseOf (now (b .entry)) .summary)) (a .0) (v .0) ⌝ }
+    requires { ⌜ SummaryGiven (now b) ⌝ }
+    requires { ⌜ v .0 < length (summaryIn (now b)) ⌝ }
+    ensures { λ r. ⌜ r ≡ belowTest (asDocument (summaryIn (now (b .entry)))) (a .0) (v .0) ⌝ }
 {
     let mut x = v.0;
     while 0 < x {
-        x = summary_parent(b, SummaryNode(x));
+        x = summary_parent(b, SummaryNode(x)).0;
         if x == a.0 {
             return true;
         }
@@ -55,9 +56,9 @@ pub fn is_below(b: &[u8], a: SummaryNode, v: SummaryNode) -> bool
 
 // The edge, 0 child or 1 descendant, leads from a to v.
 pub fn edge_kept(b: &[u8], edge: usize, a: SummaryNode, v: SummaryNode) -> bool
-    requires { ⌜ InSection summaryWidth (now b) 0 (v .0) ⌝ }
-    requires { ⌜ IsTree (asDocument (caseOf (now b) .summary)) ⌝ }
-    ensures { λ r. ⌜ r ≡ edgeTest (eqb edge 1) (asDocument (caseOf (now (b .entry)) .summary)) (a .0) (v .0) ⌝ }
+    requires { ⌜ SummaryGiven (now b) ⌝ }
+    requires { ⌜ v .0 < length (summaryIn (now b)) ⌝ }
+    ensures { λ r. ⌜ r ≡ edgeTest (eqb edge 1) (asDocument (summaryIn (now (b .entry)))) (a .0) (v .0) ⌝ }
 {
     if edge == 1 {
         return is_below(b, a, v);
@@ -65,34 +66,41 @@ pub fn edge_kept(b: &[u8], edge: usize, a: SummaryNode, v: SummaryNode) -> bool
     is_child(b, a, v)
 }
 
+// The image of pattern node q, as the list gives it: before it is tested it may be any number.
+pub fn image_at(l: &[u8], q: PatternNode) -> SummaryNode
+    requires { ⌜ q .0 < length (listOf (now l)) ⌝ }
+    ensures { λ r. ⌜ r .0 ≡ imageIn (listOf (now (l .entry))) (q .0) ⌝ }
+{
+    SummaryNode(field(l, q.0))
+}
+
 // The root's image is the root; any other node's is reached from its parent's image. The pattern is a tree, so the parent has an
 // image in the list.
 pub fn image_reached(b: &[u8], at: usize, l: &[u8], q: PatternNode) -> bool
     requires { ⌜ Images (now b) at (now l) ⌝ }
-    requires { ⌜ q .0 < fieldOf (now b) at ⌝ }
-    requires { ⌜ fieldOf (now l) (q .0) < fieldOf (now b) 0 ⌝ }
-    ensures { λ r. ⌜ r ≡ imageReached (caseOf (now (b .entry)) .summary) (patternAt (now (b .entry)) at) (listOf (now (l .entry))) (q .0) ⌝ }
+    requires { ⌜ (q .0 < length (patternAt (now b) at)) × (imageIn (listOf (now l)) (q .0) < length (summaryIn (now b))) ⌝ }
+    ensures { λ r. ⌜ r ≡ reachedIn (now (b .entry)) at (now (l .entry)) (q .0) ⌝ }
 {
-    let v = field(l, q.0);
+    let v = image_at(l, q);
     if q.0 == 0 {
-        return v == 0;
+        return v.0 == 0;
     }
     let parent = pattern_parent(b, at, q);
     let edge = pattern_edge(b, at, q);
-    edge_kept(b, edge, SummaryNode(field(l, parent)), SummaryNode(v))
+    edge_kept(b, edge, image_at(l, parent), v)
 }
 
 // Node q stands well at its image.
 pub fn image_kept(b: &[u8], at: usize, l: &[u8], q: PatternNode) -> bool
     requires { ⌜ Images (now b) at (now l) ⌝ }
-    requires { ⌜ q .0 < fieldOf (now b) at ⌝ }
-    ensures { λ r. ⌜ r ≡ imageKept (caseOf (now (b .entry)) .summary) (patternAt (now (b .entry)) at) (listOf (now (l .entry))) (q .0) ⌝ }
+    requires { ⌜ q .0 < length (patternAt (now b) at) ⌝ }
+    ensures { λ r. ⌜ r ≡ keptIn (now (b .entry)) at (now (l .entry)) (q .0) ⌝ }
 {
-    let v = field(l, q.0);
-    if field(b, 0) <= v {
+    let v = image_at(l, q);
+    if summary_count(b) <= v.0 {
         return false;
     }
-    if !label_fits(pattern_label(b, at, q), summary_label(b, SummaryNode(v))) {
+    if !label_fits(pattern_label(b, at, q), summary_label(b, v)) {
         return false;
     }
     image_reached(b, at, l, q)
@@ -101,9 +109,9 @@ pub fn image_kept(b: &[u8], at: usize, l: &[u8], q: PatternNode) -> bool
 // Every node does.
 pub fn images_kept(b: &[u8], at: usize, l: &[u8]) -> bool
     requires { ⌜ Images (now b) at (now l) ⌝ }
-    ensures { λ r. ⌜ r ≡ allOf (imageKept (caseOf (now (b .entry)) .summary) (patternAt (now (b .entry)) at) (listOf (now (l .entry)))) (upFrom 0 (length (patternAt (now (b .entry)) at))) ⌝ }
+    ensures { λ r. ⌜ r ≡ allOf (keptIn (now (b .entry)) at (now (l .entry))) (upFrom 0 (length (patternAt (now (b .entry)) at))) ⌝ }
 {
-    let n = field(b, at);
+    let n = pattern_count(b, at);
     for q in 0..n {
         if !image_kept(b, at, l, PatternNode(q)) {
             return false;
@@ -113,16 +121,16 @@ pub fn images_kept(b: &[u8], at: usize, l: &[u8]) -> bool
 }
 
 // 13. Is the list an embedding of that pattern into the summary? The case is one that questions 3 to 8 accept.
-pub fn is_embedding_list(b: &[u8], selection: u64, l: &[u8]) -> bool
+pub fn is_embedding_list(b: &[u8], number: u64, l: &[u8]) -> bool
     requires { ⌜ refusal (caseQuestions (now b)) ≡ 0 ⌝ }
-    ensures { λ r. ⌜ r ≡ isPlacement (caseOf (now (b .entry))) selection (now (l .entry)) ⌝ }
+    ensures { λ r. ⌜ r ≡ isPlacement (caseOf (now (b .entry))) number (now (l .entry)) ⌝ }
 {
-    let at = selected_at(b, selection);
+    let at = numbered_at(b, number);
     let bytes = l.len();
     if bytes % 2 != 0 {
         return false;
     }
-    if bytes / 2 != field(b, at) {
+    if bytes / 2 != pattern_count(b, at) {
         return false;
     }
     images_kept(b, at, l)

@@ -3,7 +3,6 @@
 pub mod case;
 pub mod document;
 pub mod embedding;
-pub mod limits;
 pub mod list;
 pub mod numbers;
 pub mod pattern;

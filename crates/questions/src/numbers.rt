@@ -2,11 +2,11 @@
 
 ghost use mathlib.Core.Path.{_≡_};
 ghost use Rattle.model.specs.Questions.{limitInRange, bufferLargeEnough, tableLargeEnough, tallyInRange, patternGiven};
-use crate::limits::MAX_LIMIT;
-use crate::limits::MAX_TALLY;
-use crate::limits::MIN_BUFFER;
-use crate::limits::MIN_TABLE;
 use crate::rules::between;
+use format::limits::MAX_LIMIT;
+use format::limits::MAX_TALLY;
+use format::limits::MIN_BUFFER;
+use format::limits::MIN_TABLE;
 
 // 1. Is the limit 1 to 1,000,000?
 pub fn limit_in_range(limit: u64) -> bool

@@ -1,67 +1,38 @@
-// The records of a pattern, and the questions on them: 7, 8 and, of the position, 12. A pattern is known by the field `at` that
-// holds its count, so each function serves both patterns of a case.
+// The questions on a pattern's records: 7, 8 and, of the position, 12. A pattern is known by the field `at` that holds its count, so
+// each function serves both patterns of a case. Before question 7 a parent may be any number.
 
 ghost use mathlib.Core.Path.{_≡_};
 ghost use mathlib.Core.Bool.{true};
 ghost use Prim.Native.Nat.{_<_};
 ghost use lib.Dec.{eqb};
-ghost use lib.ListN.{getD};
+ghost use lib.ListN.{length};
 ghost use Rattle.model.specs.Limits.{patternWidth};
 ghost use Rattle.model.specs.Lists.{countOf};
-ghost use Rattle.model.specs.Pattern.{PatternRecord, noPatternRecord, patternParent, patternLabel, position as positionOf, arity as arityOf};
+ghost use Rattle.model.specs.Pattern.{PatternRecord, arity as arityOf};
 ghost use Rattle.model.specs.Bytes.{caseOf, isWholeCase, WholeSection};
 ghost use Rattle.model.specs.Questions.{patternRecordKept, patternKept, patternsKept, positionsOnce, positionsKept, positionGiven};
 ghost use Rattle.format.specs.Given.{patternAt};
-ghost use Rattle.questions.specs.Sections.{selectedAt, InSection};
-use crate::case::first_at;
-use crate::case::second_at;
-use crate::limits::MAX_POSITION;
-use crate::limits::PATTERN_WIDTH;
+ghost use Rattle.questions.specs.Numbered.{numberedAt};
 use crate::numbers::pattern_given;
 use crate::rules::between;
 use crate::rules::flag_rule;
 use crate::rules::parent_rule;
-use format::field::field;
+use format::limits::MAX_POSITION;
 use format::nodes::PatternNode;
-
-// The parent of pattern node q, as a number: before question 7 the field may be any, so it is no pattern node yet.
-pub fn pattern_parent(b: &[u8], at: usize, q: PatternNode) -> usize
-    requires { ⌜ InSection patternWidth (now b) at (q .0) ⌝ }
-    ensures { λ r. ⌜ r ≡ patternParent (patternAt (now (b .entry)) at) (q .0) ⌝ }
-{
-    field(b, at + 1 + PATTERN_WIDTH * q.0)
-}
-
-// Its label, or 0 for any.
-pub fn pattern_label(b: &[u8], at: usize, q: PatternNode) -> usize
-    requires { ⌜ InSection patternWidth (now b) at (q .0) ⌝ }
-    ensures { λ r. ⌜ r ≡ patternLabel (patternAt (now (b .entry)) at) (q .0) ⌝ }
-{
-    field(b, at + 1 + PATTERN_WIDTH * q.0 + 1)
-}
-
-// Its edge: 0 child, 1 descendant.
-pub fn pattern_edge(b: &[u8], at: usize, q: PatternNode) -> usize
-    requires { ⌜ InSection patternWidth (now b) at (q .0) ⌝ }
-    ensures { λ r. ⌜ r ≡ getD (patternAt (now (b .entry)) at) (q .0) noPatternRecord .edge ⌝ }
-{
-    field(b, at + 1 + PATTERN_WIDTH * q.0 + 2)
-}
-
-// Its position, or 0.
-pub fn pattern_position(b: &[u8], at: usize, q: PatternNode) -> usize
-    requires { ⌜ InSection patternWidth (now b) at (q .0) ⌝ }
-    ensures { λ r. ⌜ r ≡ positionOf (patternAt (now (b .entry)) at) (q .0) ⌝ }
-{
-    field(b, at + 1 + PATTERN_WIDTH * q.0 + 3)
-}
+use format::pattern::pattern_count;
+use format::pattern::pattern_edge;
+use format::pattern::pattern_parent;
+use format::pattern::pattern_position;
+use format::sections::first_at;
+use format::sections::second_at;
 
 // Record q keeps the rules for parent and edge, with a position of at most 8.
 pub fn pattern_record_kept(b: &[u8], at: usize, q: PatternNode) -> bool
-    requires { ⌜ InSection patternWidth (now b) at (q .0) ⌝ }
+    requires { ⌜ WholeSection patternWidth (now b) at ⌝ }
+    requires { ⌜ q .0 < length (patternAt (now b) at) ⌝ }
     ensures { λ r. ⌜ r ≡ patternRecordKept (patternAt (now (b .entry)) at) (q .0) ⌝ }
 {
-    if !parent_rule(q.0, pattern_parent(b, at, q)) {
+    if !parent_rule(q.0, pattern_parent(b, at, q).0) {
         return false;
     }
     if !flag_rule(q.0, pattern_edge(b, at, q)) {
@@ -75,7 +46,7 @@ pub fn pattern_kept(b: &[u8], at: usize) -> bool
     requires { ⌜ WholeSection patternWidth (now b) at ⌝ }
     ensures { λ r. ⌜ r ≡ patternKept (patternAt (now (b .entry)) at) ⌝ }
 {
-    let n = field(b, at);
+    let n = pattern_count(b, at);
     for q in 0..n {
         if !pattern_record_kept(b, at, PatternNode(q)) {
             return false;
@@ -89,10 +60,12 @@ pub fn patterns_kept(b: &[u8]) -> bool
     requires { ⌜ isWholeCase (now b) ≡ true ⌝ }
     ensures { λ r. ⌜ r ≡ patternsKept (caseOf (now (b .entry))) ⌝ }
 {
-    if !pattern_kept(b, first_at(b)) {
+    let first = first_at(b);
+    let second = second_at(b);
+    if !pattern_kept(b, first) {
         return false;
     }
-    pattern_kept(b, second_at(b))
+    pattern_kept(b, second)
 }
 
 // k, the number of nodes that hold a position.
@@ -100,7 +73,7 @@ pub fn arity(b: &[u8], at: usize) -> usize
     requires { ⌜ WholeSection patternWidth (now b) at ⌝ }
     ensures { λ r. ⌜ (r ≡ arityOf (patternAt (now (b .entry)) at)) × (r < 65536) ⌝ }
 {
-    let n = field(b, at);
+    let n = pattern_count(b, at);
     let mut k: usize = 0;
     for q in 0..n {
         let p = pattern_position(b, at, PatternNode(q));
@@ -116,7 +89,7 @@ pub fn holders(b: &[u8], at: usize, position: usize) -> usize
     requires { ⌜ WholeSection patternWidth (now b) at ⌝ }
     ensures { λ r. ⌜ r ≡ countOf (λ (r : PatternRecord). eqb (r .position) position) (patternAt (now (b .entry)) at) ⌝ }
 {
-    let n = field(b, at);
+    let n = pattern_count(b, at);
     let mut k: usize = 0;
     for q in 0..n {
         let p = pattern_position(b, at, PatternNode(q));
@@ -162,24 +135,24 @@ pub fn positions_kept(b: &[u8]) -> bool
 }
 
 // The field that holds the count of the pattern that a number gives.
-pub fn selected_at(b: &[u8], selection: u64) -> usize
+pub fn numbered_at(b: &[u8], number: u64) -> usize
     requires { ⌜ isWholeCase (now b) ≡ true ⌝ }
-    ensures { λ r. ⌜ r ≡ selectedAt (now (b .entry)) selection ⌝ }
+    ensures { λ r. ⌜ r ≡ numberedAt (now (b .entry)) number ⌝ }
 {
-    if selection == 1 {
+    if number == 1 {
         return first_at(b);
     }
     second_at(b)
 }
 
 // 12. Is the pattern's number 1 or 2 and the position 1 to k?
-pub fn position_given(b: &[u8], selection: u64, position: u64) -> bool
+pub fn position_given(b: &[u8], number: u64, position: u64) -> bool
     requires { ⌜ isWholeCase (now b) ≡ true ⌝ }
-    ensures { λ r. ⌜ r ≡ positionGiven (caseOf (now (b .entry))) selection position ⌝ }
+    ensures { λ r. ⌜ r ≡ positionGiven (caseOf (now (b .entry))) number position ⌝ }
 {
-    if !pattern_given(selection) {
+    if !pattern_given(number) {
         return false;
     }
-    let k = arity(b, selected_at(b, selection));
+    let k = arity(b, numbered_at(b, number));
     between(1, k as u64, position)
 }

@@ -7,20 +7,17 @@ use crate::case::case_whole;
 use crate::case::counts_in_range;
 use crate::document::document_kept;
 use crate::embedding::is_embedding_list;
-use crate::list::list_in_range;
+use crate::list::result_in_range;
 use crate::numbers::buffer_large_enough;
 use crate::numbers::limit_in_range;
 use crate::numbers::pattern_given;
 use crate::numbers::table_large_enough;
 use crate::numbers::tally_in_range;
-use crate::pattern::arity;
 use crate::pattern::patterns_kept;
 use crate::pattern::position_given;
 use crate::pattern::positions_kept;
-use crate::pattern::selected_at;
 use crate::summary::siblings_differ;
 use crate::summary::summary_kept;
-use format::field::field;
 
 // Questions 3 to 8, which every call asks of its case.
 pub fn case_refusal(b: &[u8]) -> u64
@@ -82,8 +79,8 @@ pub fn fits_refusal(b: &[u8], w: &[u8]) -> u64
 }
 
 // Is it a result: 3 to 8, 10, 12, 11.
-pub fn result_refusal(b: &[u8], selection: u64, w: &[u8], r: &[u8]) -> u64
-    ensures { λ x. ⌜ x ≡ resultRefusal (now (b .entry)) selection (now (w .entry)) (now (r .entry)) ⌝ }
+pub fn result_refusal(b: &[u8], number: u64, w: &[u8], r: &[u8]) -> u64
+    ensures { λ x. ⌜ x ≡ resultRefusal (now (b .entry)) number (now (w .entry)) (now (r .entry)) ⌝ }
 {
     let refused = case_refusal(b);
     if refused != 0 {
@@ -92,19 +89,18 @@ pub fn result_refusal(b: &[u8], selection: u64, w: &[u8], r: &[u8]) -> u64
     if !document_kept(w) {
         return 10;
     }
-    if !pattern_given(selection) {
+    if !pattern_given(number) {
         return 12;
     }
-    let k = arity(b, selected_at(b, selection));
-    if !list_in_range(k, field(w, 0), r) {
+    if !result_in_range(b, number, w, r) {
         return 11;
     }
     0
 }
 
 // Nodes at a position: 2 to 8, 10, 12.
-pub fn nodes_refusal(b: &[u8], selection: u64, w: &[u8], position: u64, buffer: usize) -> u64
-    ensures { λ r. ⌜ r ≡ nodesRefusal (now (b .entry)) selection (now (w .entry)) position buffer ⌝ }
+pub fn nodes_refusal(b: &[u8], number: u64, w: &[u8], position: u64, buffer: usize) -> u64
+    ensures { λ r. ⌜ r ≡ nodesRefusal (now (b .entry)) number (now (w .entry)) position buffer ⌝ }
 {
     if !buffer_large_enough(buffer) {
         return 2;
@@ -116,29 +112,29 @@ pub fn nodes_refusal(b: &[u8], selection: u64, w: &[u8], position: u64, buffer: 
     if !document_kept(w) {
         return 10;
     }
-    if !position_given(b, selection, position) {
+    if !position_given(b, number, position) {
         return 12;
     }
     0
 }
 
 // Paths of each node: 3 to 8, 12.
-pub fn paths_refusal(b: &[u8], selection: u64) -> u64
-    ensures { λ r. ⌜ r ≡ pathsRefusal (now (b .entry)) selection ⌝ }
+pub fn paths_refusal(b: &[u8], number: u64) -> u64
+    ensures { λ r. ⌜ r ≡ pathsRefusal (now (b .entry)) number ⌝ }
 {
     let refused = case_refusal(b);
     if refused != 0 {
         return refused;
     }
-    if !pattern_given(selection) {
+    if !pattern_given(number) {
         return 12;
     }
     0
 }
 
 // Lay out a canonical document: 2 to 8, 12, 13.
-pub fn layout_refusal(b: &[u8], selection: u64, l: &[u8], table: usize) -> u64
-    ensures { λ r. ⌜ r ≡ layoutRefusal (now (b .entry)) selection (now (l .entry)) table ⌝ }
+pub fn layout_refusal(b: &[u8], number: u64, l: &[u8], table: usize) -> u64
+    ensures { λ r. ⌜ r ≡ layoutRefusal (now (b .entry)) number (now (l .entry)) table ⌝ }
 {
     if !table_large_enough(table) {
         return 2;
@@ -147,10 +143,10 @@ pub fn layout_refusal(b: &[u8], selection: u64, l: &[u8], table: usize) -> u64
     if refused != 0 {
         return refused;
     }
-    if !pattern_given(selection) {
+    if !pattern_given(number) {
         return 12;
     }
-    if !is_embedding_list(b, selection, l) {
+    if !is_embedding_list(b, number, l) {
         return 13;
     }
     0

@@ -1,78 +1,16 @@
--- `questions::refusals::nodes_refusal` meets its contract: each return comes after the questions before it were answered yes.
--- Assumes nothing.
-use borrow.Author.Needs.{needs}
-use mathlib.Core.Path.{sym, _∙_}
+-- `questions::refusals::nodes_refusal` meets its contract: each return comes after the questions before it were answered yes. Assumes nothing.
 use Rattle.model.specs.Questions.{nodesRefusal}
-use Rattle.model.proofs.Questions.{refusal-yes, refusal-no, all-yes-accepted}
-use Rattle.questions.proofs.TestLaws.{said-no, said-yes}
-use Rattle.questions.proofs.RefusalLaws.{accepted-whole, case-refused, case-accepted}
+use Rattle.questions.proofs.RefusalLaws.{asked}
 use Rattle.questions.proofs.refusals.nodes_refusal.Statement.{statement}
 use Rattle.questions.proofs.refusals.nodes_refusal.Tie as tie
 
-buffer-large-enough-requires : tie.Need-buffer-large-enough-requires
-buffer-large-enough-requires c κs = search needs
-
-returns : tie.Need-returns
-unfolding nodesRefusal
-returns c = sym (refusal-no _ _ (said-no _ _ (c .before .buffer-large-enough .ensures) (c .if1 .taken)))
-
-case-refusal-requires : tie.Need-case-refusal-requires
-case-refusal-requires c κs = search needs
-
-returns-2 : tie.Need-returns-2
-unfolding nodesRefusal
-returns-2 c =
-    let c1 = c .before .before in
-    sym (refusal-yes _ _ (said-yes _ _ (c1 .before .buffer-large-enough .ensures) (c1 .if1 .left))
-    ∙ case-refused _ _ _ (c .before .case-refusal .ensures) (c .if2 .taken))
-
-document-kept-requires : tie.Need-document-kept-requires
-document-kept-requires c κs = search needs
-
-returns-3 : tie.Need-returns-3
-unfolding nodesRefusal
-returns-3 c =
-    let c2 = c .before .before in
-    let c1 = c2 .before .before in
-    sym (refusal-yes _ _ (said-yes _ _ (c1 .before .buffer-large-enough .ensures) (c1 .if1 .left))
-    ∙ case-accepted _ _ _ (c2 .before .case-refusal .ensures) (c2 .if2 .left)
-    ∙ refusal-no _ _ (said-no _ _ (c .before .document-kept .ensures) (c .if3 .taken)))
-
-position-given-requires : tie.Need-position-given-requires
-position-given-requires c κs = accepted-whole _ (sym (c .before .before .before .case-refusal .ensures) ∙ c .before .before .if2 .left)
-
-returns-4 : tie.Need-returns-4
-unfolding nodesRefusal
-returns-4 c =
-    let c3 = c .before .before in
-    let c2 = c3 .before .before in
-    let c1 = c2 .before .before in
-    sym (refusal-yes _ _ (said-yes _ _ (c1 .before .buffer-large-enough .ensures) (c1 .if1 .left))
-    ∙ case-accepted _ _ _ (c2 .before .case-refusal .ensures) (c2 .if2 .left)
-    ∙ refusal-yes _ _ (said-yes _ _ (c3 .before .document-kept .ensures) (c3 .if3 .left))
-    ∙ refusal-no _ _ (said-no _ _ (c .before .position-given .ensures) (c .if4 .taken)))
-
-returns-5 : tie.Need-returns-5
-unfolding nodesRefusal
-returns-5 c =
-    let c3 = c .before .before in
-    let c2 = c3 .before .before in
-    let c1 = c2 .before .before in
-    sym (refusal-yes _ _ (said-yes _ _ (c1 .before .buffer-large-enough .ensures) (c1 .if1 .left))
-    ∙ case-accepted _ _ _ (c2 .before .case-refusal .ensures) (c2 .if2 .left)
-    ∙ refusal-yes _ _ (said-yes _ _ (c3 .before .document-kept .ensures) (c3 .if3 .left))
-    ∙ all-yes-accepted _ (said-yes _ _ (c .before .position-given .ensures) (c .if4 .left), tt))
-
 pub nodes-refusal-spec : {M : Type 1} → statement M
+unfolding nodesRefusal
 nodes-refusal-spec =
     tie.close
     (tie.spec
-    buffer-large-enough-requires
-    returns
-    case-refusal-requires
-    returns-2
-    document-kept-requires
-    returns-3
-    position-given-requires
-    returns-4
-    returns-5)
+    (λ c κs. search asked) (λ c. search asked)
+    (λ c κs. search asked) (λ c. search asked)
+    (λ c κs. search asked) (λ c. search asked)
+    (λ c κs. search asked) (λ c. search asked)
+    (λ c. search asked))
