@@ -1,12 +1,13 @@
 -- Questions 3 and 4 by the fields that the code reads: a case that is cut before one of its counts is not whole, since the end
 -- lies after every count. Assumes nothing.
 use Prim.Native.Nat.{ℕ, _*_, _/_, _%_, _≤_, _<_}
-use mathlib.Core.Path.{_≡_, refl, ap, _∙_}
+use mathlib.Core.Path.{_≡_, refl, sym, ap, _∙_}
 use mathlib.Core.Bool.{Bool, true, false, _&&_}
 use mathlib.Core.List.{List}
 use native.Mathlib.Omega.{arith}
 use lib.Dec.{leb, eqb}
 use lib.ListN.{length}
+use borrow.Author.Needs.{needs}
 use borrow.Author.Tests.{ne-eqb, le-leb, lt-leb, eqb-true, eq-eqb}
 use Rattle.model.specs.Limits.{maxCaseBytes, maxSummary, maxPattern, patternWidth}
 use Rattle.model.specs.Bytes.{sectionEnd, firstAt, secondAt, caseEnd, caseOf, isWholeCase}
@@ -16,43 +17,53 @@ use Rattle.format.specs.Given.{summaryIn, patternAt}
 use Rattle.questions.proofs.TestLaws.{and-no}
 use Rattle.questions.proofs.NumberedLaws.{first-pattern, second-pattern}
 
--- the end of a section that begins at a place known by another name
-pub end-at : (b : List ℕ) (at place end : ℕ) → at ≡ place → end ≡ sectionEnd patternWidth b at → end ≡ sectionEnd patternWidth b place
-end-at b at place end p e = e ∙ ap (sectionEnd patternWidth b) p
+-- ---- 3
 
-pub too-long : (b : List ℕ) → maxCaseBytes < length b → caseWhole b ≡ false
+pub too-long : (b : List ℕ) → maxCaseBytes < length b → false ≡ caseWhole b
 unfolding caseWhole isWholeCase
 too-long b h = rw (lt-leb (length b) maxCaseBytes h) refl
 
 -- the length is not that of the end
-not-end : (b : List ℕ) → (length b ≡ 2 * caseEnd b → ⊥) → caseWhole b ≡ false
+not-end : (b : List ℕ) → (length b ≡ 2 * caseEnd b → ⊥) → false ≡ caseWhole b
 unfolding caseWhole isWholeCase
-not-end b n = rw (ne-eqb (length b) (2 * caseEnd b) n) (and-no (leb (length b) maxCaseBytes))
+not-end b n = rw (ne-eqb (length b) (2 * caseEnd b) n) (sym (and-no (leb (length b) maxCaseBytes)))
 
-pub half-field : (b : List ℕ) → (length b % 2 ≡ 0 → ⊥) → caseWhole b ≡ false
+pub half-field : (b : List ℕ) → (length b % 2 ≡ 0 → ⊥) → false ≡ caseWhole b
 half-field b n = not-end b (λ e. n (omega arith))
 
-pub no-fields : (b : List ℕ) → length b / 2 ≡ 0 → caseWhole b ≡ false
+pub no-fields : (b : List ℕ) → length b / 2 ≡ 0 → false ≡ caseWhole b
 no-fields b z = not-end b (λ e. omega arith)
 
-pub cut-at-first : (b : List ℕ) (at : ℕ) → at ≡ firstAt b → length b / 2 ≤ at → caseWhole b ≡ false
-cut-at-first b at p h = not-end b (λ e. omega arith)
+module _ (b : List ℕ) (first : ℕ) (p : first ≡ firstAt b) where
+  pub cut-at-first : length b / 2 ≤ first → false ≡ caseWhole b
+  cut-at-first h = not-end b (λ e. omega arith)
 
-pub cut-at-second : (b : List ℕ) (at : ℕ) → at ≡ secondAt b → length b / 2 ≤ at → caseWhole b ≡ false
-cut-at-second b at p h = not-end b (λ e. omega arith)
+  module _ (second : ℕ) (q : second ≡ sectionEnd patternWidth b first) where
+    at-second : second ≡ secondAt b
+    at-second = q ∙ ap (sectionEnd patternWidth b) p
 
--- where no half field is left, the number of fields decides
-pub whole-by-fields : (b : List ℕ) (end : ℕ) → length b ≤ maxCaseBytes → length b % 2 ≡ 0 → end ≡ caseEnd b → eqb (length b / 2) end ≡ caseWhole b
-unfolding caseWhole isWholeCase
-whole-by-fields b end h z p = rw (le-leb (length b) maxCaseBytes h) (bool-ext (eqb (length b / 2) end) (eqb (length b) (2 * caseEnd b)) forth back)
-  where
-    forth : eqb (length b / 2) end ≡ true → eqb (length b) (2 * caseEnd b) ≡ true
-    forth e = let q = eqb-true (length b / 2) end e in eq-eqb (length b) (2 * caseEnd b) (omega arith)
+    pub cut-at-second : length b / 2 ≤ second → false ≡ caseWhole b
+    cut-at-second h = let s = at-second in not-end b (λ e. omega arith)
 
-    back : eqb (length b) (2 * caseEnd b) ≡ true → eqb (length b / 2) end ≡ true
-    back e = let q = eqb-true (length b) (2 * caseEnd b) e in eq-eqb (length b / 2) end (omega arith)
+    -- where no half field is left, the number of fields decides
+    pub whole-by-fields : (end : ℕ) → end ≡ sectionEnd patternWidth b second → length b ≤ maxCaseBytes → length b % 2 ≡ 0 → eqb (length b / 2) end ≡ caseWhole b
+    unfolding caseWhole isWholeCase
+    whole-by-fields end r h z = rw (le-leb (length b) maxCaseBytes h) (bool-ext (eqb (length b / 2) end) (eqb (length b) (2 * caseEnd b)) forth back)
+      where
+        at-end : end ≡ caseEnd b
+        at-end = r ∙ ap (sectionEnd patternWidth b) at-second
 
--- 4, by the three tables
+        forth : eqb (length b / 2) end ≡ true → eqb (length b) (2 * caseEnd b) ≡ true
+        forth e = let s = at-end in let q = eqb-true (length b / 2) end e in eq-eqb (length b) (2 * caseEnd b) (omega arith)
+
+        back : eqb (length b) (2 * caseEnd b) ≡ true → eqb (length b / 2) end ≡ true
+        back e = let s = at-end in let q = eqb-true (length b) (2 * caseEnd b) e in eq-eqb (length b / 2) end (omega arith)
+
+pub ruleset whole = (needs, too-long, half-field, no-fields, cut-at-first, cut-at-second, whole-by-fields)
+
+-- ---- 4
+
+-- by the three tables
 pub counts-asked : (b : List ℕ) (first second : ℕ) (r : Bool) → first ≡ firstAt b → second ≡ secondAt b
     → r ≡ (between 1 maxSummary (length (summaryIn b)) && between 1 maxPattern (length (patternAt b first)) && between 1 maxPattern (length (patternAt b second)))
     → r ≡ countsInRange (caseOf b)

@@ -1,12 +1,12 @@
 -- Questions 10 and 11 by the fields that the code reads. Assumes nothing.
-use Prim.Native.Nat.{ℕ, _*_, _/_, _%_, _≤_}
-use mathlib.Core.Path.{_≡_, refl, ap, _∙_}
+use Prim.Native.Nat.{ℕ, _+_, _*_, _/_, _%_, _≤_, _<_}
+use mathlib.Core.Path.{_≡_, refl, sym, ap, _∙_}
 use mathlib.Core.Bool.{Bool, true, false, _&&_, not}
 use mathlib.Core.List.{List, [], _∷_, map}
 use native.Mathlib.Omega.{arith}
 use lib.Dec.{eqb, ltb}
 use lib.ListN.{length}
-use borrow.Author.Tests.{ne-eqb}
+use borrow.Author.Tests.{eq-eqb, ne-eqb, lt-ltb, le-ltb}
 use Rattle.model.specs.Limits.{documentWidth}
 use Rattle.model.specs.Lists.{upFrom, allOf}
 use Rattle.model.specs.Pattern.{arity}
@@ -18,12 +18,13 @@ use Rattle.format.proofs.ListLaws.{list-count}
 use Rattle.questions.specs.Numbered.{numberedAt}
 use Rattle.questions.proofs.NumberedLaws.{numbered-pattern}
 use Rattle.questions.proofs.TestLaws.{said-yes}
+use Rattle.questions.proofs.LoopLaws.{Passed, passed-more, all-passed, one-failed}
 
 -- ---- a document
 
-pub no-count : (w : List ℕ) → length w ≤ 1 → isWholeDocument w ≡ false
+pub no-count : (w : List ℕ) → length w ≤ 1 → false ≡ isWholeDocument w
 unfolding isWholeDocument
-no-count w h = ne-eqb (length w) (2 * sectionEnd documentWidth w 0) (λ e. omega arith)
+no-count w h = sym (ne-eqb (length w) (2 * sectionEnd documentWidth w 0) (λ e. omega arith))
 
 pub asked-section : (answer : Bool) (w : List ℕ) → answer ≡ isWholeDocument w → not answer ≡ false → WholeSection documentWidth w 0
 asked-section answer w e t = whole-document w (said-yes answer (isWholeDocument w) e t)
@@ -39,11 +40,31 @@ all-map test f [] = refl
 all-map test f (x ∷ xs) = ap (λ (t : Bool). elim (test (f x)) as (λ _. Bool) [ true ↦ t | false ↦ false ]) (all-map test f xs)
 
 -- 11, by the fields
-pub list-by-fields : (k n : ℕ) (r : List ℕ) → listInRange k n r ≡ (eqb (length r % 2) 0 && eqb (length r / 2) k && allOf (λ i. ltb (field r i) n) (upFrom 0 (length r / 2)))
+pub list-asked : (k n : ℕ) (l : List ℕ) (r : Bool) → r ≡ (eqb (length l % 2) 0 && eqb (length l / 2) k && allOf (λ i. ltb (field l i) n) (upFrom 0 (length l / 2)))
+    → r ≡ listInRange k n l
 unfolding listInRange isWholeList listOf
-list-by-fields k n r =
-    ap (λ (m : ℕ). eqb (length r % 2) 0 && eqb m k && allOf (λ v. ltb v n) (listOf r)) (list-count r)
-    ∙ ap (λ (t : Bool). eqb (length r % 2) 0 && eqb (length r / 2) k && t) (all-map (λ v. ltb v n) (field r) (upFrom 0 (length r / 2)))
+list-asked k n l r e =
+    e ∙ sym (ap (λ (m : ℕ). eqb (length l % 2) 0 && eqb m k && allOf (λ v. ltb v n) (listOf l)) (list-count l)
+    ∙ ap (λ (t : Bool). eqb (length l % 2) 0 && eqb (length l / 2) k && t) (all-map (λ v. ltb v n) (field l) (upFrom 0 (length l / 2))))
+
+-- every entry that the loop has come past is below n
+abbrev pub Below : List ℕ → ℕ → ℕ → Type 0
+Below l n i = Passed (λ j. ltb (field l j) n) 0 i
+
+module _ (k n : ℕ) (l : List ℕ) (even : length l % 2 ≡ 0) (count : length l / 2 ≡ k) where
+  pub entry-stops : (i v : ℕ) → v ≡ field l i → n ≤ v → i < k → false ≡ listInRange k n l
+  entry-stops i v e h u =
+      list-asked k n l false
+      (rw (eq-eqb (length l % 2) 0 even, eq-eqb (length l / 2) k count)
+      (sym (one-failed (λ j. ltb (field l j) n) 0 (length l / 2) i (omega arith) (omega arith) (rw (← e) (le-ltb v n h)))))
+
+  pub entry-ends : (i : ℕ) → Below l n i → k ≤ i → true ≡ listInRange k n l
+  entry-ends i p h =
+      list-asked k n l true
+      (rw (eq-eqb (length l % 2) 0 even, eq-eqb (length l / 2) k count) (sym (all-passed (λ j. ltb (field l j) n) 0 (length l / 2) i p (omega arith))))
+
+pub entry-more : (l : List ℕ) (n i v : ℕ) → Below l n i → v ≡ field l i → v < n → Below l n (i + 1)
+entry-more l n i v p e h = passed-more (λ j. ltb (field l j) n) 0 i p (rw (← e) (lt-ltb v n h))
 
 -- of the pattern that a number gives and of the document
 pub result-asked : (b : List ℕ) (s at k : ℕ) (w : List ℕ) (n : ℕ) (l : List ℕ) (r : Bool) → at ≡ numberedAt b s → k ≡ arity (patternAt b at)

@@ -14,18 +14,17 @@ use Rattle.model.specs.Lists.{upFrom, anyOf, allOf, sameList}
 use Rattle.model.specs.Tree.{IsTree, Document, parentOf, Child, Below, once, down}
 use Rattle.model.specs.Summary.{Summary, asDocument, summaryParent, summaryLabel}
 use Rattle.model.specs.Pattern.{Pattern, noPatternRecord, IsPatternTree, patternParent, patternLabel, descends, labelFits, Embeds}
-use Rattle.model.specs.Embeddings.{childTest, belowTest, climbs, edgeTest, imageIn, placements}
+use Rattle.model.specs.Embeddings.{belowTest, climbs, edgeTest, imageIn, placements}
 use Rattle.model.specs.Bytes.{caseOf, listOf, isWholeList}
 use Rattle.model.specs.Questions.{isPlacement, selected, refusal, caseQuestions}
 use Rattle.model.proofs.ListLaws.{bool-ext, and-intro, and-left, and-right, any-intro, any-elim, all-below, below-all, same-eq, same-refl}
 use Rattle.model.proofs.TreeLaws.{length-asDocument, test-below, below-test, below-cases, test-edge, edge-test}
 use Rattle.model.proofs.Embeddings.{embeddings-sound, embeddings-complete-list}
-use Rattle.format.specs.Given.{summaryIn, patternAt, SummaryGiven}
+use Rattle.format.specs.Given.{summaryIn, patternAt}
 use Rattle.format.proofs.GivenLaws.{given-summary}
 use Rattle.format.proofs.ListLaws.{list-count}
 use Rattle.questions.specs.Numbered.{numberedAt}
 use Rattle.questions.specs.Images.{imageReached, imageKept, keptIn, Images}
-use Rattle.questions.proofs.TestLaws.{pos-ltb}
 use Rattle.questions.proofs.NumberedLaws.{numbered-pattern}
 use Rattle.questions.proofs.RefusalLaws.{accepted}
 use Rattle.questions.proofs.AcceptedLaws.{given-numbered}
@@ -124,14 +123,6 @@ module _ (W : Document) (t : IsTree W) (a v : ℕ) (p : 0 < v) (h : v < length W
 
       back : belowTest W a (parentOf W v) ≡ true → belowTest W a v ≡ true
       back e = below-test t (down (test-below W a (parentOf W v) t e) (record { notRoot = p; inside = h; isParent = refl }))
-
-pub child-root : (W : Document) (a v : ℕ) → v ≡ 0 → childTest W a v ≡ false
-unfolding childTest
-child-root W a v z = rw (z, childTest) refl
-
-pub child-by-parent : (W : Document) (a v : ℕ) → (v ≡ 0 → ⊥) → v < length W → childTest W a v ≡ eqb (parentOf W v) a
-unfolding childTest
-child-by-parent W a v n h = rw (pos-ltb v n, lt-ltb v (length W) h) refl
 
 -- a node of the summary is one of the summary read as a document
 pub summary-inside : (S : Summary) (v : ℕ) → v < length S → v < length (asDocument S)

@@ -21,16 +21,18 @@ use Rattle.questions.proofs.NumberedLaws.{whole-summary}
 
 -- every number from a on, below i, passes
 pub record Passed (test : ℕ → Bool) (a i : ℕ) : Type 0 where
+  pub began : a ≤ i
   pub each : (k : ℕ) → a ≤ k → k < i → test k ≡ true
 
 module _ (test : ℕ → Bool) (a : ℕ) where
   pub passed-none : Passed test a a
-  passed-none = record { each = λ k l u. absurd (omega arith) }
+  passed-none = record { began = omega arith; each = λ k l u. absurd (omega arith) }
 
   pub passed-more : (i : ℕ) → Passed test a i → test i ≡ true → Passed test a (i + 1)
   passed-more i p e =
       let more = below-more (λ k. a ≤ k → test k ≡ true) i (λ k h l. p .each k l h) (λ l. e) in
-      record { each = λ k l u. more k u l }
+      let b : a ≤ i = p .began in
+      record { began = omega arith; each = λ k l u. more k u l }
 
   -- the loop came to its end
   pub all-passed : (n i : ℕ) → Passed test a i → a + n ≤ i → allOf test (upFrom a n) ≡ true

@@ -1,18 +1,23 @@
 -- Questions 7, 8 and 12 by what the code reads of a pattern's section. Assumes nothing.
-use Prim.Native.Nat.{ℕ}
-use mathlib.Core.Path.{_≡_, sym, ap, _∙_}
-use mathlib.Core.Bool.{Bool, false, _&&_, _||_}
+use Prim.Native.Nat.{ℕ, _+_, _≤_, _<_}
+use mathlib.Core.Path.{_≡_, refl, sym, ap, _∙_}
+use mathlib.Core.Bool.{Bool, true, false, _&&_, _||_}
 use mathlib.Core.List.{List}
+use native.Mathlib.Omega.{arith}
 use lib.Dec.{eqb, leb, ltb}
 use lib.ListN.{getD}
+use borrow.Author.Needs.{needs}
+use borrow.Author.Tests.{le-leb, lt-leb, eq-eqb, ne-eqb}
+use Rattle.model.specs.Lists.{upFrom, allOf, countOf}
 use Rattle.model.specs.Limits.{maxPosition}
-use Rattle.model.specs.Pattern.{Pattern, noPatternRecord, patternParent, position, arity}
+use Rattle.model.specs.Pattern.{PatternRecord, Pattern, noPatternRecord, patternParent, position, arity}
 use Rattle.model.specs.Fitting.{parentRule}
 use Rattle.model.specs.Bytes.{Case, firstAt, secondAt, caseOf}
 use Rattle.model.specs.Questions.{patternRecordKept, patternKept, patternsKept, positionsOnce, positionsKept, patternGiven, positionGiven, between, selected}
 use Rattle.format.specs.Given.{patternAt}
 use Rattle.questions.specs.Numbered.{numberedAt}
-use Rattle.questions.proofs.TestLaws.{and-assoc, and-no-left}
+use Rattle.questions.proofs.TestLaws.{and-no, and-assoc, and-no-left}
+use Rattle.questions.proofs.LoopLaws.{Passed, passed-none, passed-more, all-passed, one-failed}
 use Rattle.questions.proofs.NumberedLaws.{first-pattern, second-pattern, numbered-pattern}
 
 -- 7, with the rule for the flag by itself
@@ -45,3 +50,33 @@ pub position-asked : (b : List ℕ) (s at p : ℕ) (r : Bool) → at ≡ numbere
     → r ≡ positionGiven (caseOf b) s p
 unfolding positionGiven
 position-asked b s at p r e a = rw (numbered-pattern b s at e) a
+
+-- 8 of one pattern, whose k is read and whose positions are then counted
+abbrev pub heldOnce : Pattern → ℕ → Bool
+heldOnce P p = eqb (countOf (λ (r : PatternRecord). eqb (r .position) p) P) 1
+
+module _ (P : Pattern) (k : ℕ) (e : k ≡ arity P) where
+  pub once-none : k < 1 → false ≡ positionsOnce P
+  unfolding positionsOnce
+  once-none h = rw (← e, lt-leb 1 k h) refl
+
+  pub once-stops : (p h : ℕ) → h ≡ countOf (λ (r : PatternRecord). eqb (r .position) p) P → (h ≡ 1 → ⊥) → Passed (heldOnce P) 1 p → p < k + 1 → false ≡ positionsOnce P
+  unfolding positionsOnce
+  once-stops p h c n b u =
+      let from : 1 ≤ p = b .began in
+      let no₀ : allOf (heldOnce P) (upFrom 1 k) ≡ false = one-failed (heldOnce P) 1 k p (omega arith) (omega arith) (ne-eqb _ 1 (λ g. n (c ∙ g))) in
+      rw (← e, no₀) (sym (and-no (leb 1 k)))
+
+  pub once-ends : (p : ℕ) → Passed (heldOnce P) 1 p → 1 ≤ k → k + 1 ≤ p → true ≡ positionsOnce P
+  unfolding positionsOnce
+  once-ends p b l u =
+      let all₀ : allOf (heldOnce P) (upFrom 1 k) ≡ true = all-passed (heldOnce P) 1 k p b (omega arith) in
+      rw (← e, le-leb 1 k l, all₀) refl
+
+pub once-more : (P : Pattern) (p h : ℕ) → Passed (heldOnce P) 1 p → h ≡ countOf (λ (r : PatternRecord). eqb (r .position) p) P → h ≡ 1 → Passed (heldOnce P) 1 (p + 1)
+once-more P p h b c e = passed-more (heldOnce P) 1 p b (eq-eqb _ 1 (sym c ∙ e))
+
+pub once-begins : (P : Pattern) → Passed (heldOnce P) 1 1
+once-begins P = passed-none (heldOnce P) 1
+
+pub ruleset once = (needs, once-none, once-stops, once-ends, once-more, once-begins)

@@ -2,18 +2,12 @@
 use Prim.Native.Nat.{ℕ, zero, suc, _+_, _-_, _≤_, _<_}
 use mathlib.Core.Path.{_≡_, refl, sym, ap, ap₂, _∙_}
 use mathlib.Core.Bool.{Bool, true, false, _&&_, not}
-use mathlib.Core.Logic.{_⊎_, inl, inr}
 use native.Mathlib.Omega.{arith}
 use lib.Dec.{leb, ltb, eqb}
 use borrow.Author.Needs.{needs}
 use borrow.Author.Tests.{lt-ltb, le-ltb, eq-eqb, ne-eqb, le-leb, leb-true, lt-leb, not-true, not-false}
 use Rattle.model.specs.Fitting.{parentRule}
 use Rattle.model.proofs.ListLaws.{bool-ext}
-
--- the arms of a branch, where they meet
-pub by-arm : {A B C : Type 0} → A ⊎ B → (A → C) → (B → C) → C
-by-arm (inl a) f g = f a
-by-arm (inr b) f g = g b
 
 -- what a branch on `!answer` tells of the test that the answer equals
 pub said-no : (answer test : Bool) → answer ≡ test → not answer ≡ true → test ≡ false
@@ -103,10 +97,6 @@ pub is-same-read : (v y w : ℕ) → y ≡ w → v ≡ y → true ≡ eqb v w
 is-same-read v y w e h = eq-yes v y v w refl e h
 
 pub ruleset compared = (eq-no, eq-yes, lt-no, lt-yes, zero-no, zero-yes, is-zero, is-more, is-below, is-not, is-same, is-not-read, is-same-read)
-
--- a number that is not 0
-pub pos-ltb : (n : ℕ) → (n ≡ 0 → ⊥) → ltb 0 n ≡ true
-pos-ltb n h = lt-ltb 0 n (omega arith)
 
 -- a sum is at most m exactly when one part is at most what the other leaves
 pub sum-at-most : (t l m : ℕ) → l ≤ m → leb t (m - l) ≡ leb (t + l) m

@@ -4,9 +4,6 @@ use Rattle.model.specs.Questions.{bufferLargeEnough}
 use Rattle.questions.proofs.numbers.buffer_large_enough.Statement.{statement}
 use Rattle.questions.proofs.numbers.buffer_large_enough.Tie as tie
 
-returns : tie.Need-returns
-unfolding bufferLargeEnough
-returns c = refl
-
 pub buffer-large-enough-spec : {M : Type 1} → statement M
-buffer-large-enough-spec = tie.close (tie.spec returns)
+unfolding bufferLargeEnough
+buffer-large-enough-spec = tie.close (tie.spec (λ c. refl))

@@ -4,9 +4,6 @@ use Rattle.model.specs.Questions.{tableLargeEnough}
 use Rattle.questions.proofs.numbers.table_large_enough.Statement.{statement}
 use Rattle.questions.proofs.numbers.table_large_enough.Tie as tie
 
-returns : tie.Need-returns
-unfolding tableLargeEnough
-returns c = refl
-
 pub table-large-enough-spec : {M : Type 1} → statement M
-table-large-enough-spec = tie.close (tie.spec returns)
+unfolding tableLargeEnough
+table-large-enough-spec = tie.close (tie.spec (λ c. refl))

@@ -1,5 +1,4 @@
 -- `questions::pattern::holders` meets its contract. The loop's invariant: k of the first q nodes hold the position. Assumes nothing.
-use borrow.Author.Needs.{needs}
 use Prim.Native.Nat.{_-_}
 use native.Mathlib.Omega.{arith}
 use borrow.Author.Tests.{eq-eqb, ne-eqb}
