@@ -29,9 +29,6 @@ no-count w h = sym (ne-eqb (length w) (2 * sectionEnd documentWidth w 0) (λ e. 
 pub asked-section : (answer : Bool) (w : List ℕ) → answer ≡ isWholeDocument w → not answer ≡ false → WholeSection documentWidth w 0
 asked-section answer w e t = whole-document w (said-yes answer (isWholeDocument w) e t)
 
-pub asked-document : (answer : Bool) (w : List ℕ) → answer ≡ isWholeDocument w → not answer ≡ false → isWholeDocument w ≡ true
-asked-document answer w e t = said-yes answer (isWholeDocument w) e t
-
 -- ---- a list
 
 all-map : {A : Type 0} (test : A → Bool) (f : ℕ → A) (xs : List ℕ) → allOf test (map f xs) ≡ allOf (λ i. test (f i)) xs

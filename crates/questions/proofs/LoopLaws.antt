@@ -13,7 +13,6 @@ use borrow.Author.Count.{below-more}
 use borrow.Author.Needs.{needs}
 use Rattle.model.specs.Lists.{upFrom, allOf, countOf}
 use Rattle.model.proofs.ListLaws.{true-or-false, not-both, all-intro, all-elim, mem-upFrom, upFrom-mem}
-use Rattle.format.proofs.GivenLaws.{whole-document}
 use Rattle.questions.proofs.TestLaws.{said-no, said-yes}
 use Rattle.questions.proofs.NumberedLaws.{whole-summary}
 
@@ -61,7 +60,7 @@ kept-more test i answer p a t = passed-more test 0 i p (said-yes answer (test i)
 pub kept-ends : (test : ℕ → Bool) (n i count : ℕ) → count ≡ n → count ≤ i → Passed test 0 i → true ≡ allOf test (upFrom 0 n)
 kept-ends test n i count e h p = sym (all-passed test 0 n i p (omega arith))
 
-pub ruleset kept = (needs, kept-inside, kept-stops, kept-more, kept-ends, passed-none, whole-summary, whole-document)
+pub ruleset kept = (needs, kept-inside, kept-stops, kept-more, kept-ends, passed-none, whole-summary)
 
 -- ---- how many pass
 

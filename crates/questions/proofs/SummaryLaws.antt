@@ -1,6 +1,6 @@
 -- Questions 5 and 6 by what the code reads of a record: the summary's records and its nodes read as a document's agree. Assumes
 -- nothing.
-use Prim.Native.Nat.{ℕ, _+_, _≤_, _<_}
+use Prim.Native.Nat.{ℕ, _+_, _<_}
 use mathlib.Core.Path.{_≡_, sym, ap, _∙_}
 use mathlib.Core.Bool.{Bool, true, false, _&&_, _||_, not}
 use native.Mathlib.Omega.{arith}
@@ -12,7 +12,7 @@ use Rattle.model.specs.Summary.{Summary, noSummaryRecord, withoutStrong, asDocu
 use Rattle.model.specs.Fitting.{parentRule}
 use Rattle.model.specs.Questions.{summaryRecordKept, alike}
 use Rattle.questions.proofs.TestLaws.{and-assoc}
-use Rattle.questions.proofs.LoopLaws.{Passed, passed-more, all-passed, one-failed}
+use Rattle.questions.proofs.LoopLaws.{Passed, passed-more, one-failed}
 
 module _ (S : Summary) (i : ℕ) where
   same-node : getD (asDocument S) i noDocumentRecord ≡ withoutStrong (getD S i noSummaryRecord)
@@ -39,6 +39,3 @@ module _ (S : Summary) (i j : ℕ) (answer : Bool) (a : answer ≡ alike S i j) 
 
   pub alike-more : Unlike S j i → answer ≡ false → Unlike S j (i + 1)
   alike-more p e = passed-more (λ k. not (alike S k j)) 0 i p (ap not (sym a ∙ e))
-
-pub alike-ends : (S : Summary) (i j : ℕ) → Unlike S j i → j ≤ i → true ≡ allOf (λ k. not (alike S k j)) (upFrom 0 j)
-alike-ends S i j p h = sym (all-passed (λ k. not (alike S k j)) 0 j i p (omega arith))

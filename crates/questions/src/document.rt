@@ -1,7 +1,6 @@
 // The question on a document: 10. Before it a parent may be any number.
 
 ghost use mathlib.Core.Path.{_≡_};
-ghost use mathlib.Core.Bool.{true};
 ghost use Prim.Native.Nat.{_<_};
 ghost use lib.ListN.{length};
 ghost use Rattle.model.specs.Limits.{documentWidth};
@@ -43,7 +42,7 @@ pub fn document_record_kept(w: &[u8], i: DocumentNode) -> bool
 
 // All records of the document do.
 pub fn document_records_kept(w: &[u8]) -> bool
-    requires { ⌜ isWholeDocument (now w) ≡ true ⌝ }
+    requires { ⌜ WholeSection documentWidth (now w) 0 ⌝ }
     ensures { λ r. ⌜ r ≡ allOf (documentRecordKept (documentOf (now (w .entry)))) (upFrom 0 (length (documentOf (now (w .entry))))) ⌝ }
 {
     let n = document_count(w);

@@ -12,8 +12,8 @@ counts-in-range-spec =
     (tie.spec
     (λ c κs. search sections) (λ c κs. search sections)
     (λ c κs. search sections) (λ c κs. search sections)
-    (λ c. search (joined, counts-asked, ruled-no (between 1), ruled-yes (between 1), ruled (between 1)))
+    (λ c. search (joined, counts-asked, ruled-no (between 1)))
     (λ c κs. search sections) (λ c κs. search sections)
-    (λ c. search (joined, counts-asked, ruled-no (between 1), ruled-yes (between 1), ruled (between 1)))
+    (λ c. search (joined, counts-asked, ruled-yes (between 1), ruled-no (between 1)))
     (λ c κs. search sections) (λ c κs. search sections)
-    (λ c. search (joined, counts-asked, ruled-no (between 1), ruled-yes (between 1), ruled (between 1))))
+    (λ c. search (joined, counts-asked, ruled-yes (between 1), ruled (between 1))))

@@ -1,7 +1,7 @@
 -- `questions::document::document_kept` meets its contract: each test is the definition's, and the count is read once the document is whole. Assumes nothing.
 use Rattle.model.specs.Questions.{between, documentKept}
 use Rattle.questions.proofs.TestLaws.{joined, ruled-no, ruled-yes}
-use Rattle.questions.proofs.DocumentLaws.{asked-section, asked-document}
+use Rattle.questions.proofs.DocumentLaws.{asked-section}
 use Rattle.questions.proofs.document.document_kept.Statement.{statement}
 use Rattle.questions.proofs.document.document_kept.Tie as tie
 
@@ -10,7 +10,7 @@ unfolding documentKept
 document-kept-spec =
     tie.close
     (tie.spec
-    (λ c κs. search (joined, asked-section, asked-document)) (λ c. search (joined, ruled-no (between 1), ruled-yes (between 1)))
-    (λ c κs. search (joined, asked-section, asked-document)) (λ c κs. search (joined, asked-section, asked-document))
-    (λ c. search (joined, ruled-no (between 1), ruled-yes (between 1)))
-    (λ c κs. search (joined, asked-section, asked-document)) (λ c. search (joined, ruled-no (between 1), ruled-yes (between 1))))
+    (λ c κs. search joined) (λ c. search joined)
+    (λ c κs. search (joined, asked-section)) (λ c κs. search joined)
+    (λ c. search (joined, ruled-no (between 1)))
+    (λ c κs. search (joined, asked-section)) (λ c. search (joined, ruled-yes (between 1))))

@@ -13,6 +13,6 @@ document-record-kept-spec =
     tie.close
     (tie.spec
     (λ c κs. search needs) (λ c κs. search needs)
-    (λ c. search (joined, ruled-no parentRule, ruled-yes parentRule, ruled-same ltb))
+    (λ c. search (joined, ruled-no parentRule))
     (λ c κs. search needs)
-    (λ c. search (joined, ruled-no parentRule, ruled-yes parentRule, ruled-same ltb)))
+    (λ c. search (joined, ruled-yes parentRule, ruled-same ltb)))

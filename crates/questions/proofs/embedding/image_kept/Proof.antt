@@ -12,7 +12,7 @@ image-kept-spec =
     tie.close
     (tie.spec
     (λ c κs. search imaged) (λ c κs. search imaged)
-    (λ c. search (joined, compared, imaged, ruled-no labelFits, ruled-yes labelFits))
+    (λ c. search (joined, compared, imaged))
     (λ c κs. search imaged) (λ c κs. search imaged) (λ c κs. search imaged)
-    (λ c. search (joined, compared, imaged, ruled-no labelFits, ruled-yes labelFits))
-    (λ c κs. search imaged) (λ c. search (joined, compared, imaged, ruled-no labelFits, ruled-yes labelFits)))
+    (λ c. search (joined, compared, imaged, ruled-no labelFits))
+    (λ c κs. search imaged) (λ c. search (joined, compared, imaged, ruled-yes labelFits)))

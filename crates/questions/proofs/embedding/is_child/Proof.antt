@@ -12,6 +12,6 @@ unfolding childTest
 is-child-spec =
     tie.close
     (tie.spec
-    (λ c. search (joined, compared, ruled-same eqb, summary-inside))
+    (λ c. search (joined, compared))
     (λ c κs. search needs)
     (λ c. search (joined, compared, ruled-same eqb, summary-inside)))

@@ -13,8 +13,8 @@ pattern-record-kept-spec =
     tie.close
     (tie.spec
     (λ c κs. search needs) (λ c κs. search needs)
-    (λ c. search (joined, pattern-asked, ruled-no parentRule, ruled-yes parentRule, ruled-no flagRule, ruled-yes flagRule, ruled-same leb))
+    (λ c. search (joined, pattern-asked, ruled-no parentRule))
     (λ c κs. search needs) (λ c κs. search needs)
-    (λ c. search (joined, pattern-asked, ruled-no parentRule, ruled-yes parentRule, ruled-no flagRule, ruled-yes flagRule, ruled-same leb))
+    (λ c. search (joined, pattern-asked, ruled-yes parentRule, ruled-no flagRule))
     (λ c κs. search needs)
-    (λ c. search (joined, pattern-asked, ruled-no parentRule, ruled-yes parentRule, ruled-no flagRule, ruled-yes flagRule, ruled-same leb)))
+    (λ c. search (joined, pattern-asked, ruled-yes parentRule, ruled-yes flagRule, ruled-same leb)))

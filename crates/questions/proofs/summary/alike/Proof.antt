@@ -11,8 +11,8 @@ unfolding alike
 alike-spec =
     tie.close
     (tie.spec
-    (λ c. search (joined, compared, ruled-same eqb))
+    (λ c. search (joined, compared))
     (λ c κs. search needs) (λ c κs. search needs)
-    (λ c. search (joined, compared, ruled-same eqb))
+    (λ c. search (joined, compared))
     (λ c κs. search needs) (λ c κs. search needs)
     (λ c. search (joined, compared, ruled-same eqb)))

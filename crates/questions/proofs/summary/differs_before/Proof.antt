@@ -3,7 +3,7 @@ use Prim.Native.Nat.{_-_}
 use native.Mathlib.Omega.{arith}
 use Rattle.format.specs.Given.{summaryIn}
 use Rattle.questions.proofs.LoopLaws.{kept}
-use Rattle.questions.proofs.SummaryLaws.{Unlike, alike-stops, alike-more, alike-ends}
+use Rattle.questions.proofs.SummaryLaws.{Unlike, alike-stops, alike-more}
 use Rattle.questions.proofs.summary.differs_before.Statement.{statement}
 use Rattle.questions.proofs.summary.differs_before.Tie as tie
 
@@ -20,4 +20,4 @@ differs-before-spec =
     (λ c. search kept)
     (λ c κs. search kept) (λ c. alike-stops _ _ _ _ (c .before .alike .ensures) (omega arith) (c .if1 .taken))
     (λ c. search kept) (λ c. search kept) (λ c. alike-more _ _ _ _ (c .before .alike .ensures) (c .before .before .before .loop .inv) (c .if1 .left))
-    (λ c. search (kept, alike-ends)))
+    (λ c. search kept))

@@ -12,7 +12,7 @@ summary-record-kept-spec =
     tie.close
     (tie.spec
     (λ c κs. search needs) (λ c κs. search needs)
-    (λ c. search (joined, summary-asked, ruled-no parentRule, ruled-yes parentRule, compared, ruled flagRule))
-    (λ c κs. search needs) (λ c. search (joined, summary-asked, ruled-no parentRule, ruled-yes parentRule, compared, ruled flagRule))
+    (λ c. search (joined, summary-asked, ruled-no parentRule))
+    (λ c κs. search needs) (λ c. search (joined, summary-asked, ruled-yes parentRule, compared))
     (λ c κs. search needs) (λ c κs. search needs)
-    (λ c. search (joined, summary-asked, ruled-no parentRule, ruled-yes parentRule, compared, ruled flagRule)))
+    (λ c. search (joined, summary-asked, ruled-yes parentRule, compared, ruled flagRule)))
