@@ -198,10 +198,10 @@ parent-imaged b at l q p i h n e =
 
 -- ---- the question
 
-module _ (b : List ℕ) (s at : ℕ) (l : List ℕ) (yes₀ : refusal (caseQuestions b) ≡ 0) (p : at ≡ numberedAt b s) where
+module _ (b : List ℕ) (s at : ℕ) (l : List ℕ) (accepts : refusal (caseQuestions b) ≡ 0) (p : at ≡ numberedAt b s) where
   pub images-given : (n : ℕ) → n ≡ length (patternAt b at) → length l / 2 ≡ n → Images b at l
   images-given n e half =
-      record { summary = given-summary (accepted b yes₀); pattern = given-numbered (accepted b yes₀) s p; count = list-count l ∙ half ∙ e }
+      record { summary = given-summary (accepted b accepts); pattern = given-numbered (accepted b accepts) s p; count = list-count l ∙ half ∙ e }
 
   -- 13, by the fields
   pub embedding-asked : (r : Bool) → r ≡ (eqb (length l % 2) 0 && (eqb (length l / 2) (length (patternAt b at)) && allOf (keptIn b at l) (upFrom 0 (length (patternAt b at)))))
@@ -210,7 +210,7 @@ module _ (b : List ℕ) (s at : ℕ) (l : List ℕ) (yes₀ : refusal (caseQuest
   embedding-asked r e =
       let S : Summary = summaryIn b in
       let P : Pattern = patternAt b at in
-      let listed = listed-by-tests S P (listOf l) (given-numbered (accepted b yes₀) s p .tree) (given-summary (accepted b yes₀) .tree) in
+      let listed = listed-by-tests S P (listOf l) (given-numbered (accepted b accepts) s p .tree) (given-summary (accepted b accepts) .tree) in
       let same : anyOf (sameList (listOf l)) (placements S (selected (caseOf b) s)) ≡ anyOf (sameList (listOf l)) (placements S P) =
       ap (λ (Q : Pattern). anyOf (sameList (listOf l)) (placements S Q)) (numbered-pattern b s at p) in
       let counts = ap (λ (m : ℕ). eqb m (length P) && allOf (imageKept S P (listOf l)) (upFrom 0 (length P))) (list-count l) in

@@ -44,10 +44,10 @@ pub fn is_below(b: &[u8], a: SummaryNode, v: SummaryNode) -> bool
     requires { ⌜ v .0 < length (summaryIn (now b)) ⌝ }
     ensures { λ r. ⌜ r ≡ belowTest (asDocument (summaryIn (now (b .entry)))) (a .0) (v .0) ⌝ }
 {
-    let mut x = v.0;
-    while 0 < x {
-        x = summary_parent(b, SummaryNode(x)).0;
-        if x == a.0 {
+    let mut x = v;
+    while 0 < x.0 {
+        x = summary_parent(b, x);
+        if x.0 == a.0 {
             return true;
         }
     }

@@ -6,10 +6,10 @@ use Rattle.questions.proofs.embedding.is_below.Statement.{statement}
 use Rattle.questions.proofs.embedding.is_below.Tie as tie
 
 abbrev Inv-loop : tie.InvT-loop
-Inv-loop b a x₀ x = Climbed (summaryIn b) (a .0) x₀ x
+Inv-loop b a x₀ x = Climbed (summaryIn b) (a .0) (x₀ .0) (x .0)
 
 abbrev μ-loop : tie.MeasureT-loop
-μ-loop b a x₀ x = x
+μ-loop b a x₀ x = x .0
 
 pub is-below-spec : {M : Type 1} → statement M
 is-below-spec =
