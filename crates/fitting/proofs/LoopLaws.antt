@@ -3,11 +3,9 @@
 use Prim.Native.Nat.{ℕ, zero, suc, _+_, _≤_, _<_}
 use mathlib.Core.Path.{_≡_, refl, sym, ap, _∙_}
 use mathlib.Core.Bool.{Bool, true, false}
-use mathlib.Core.List.{List}
 use native.Mathlib.Omega.{arith}
-use lib.Dec.{eqb, ltb}
-use lib.ListN.{getD}
-use borrow.Author.Tests.{ltb-true, eqb-true, eqb-false}
+use lib.Dec.{eqb}
+use borrow.Author.Tests.{eqb-true, eqb-false}
 use Rattle.model.specs.Lists.{upFrom, allOf, firstOf}
 use Rattle.model.proofs.ListLaws.{bool-ext, not-both, all-below, below-all}
 
@@ -34,13 +32,6 @@ all-agree f g n same =
     bool-ext (allOf f (upFrom 0 n)) (allOf g (upFrom 0 n))
     (λ e. below-all g n (λ i h. sym (same i h) ∙ all-below f n e i h))
     (λ e. below-all f n (λ i h. same i h ∙ all-below g n e i h))
-
--- a table's entries that are all below n are below any bound on n
-pub inside-below : (table : List ℕ) (n count bound : ℕ) → allOf (λ v. ltb (getD table v 0) n) (upFrom 0 count) ≡ true → n ≤ bound
-    → (v : ℕ) → v < count → getD table v 0 < bound
-inside-below table n count bound e h v l =
-    let k : getD table v 0 < n = ltb-true (getD table v 0) n (all-below (λ v. ltb (getD table v 0) n) count e v l) in
-    omega arith
 
 -- ---- the first that passes
 

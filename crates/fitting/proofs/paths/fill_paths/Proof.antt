@@ -1,26 +1,37 @@
--- `fitting::paths::fill_paths` meets its contract: after v turns the first v entries of the path map stand at the front. The measure
--- is what is left of count. Assumes nothing.
+-- `fitting::paths::fill_paths` meets its contract: after v turns the table has the summary nodes of the first v document nodes. The
+-- measure is what is left of count. Assumes nothing.
 use Prim.Native.Nat.{_-_}
+use native.Mathlib.Omega.{arith}
 use borrow.Author.Needs.{needs}
-use Rattle.fitting.specs.Steps.{plainFrom}
-use Rattle.fitting.proofs.PathLaws.{Filling, filling-start, filling-step, filling-end}
+use Rattle.model.specs.Bytes.{documentOf}
+use Rattle.format.specs.Given.{summaryIn}
+use Rattle.fitting.proofs.PathLaws.{Filling, filling-start, filling-step, filling-end, filling-stop}
 use Rattle.fitting.proofs.paths.fill_paths.Statement.{statement}
 use Rattle.fitting.proofs.paths.fill_paths.Tie as tie
 
 abbrev Inv-loop : tie.InvT-loop
-Inv-loop parents labels n docparents doclabels count path₀ v₀ path v = Filling (plainFrom parents labels n) docparents doclabels count path₀ path v
+Inv-loop case w path₀ n count v₀ path v = Filling (summaryIn case) (documentOf w) path₀ path v
 
 abbrev μ-loop : tie.MeasureT-loop
-μ-loop parents labels n docparents doclabels count path₀ v₀ path v = count - v
+μ-loop case w path₀ n count v₀ path v = count - v
+
+summary-count-requires : tie.Need-summary-count-requires Inv-loop μ-loop
+summary-count-requires c κs = search needs
+
+document-count-requires : tie.Need-document-count-requires Inv-loop μ-loop
+document-count-requires c κs = search needs
 
 loop-holds : tie.Need-loop-holds Inv-loop μ-loop
 loop-holds c = filling-start
 
 path-of-requires : tie.Need-path-of-requires Inv-loop μ-loop
-path-of-requires c κs =
-    let turn = c .before in
-    let start = turn .before .before .before .before .before .before .before in
-    (search needs, (search needs, λ p. start .pre .1 .1 .earlier (turn .before .loop .v) p (turn .loop-test .taken)))
+path-of-requires c κs = let start = c .before .before .before .before .before .before .before .before in ((start .pre .0, start .pre .1), (search needs, c .before .before .loop .inv .on))
+
+same-length : tie.Need-same-length Inv-loop μ-loop
+same-length c = c .before .before .before .before .before .loop .inv .size
+
+returns : tie.Need-returns Inv-loop μ-loop
+returns c = filling-stop (omega arith) (c .before .before .path-of .ensures .0) (c .if1 .taken) (c .before .before .before .before .before .before .before .summary-count .ensures .0)
 
 cast-path : tie.Need-cast-path Inv-loop μ-loop
 cast-path c = search needs
@@ -38,15 +49,13 @@ loop-less : tie.Need-loop-less Inv-loop μ-loop
 loop-less c = search needs
 
 loop-again : tie.Need-loop-again Inv-loop μ-loop
-loop-again c =
-    let turn = c .before .before .before in
-    filling-step (turn .before .loop .inv) (search needs) (turn .loop-test .taken) (c .before .path-of .ensures .0)
+loop-again c = filling-step (c .before .before .before .before .before .before .loop .inv) (omega arith) (omega arith) (c .before .before .before .path-of .ensures .0) (omega arith)
 
-same-length : tie.Need-same-length Inv-loop μ-loop
-same-length c = c .before .loop .inv .size
+same-length-2 : tie.Need-same-length-2 Inv-loop μ-loop
+same-length-2 c = c .before .loop .inv .size
 
-returns : tie.Need-returns Inv-loop μ-loop
-returns c = filling-end (c .before .loop .inv) (c .loop-test .left)
+returns-2 : tie.Need-returns-2 Inv-loop μ-loop
+returns-2 c = filling-end (c .before .loop .inv) (omega arith)
 
 pub fill-paths-spec : {M : Type 1} → statement M
 fill-paths-spec =
@@ -54,13 +63,17 @@ fill-paths-spec =
     (tie.spec
     Inv-loop
     μ-loop
+    summary-count-requires
+    document-count-requires
     loop-holds
     path-of-requires
+    same-length
+    returns
     cast-path
     mul-path
     slice-write-path
     add-v
     loop-less
     loop-again
-    same-length
-    returns)
+    same-length-2
+    returns-2)
