@@ -7,7 +7,8 @@ ghost use Rattle.model.specs.Calls.{fitsCall};
 
 // Does the document (document 01: volume) fit the summary of the case (document 01: outline)?
 pub fn fits_call(case: &[u8], document: &[u8]) -> TestAnswer
-    ensures { λ r. ⌜ (r .refused ≡ fitsCall (now (case .entry)) (now (document .entry)) .refused) × (r .holds ≡ fitsCall (now (case .entry)) (now (document .entry)) .holds) ⌝ }
+    ensures { λ r. ⌜ (r .refused ≡ fitsCall (now (case .entry)) (now (document .entry)) .refused)
+        × (r .holds ≡ fitsCall (now (case .entry)) (now (document .entry)) .holds) ⌝ }
 {
     let refused = fits_refusal(case, document);
     if refused != 0 {

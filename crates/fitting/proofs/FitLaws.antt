@@ -13,12 +13,11 @@ use Rattle.model.specs.Lists.{upFrom, allOf}
 use Rattle.model.specs.Tree.{Document, IsTree, parentOf, Child}
 use Rattle.model.specs.Summary.{Summary, asDocument, noSummaryRecord, StrongEdge}
 use Rattle.model.specs.Fitting.{pathMap, strongKept, fits}
-use Rattle.model.proofs.ListLaws.{bool-ext, and-intro, and-left, and-right}
+use Rattle.model.proofs.ListLaws.{bool-ext, and-intro, and-left, and-right, all-agree, upFrom-mem}
 use Rattle.model.proofs.Paths.{pathIn}
 use Rattle.model.proofs.Fitting.{rooted-exact, paths-inside-exact, strong-kept-exact}
 use Rattle.bits.proofs.MaskLaws.{subset-members, members-subset}
-use Rattle.fitting.specs.Steps.{OnPaths, Filled, Gathered, givesPath, givesStrong, keptIn}
-use Rattle.fitting.proofs.LoopLaws.{all-agree}
+use Rattle.fitting.specs.Steps.{OnPaths, Gathered, givesPath, givesStrong, keptIn}
 use Rattle.fitting.proofs.GatherLaws.{gathered-exact}
 
 -- any number is below two to its power
@@ -78,5 +77,5 @@ module _ (S : Summary) (W : Document) (tree : IsTree W) where
 
     pub all-inside : allOf (keptIn path kids needed) (upFrom 0 (length W)) ≡ fits S W
     all-inside =
-        all-agree (keptIn path kids needed) (strongKept S W) (length W) row-kept
+        all-agree (keptIn path kids needed) (strongKept S W) (upFrom 0 (length W)) (λ v m. let h = upFrom-mem 0 (length W) v m in row-kept v (omega arith))
         ∙ decided true (paths-inside-exact S W .1 (λ v h. subst (λ (s : ℕ). s < length S) (on .same v h) (on .inside v h)))

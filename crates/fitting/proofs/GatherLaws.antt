@@ -8,8 +8,8 @@ use mathlib.Core.List.{List}
 use native.Mathlib.Omega.{arith}
 use native.Mathlib.Nat.{zero-add}
 use lib.Bits.{bitOr}
-use lib.Dec.{eqb, ltb}
-use lib.ListN.{length, getD, set, replicate, length-set}
+use lib.Dec.{eqb}
+use lib.ListN.{length, getD, set, replicate, length-replicate, length-set}
 use lib.Seq.{getD-set-same, getD-set-other}
 use borrow.Author.Tests.{eqb-true, eqb-false, lt-ltb}
 use Rattle.model.specs.Lists.{upFrom, anyOf}
@@ -21,13 +21,16 @@ use Rattle.model.proofs.Masks.{has}
 use Rattle.bits.specs.Sets.{insertIf}
 use Rattle.bits.proofs.MaskLaws.{has-none, has-insert, any-snoc}
 use Rattle.format.proofs.RangeLaws.{upFrom-last}
-use Rattle.fitting.specs.Steps.{Gathered}
+use Rattle.fitting.specs.Steps.{Cleared, Gathered}
 
--- a cleared table
-pub cleared : (n k : ℕ) → getD {A = ℕ} (replicate n 0) k 0 ≡ 0
-cleared zero k = refl
-cleared (suc n) zero = refl
-cleared (suc n) (suc k) = cleared n k
+-- a table as it is made
+pub cleared : (n : ℕ) → Cleared n (replicate n 0)
+cleared n = record { size = length-replicate n 0; zero = each n }
+  where
+    each : (n k : ℕ) → getD {A = ℕ} (replicate n 0) k 0 ≡ 0
+    each zero k = refl
+    each (suc n) zero = refl
+    each (suc n) (suc k) = each n k
 
 -- one number more
 any-last : (test : ℕ → Bool) (i : ℕ) → anyOf test (upFrom 0 (i + 1)) ≡ (anyOf test (upFrom 0 i) || test i)
@@ -54,37 +57,35 @@ has-put b masks p x k t h = go (eqb p k) refl
         ap (λ (m : ℕ). has m t) (getD-set-other masks p k new 0 (λ e. eqb-false p k q (sym e))) ∙ sym (or-false (has (getD masks k 0) t))
 
 -- the loop: node i is next
-pub record Gathering (T : Document) (gives : ℕ → ℕ → Bool) (masks₀ masks : List ℕ) (i : ℕ) : Type 0 where
+pub record Gathering (T : Document) (gives : ℕ → ℕ → Bool) (masks : List ℕ) (i : ℕ) : Type 0 where
   pub started : 0 < i
   pub turns : i ≤ length T
-  pub size : length masks ≡ length masks₀
+  pub room : length T ≤ length masks
   pub row : (k t : ℕ) → has (getD masks k 0) t ≡ anyOf (λ j. childTest T k j && gives j t) (upFrom 0 i)
 
-module _ {T : Document} {gives : ℕ → ℕ → Bool} {masks₀ : List ℕ} where
-  pub gathering-start : IsTree T → ((k : ℕ) → getD masks₀ k 0 ≡ 0) → Gathering T gives masks₀ masks₀ 1
+module _ {T : Document} {gives : ℕ → ℕ → Bool} {masks : List ℕ} where
+  pub gathering-start : {n : ℕ} → IsTree T → length T ≤ n → Cleared n masks → Gathering T gives masks 1
   unfolding anyOf upFrom childTest
-  gathering-start tree z =
+  gathering-start {n} tree h z =
       record {
         started = omega arith;
         turns = omega (arith, tree .inhabited);
-        size = refl;
-        row = λ k t. ap (λ (m : ℕ). has m t) (z k) ∙ has-none t;
+        room = omega (arith, z .size);
+        row = λ k t. ap (λ (m : ℕ). has m t) (z .zero k) ∙ has-none t;
       }
 
   -- the parent's row is in the table
-  pub gathering-room : {masks : List ℕ} {i p : ℕ} → Gathering T gives masks₀ masks i → IsTree T → length T ≤ length masks₀ → i < length T
-      → p ≡ parentOf T i → p < length masks
-  gathering-room {masks} {i} {p} g tree room h e =
+  pub gathering-up : {i p : ℕ} → Gathering T gives masks i → IsTree T → i < length T → p ≡ parentOf T i → p < length T
+  gathering-up {i} {p} g tree h e =
       let up : parentOf T i < i = tree .earlier i (g .started) h in
-      let size : length masks ≡ length masks₀ = g .size in
       omega arith
 
   -- node i, with parent p, gives x where b says so
-  pub gathering-step : {masks : List ℕ} {i p y : ℕ} (b : Bool) (x : ℕ) → Gathering T gives masks₀ masks i → IsTree T → length T ≤ length masks₀ → i < length T
-      → p ≡ parentOf T i → y ≡ insertIf b (getD masks p 0) x → ((t : ℕ) → gives i t ≡ (b && eqb t x)) → Gathering T gives masks₀ (set masks p y) (i + 1)
+  pub gathering-step : {i p y : ℕ} (b : Bool) (x : ℕ) → Gathering T gives masks i → IsTree T → i < length T → p ≡ parentOf T i → y ≡ insertIf b (getD masks p 0) x
+      → ((t : ℕ) → gives i t ≡ (b && eqb t x)) → Gathering T gives (set masks p y) (i + 1)
   unfolding childTest
-  gathering-step {masks} {i} {p} {y} b x g tree room h e f share =
-      record { started = omega arith; turns = omega arith; size = length-set masks p y ∙ g .size; row = row }
+  gathering-step {i} {p} {y} b x g tree h e f share =
+      record { started = omega arith; turns = omega arith; room = omega (arith, length-set masks p y); row = row }
     where
       test : ℕ → ℕ → ℕ → Bool
       test k t j = childTest T k j && gives j t
@@ -96,17 +97,17 @@ module _ {T : Document} {gives : ℕ → ℕ → Bool} {masks₀ : List ℕ} whe
 
       row : (k t : ℕ) → has (getD (set masks p y) k 0) t ≡ anyOf (test k t) (upFrom 0 (i + 1))
       row k t =
-          ap (λ (z : ℕ). has (getD (set masks p z) k 0) t) f ∙ has-put b masks p x k t (gathering-room g tree room h e)
+          ap (λ (z : ℕ). has (getD (set masks p z) k 0) t) f ∙ has-put b masks p x k t (omega (arith, gathering-up g tree h e))
           ∙ ap₂ (λ (r s : Bool). r || s) (g .row k t) (sym (here k t)) ∙ sym (any-last (test k t) i)
 
   -- the same where a node always gives
-  pub gathering-put : {masks : List ℕ} {i p y : ℕ} (x : ℕ) → Gathering T gives masks₀ masks i → IsTree T → length T ≤ length masks₀ → i < length T
-      → p ≡ parentOf T i → y ≡ bitOr (getD masks p 0) (2 ^ x) → ((t : ℕ) → gives i t ≡ eqb t x) → Gathering T gives masks₀ (set masks p y) (i + 1)
+  pub gathering-put : {i p y : ℕ} (x : ℕ) → Gathering T gives masks i → IsTree T → i < length T → p ≡ parentOf T i → y ≡ bitOr (getD masks p 0) (2 ^ x)
+      → ((t : ℕ) → gives i t ≡ eqb t x) → Gathering T gives (set masks p y) (i + 1)
   unfolding insertIf
-  gathering-put x g tree room h e f share = gathering-step true x g tree room h e f share
+  gathering-put x g tree h e f share = gathering-step true x g tree h e f share
 
-  pub gathering-end : {masks : List ℕ} {i : ℕ} → Gathering T gives masks₀ masks i → length T ≤ i → Gathered T gives masks
-  gathering-end {masks} {i} g h =
+  pub gathering-end : {i : ℕ} → Gathering T gives masks i → length T ≤ i → Gathered T gives masks
+  gathering-end {i} g h =
       let done : i ≡ length T = omega arith in
       record { row = λ k t. g .row k t ∙ ap (λ (m : ℕ). anyOf (λ j. childTest T k j && gives j t) (upFrom 0 m)) done }
 

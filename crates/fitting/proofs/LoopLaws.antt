@@ -7,7 +7,7 @@ use native.Mathlib.Omega.{arith}
 use lib.Dec.{eqb}
 use borrow.Author.Tests.{eqb-true, eqb-false}
 use Rattle.model.specs.Lists.{upFrom, allOf, firstOf}
-use Rattle.model.proofs.ListLaws.{bool-ext, not-both, all-below, below-all}
+use Rattle.model.proofs.ListLaws.{not-both, all-below, below-all}
 
 -- ---- every number passes
 
@@ -25,13 +25,6 @@ passed-not test n i h e = sym (go (allOf test (upFrom 0 n)) refl)
     go : (t : Bool) → allOf test (upFrom 0 n) ≡ t → t ≡ false
     go true q = absurd (not-both (test i) (all-below test n q i h) e)
     go false q = refl
-
--- tests that agree on the range
-pub all-agree : (f g : ℕ → Bool) (n : ℕ) → ((i : ℕ) → i < n → f i ≡ g i) → allOf f (upFrom 0 n) ≡ allOf g (upFrom 0 n)
-all-agree f g n same =
-    bool-ext (allOf f (upFrom 0 n)) (allOf g (upFrom 0 n))
-    (λ e. below-all g n (λ i h. sym (same i h) ∙ all-below f n e i h))
-    (λ e. below-all f n (λ i h. same i h ∙ all-below g n e i h))
 
 -- ---- the first that passes
 

@@ -1,24 +1,24 @@
 -- Laws of the path map: the search for a child with a label starts after its parent, the root's entry compares labels, each further
--- entry comes from its parent's, so the table fills from the front. Assumes nothing.
-use Prim.Native.Nat.{ℕ, suc, _+_, _≤_, _<_}
+-- entry comes from its parent's, so the table fills up in order. Assumes nothing.
+use Prim.Native.Nat.{ℕ, _+_, _≤_, _<_}
 use mathlib.Core.Path.{_≡_, refl, sym, ap, ap₂, _∙_, subst}
 use mathlib.Core.Bool.{Bool, true, false, _&&_, false≢true}
 use mathlib.Core.List.{List}
 use native.Mathlib.Omega.{arith}
-use lib.Dec.{eqb, ltb}
+use lib.Dec.{eqb}
 use lib.ListN.{length, getD, set, length-set}
 use lib.Seq.{getD-set-same, getD-set-other}
 use borrow.Author.Count.{below-more}
 use borrow.Author.Tests.{lt-ltb, eq-eqb, ne-eqb}
-use Rattle.model.specs.Lists.{upFrom, firstOf}
-use Rattle.model.specs.Tree.{Document, IsTree, parentOf, labelOf, Child}
+use Rattle.model.specs.Lists.{upFrom}
+use Rattle.model.specs.Tree.{Document, IsTree, parentOf, labelOf}
 use Rattle.model.specs.Summary.{Summary, asDocument, summaryParent, summaryLabel}
 use Rattle.model.specs.Embeddings.{childTest}
 use Rattle.model.specs.Fitting.{childLabelled}
 use Rattle.model.proofs.ListLaws.{first-miss, upFrom-mem, and-left}
 use Rattle.model.proofs.TreeLaws.{length-asDocument, test-child, rooted-lt}
 use Rattle.model.proofs.Paths.{pathIn, path-root, path-next}
-use Rattle.fitting.specs.Steps.{OnPaths, Filled}
+use Rattle.fitting.specs.Steps.{labelledAt, OnPaths, Filled}
 use Rattle.fitting.proofs.LoopLaws.{first-at}
 
 -- ---- the child with a label
@@ -26,10 +26,6 @@ use Rattle.fitting.proofs.LoopLaws.{first-at}
 -- the model's test
 abbrev childWith : Summary → ℕ → ℕ → ℕ → Bool
 childWith S s l t = childTest (asDocument S) s t && eqb (summaryLabel S t) l
-
--- and the code's: t has parent s and label l
-abbrev pub labelledAt : Summary → ℕ → ℕ → ℕ → Bool
-labelledAt S s l t = eqb (summaryParent S t) s && eqb (summaryLabel S t) l
 
 -- none of the numbers below i is a child of s with label l
 pub record Missed (S : Summary) (s l i : ℕ) : Type 0 where
@@ -97,21 +93,20 @@ parent-inside {S} {W} {path} {i} {p} {s} tree on pos h e f =
 -- ---- the table
 
 -- the first i entries stand in it
-pub record Filling (S : Summary) (W : Document) (path₀ path : List ℕ) (i : ℕ) : Type 0 where
+pub record Filling (S : Summary) (W : Document) (path : List ℕ) (i : ℕ) : Type 0 where
   pub turns : i ≤ length W
-  pub size : length path ≡ length path₀
+  pub room : length W ≤ length path
   pub on : OnPaths S W path i
 
-module _ {S : Summary} {W : Document} {path₀ : List ℕ} where
-  pub filling-start : Filling S W path₀ path₀ 0
-  filling-start = record { turns = omega arith; size = refl; on = record { same = λ v h. absurd (omega arith); inside = λ v h. absurd (omega arith) } }
+module _ {S : Summary} {W : Document} {path : List ℕ} where
+  pub filling-start : length W ≤ length path → Filling S W path 0
+  filling-start room = record { turns = omega arith; room = room; on = record { same = λ v h. absurd (omega arith); inside = λ v h. absurd (omega arith) } }
 
-  pub filling-step : {path : List ℕ} {i x : ℕ} → Filling S W path₀ path i → length W ≤ length path₀ → i < length W → x ≡ pathIn S W i → x < length S
-      → Filling S W path₀ (set path i x) (i + 1)
-  filling-step {path} {i} {x} f room h e inside =
+  pub filling-step : {i x : ℕ} → Filling S W path i → i < length W → x ≡ pathIn S W i → x < length S → Filling S W (set path i x) (i + 1)
+  filling-step {i} {x} f h e inside =
       record {
         turns = omega arith;
-        size = length-set path i x ∙ f .size;
+        room = omega (arith, length-set path i x);
         on =
             record {
               same = below-more (λ v. getD (set path i x) v 0 ≡ pathIn S W v) i (λ v k. kept v k ∙ f .on .same v k) (here ∙ e);
@@ -125,14 +120,14 @@ module _ {S : Summary} {W : Document} {path₀ : List ℕ} where
       kept v k = getD-set-other path i v x 0 (λ q. omega arith)
 
       here : getD (set path i x) i 0 ≡ x
-      here = getD-set-same path i x 0 (let s : length path ≡ length path₀ = f .size in omega arith)
+      here = getD-set-same path i x 0 (omega arith)
 
   -- all of them do
-  pub filling-end : {path : List ℕ} {i : ℕ} → Filling S W path₀ path i → length W ≤ i → Filled S W path true
-  filling-end {path} {i} f h =
+  pub filling-end : {i : ℕ} → Filling S W path i → length W ≤ i → Filled S W path true
+  filling-end {i} f h =
       let done : i ≡ length W = omega arith in
       record { all = λ _. subst (λ (k : ℕ). OnPaths S W path k) done (f .on); none = λ e. absurd (false≢true (sym e)) }
 
--- or a node has no summary node
-pub filling-stop : {S : Summary} {W : Document} {path : List ℕ} {i x n : ℕ} → i < length W → x ≡ pathIn S W i → x ≡ n → n ≡ length S → Filled S W path false
-filling-stop {S} {W} {path} {i} {x} {n} h e f g = record { all = λ e. absurd (false≢true e); none = λ _. (i, h, omega arith) }
+  -- or a node has no summary node
+  pub filling-stop : {i x n : ℕ} → i < length W → x ≡ pathIn S W i → x ≡ n → n ≡ length S → Filled S W path false
+  filling-stop {i} {x} {n} h e f g = record { all = λ e. absurd (false≢true e); none = λ _. (i, h, omega arith) }

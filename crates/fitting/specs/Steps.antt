@@ -10,10 +10,24 @@ use lib.Dec.{eqb}
 use lib.ListN.{length, getD}
 use Rattle.model.specs.Lists.{upFrom, anyOf}
 use Rattle.model.specs.Tree.{Document}
-use Rattle.model.specs.Summary.{Summary, noSummaryRecord}
+use Rattle.model.specs.Summary.{Summary, summaryParent, summaryLabel, noSummaryRecord}
 use Rattle.model.specs.Embeddings.{childTest}
 use Rattle.model.proofs.Masks.{has}
 use Rattle.model.proofs.Paths.{pathIn}
+
+-- a table of n entries is cleared
+pub record Cleared (n : ℕ) (table : List ℕ) : Type 0 where
+  pub size : length table ≡ n
+  pub zero : (k : ℕ) → getD table k 0 ≡ 0
+
+-- summary node t has parent s and label l
+abbrev pub labelledAt : Summary → ℕ → ℕ → ℕ → Bool
+labelledAt S s l t = eqb (summaryParent S t) s && eqb (summaryLabel S t) l
+
+-- r is the summary node of document node v, or the summary's count where there is none
+pub record IsPath (S : Summary) (W : Document) (v r : ℕ) : Type 0 where
+  pub same : r ≡ pathIn S W v
+  pub most : r ≤ length S
 
 -- the table has the summary nodes of the document nodes below i
 pub record OnPaths (S : Summary) (W : Document) (path : List ℕ) (i : ℕ) : Type 0 where

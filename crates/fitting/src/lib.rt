@@ -9,6 +9,15 @@ ghost use Rattle.model.specs.Bytes.{documentOf};
 ghost use Rattle.model.specs.Fitting.{fits as fitsOf};
 ghost use Rattle.format.specs.Given.{summaryIn, SummaryGiven, DocumentGiven};
 
+// Each document node's summary node.
+type Paths = [u16; 1024];
+
+// A row for each document node: the paths of its children.
+type Kids = [u64; 1024];
+
+// A row for each summary node: its strong children.
+type Needed = [u64; 64];
+
 // The document fits the summary of the case.
 pub fn fits(case: &[u8], w: &[u8]) -> bool
     requires { ⌜ SummaryGiven (now case) × DocumentGiven (now w) ⌝ }

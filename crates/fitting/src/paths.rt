@@ -1,6 +1,7 @@
 // The summary node of each document node: the root's by its label, any other's the child of its parent's with its label. Where
 // there is none, the summary's count stands for it.
 
+use crate::Paths;
 use format::document::document_count;
 use format::document::document_label;
 use format::document::document_parent;
@@ -11,21 +12,18 @@ use format::summary::summary_count;
 use format::summary::summary_label;
 use format::summary::summary_parent;
 ghost use mathlib.Core.Path.{_≡_};
-ghost use mathlib.Core.Bool.{_&&_};
 ghost use Prim.Native.Nat.{_≤_, _<_};
-ghost use lib.Dec.{eqb};
 ghost use lib.ListN.{length};
+ghost use Rattle.model.specs.Limits.{maxDocument};
 ghost use Rattle.model.specs.Bytes.{documentOf};
-ghost use Rattle.model.specs.Summary.{summaryParent, summaryLabel};
 ghost use Rattle.model.specs.Fitting.{childLabelled};
-ghost use Rattle.model.proofs.Paths.{pathIn};
 ghost use Rattle.format.specs.Given.{summaryIn, SummaryGiven, DocumentGiven};
-ghost use Rattle.fitting.specs.Steps.{OnPaths, Filled};
+ghost use Rattle.fitting.specs.Steps.{Cleared, labelledAt, IsPath, OnPaths, Filled};
 
 // Summary node t has parent s and label l.
 fn is_labelled(case: &[u8], t: SummaryNode, s: SummaryNode, l: u16) -> bool
     requires { ⌜ SummaryGiven (now case) × (t .0 < length (summaryIn (now case))) ⌝ }
-    ensures { λ r. ⌜ r ≡ (eqb (summaryParent (summaryIn (now (case .entry))) (t .0)) (s .0) && eqb (summaryLabel (summaryIn (now (case .entry))) (t .0)) l) ⌝ }
+    ensures { λ r. ⌜ r ≡ labelledAt (summaryIn (now (case .entry))) (s .0) l (t .0) ⌝ }
 {
     if summary_parent(case, t).0 == s.0 {
         summary_label(case, t) == l
@@ -51,20 +49,22 @@ fn child_labelled(case: &[u8], s: SummaryNode, l: u16) -> SummaryNode
 // The summary node of the document's root: the summary's root where the labels are equal.
 fn root_path(case: &[u8], w: &[u8]) -> SummaryNode
     requires { ⌜ SummaryGiven (now case) × DocumentGiven (now w) ⌝ }
-    ensures { λ r. ⌜ (r .0 ≡ pathIn (summaryIn (now (case .entry))) (documentOf (now (w .entry))) 0) × (r .0 ≤ length (summaryIn (now (case .entry)))) ⌝ }
+    ensures { λ r. ⌜ IsPath (summaryIn (now (case .entry))) (documentOf (now (w .entry))) 0 (r .0) ⌝ }
 {
-    if document_label(w, DocumentNode(0)) == summary_label(case, SummaryNode(0)) {
+    let own = document_label(w, DocumentNode(0));
+    let label = summary_label(case, SummaryNode(0));
+    if own == label {
         return SummaryNode(0);
     }
     SummaryNode(summary_count(case))
 }
 
 // The summary node of v, after those of the nodes before it.
-fn path_of(case: &[u8], w: &[u8], path: &[u16], v: DocumentNode) -> SummaryNode
+fn path_of(case: &[u8], w: &[u8], path: &Paths, v: DocumentNode) -> SummaryNode
     requires { ⌜ SummaryGiven (now case) × DocumentGiven (now w) ⌝ }
-    requires { ⌜ (v .0 < length (documentOf (now w))) × (v .0 < length (now path)) ⌝ }
+    requires { ⌜ v .0 < length (documentOf (now w)) ⌝ }
     requires { ⌜ OnPaths (summaryIn (now case)) (documentOf (now w)) (now path) (v .0) ⌝ }
-    ensures { λ r. ⌜ (r .0 ≡ pathIn (summaryIn (now (case .entry))) (documentOf (now (w .entry))) (v .0)) × (r .0 ≤ length (summaryIn (now (case .entry)))) ⌝ }
+    ensures { λ r. ⌜ IsPath (summaryIn (now (case .entry))) (documentOf (now (w .entry))) (v .0) (r .0) ⌝ }
 {
     if v.0 == 0 {
         return root_path(case, w);
@@ -73,9 +73,9 @@ fn path_of(case: &[u8], w: &[u8], path: &[u16], v: DocumentNode) -> SummaryNode
     child_labelled(case, s, document_label(w, v))
 }
 
-// The path map goes to the front of path, up to the first node with no summary node. The result is whether there is none such.
-pub fn fill_paths(case: &[u8], w: &[u8], path: &mut [u16]) -> bool
-    requires { ⌜ SummaryGiven (now case) × DocumentGiven (now w) × (length (documentOf (now w)) ≤ length (now path)) ⌝ }
+// The path map goes to the table, up to the first node with no summary node. The result is whether there is no such node.
+pub fn fill_paths(case: &[u8], w: &[u8], path: &mut Paths) -> bool
+    requires { ⌜ SummaryGiven (now case) × DocumentGiven (now w) × Cleared maxDocument (now path) ⌝ }
     ensures { λ r. ⌜ Filled (summaryIn (now (case .entry))) (documentOf (now (w .entry))) (now (path .exit)) r ⌝ }
 {
     let n = summary_count(case);

@@ -1,6 +1,9 @@
 // The strong edges by masks: a row for each document node, with the paths of its children, and one for each summary node, with its
 // strong children.
 
+use crate::Kids;
+use crate::Needed;
+use crate::Paths;
 use format::document::document_count;
 use format::document::document_parent;
 use format::nodes::DocumentNode;
@@ -10,20 +13,19 @@ use format::summary::summary_count;
 use format::summary::summary_parent;
 use format::summary::summary_strong;
 ghost use mathlib.Core.Path.{_≡_};
-ghost use Prim.Native.Nat.{ℕ, _≤_, _<_};
+ghost use Prim.Native.Nat.{ℕ, _<_};
 ghost use lib.ListN.{length, getD};
-ghost use Rattle.model.specs.Limits.{maxSummary};
+ghost use Rattle.model.specs.Limits.{maxSummary, maxDocument};
 ghost use Rattle.model.specs.Bytes.{documentOf};
 ghost use Rattle.model.specs.Lists.{upFrom, allOf};
 ghost use Rattle.model.specs.Summary.{asDocument};
 ghost use Rattle.format.specs.Given.{summaryIn, SummaryGiven, DocumentGiven};
-ghost use Rattle.fitting.specs.Steps.{Gathered, givesPath, givesStrong, keptIn};
+ghost use Rattle.fitting.specs.Steps.{Cleared, Gathered, givesPath, givesStrong, keptIn};
 
 // Each node but the root puts its path into its parent's row.
-pub fn child_paths(w: &[u8], path: &[u16], kids: &mut [u64])
-    requires { ⌜ DocumentGiven (now w) × (length (documentOf (now w)) ≤ length (now path)) × (length (documentOf (now w)) ≤ length (now kids)) ⌝ }
+pub fn child_paths(w: &[u8], path: &Paths, kids: &mut Kids)
+    requires { ⌜ DocumentGiven (now w) × Cleared maxDocument (now kids) ⌝ }
     requires { ⌜ ((v : ℕ) → v < length (documentOf (now w)) → getD (now path) v 0 < maxSummary) ⌝ }
-    requires { ⌜ ((k : ℕ) → getD (now kids) k 0 ≡ 0) ⌝ }
     ensures { λ _. ⌜ Gathered (documentOf (now (w .entry))) (givesPath (now (path .entry))) (now (kids .exit)) ⌝ }
 {
     let count = document_count(w);
@@ -34,9 +36,8 @@ pub fn child_paths(w: &[u8], path: &[u16], kids: &mut [u64])
 }
 
 // Each summary node to which a strong edge leads puts itself into its parent's row.
-pub fn strong_children(case: &[u8], needed: &mut [u64])
-    requires { ⌜ SummaryGiven (now case) × (length (summaryIn (now case)) ≤ length (now needed)) ⌝ }
-    requires { ⌜ ((k : ℕ) → getD (now needed) k 0 ≡ 0) ⌝ }
+pub fn strong_children(case: &[u8], needed: &mut Needed)
+    requires { ⌜ SummaryGiven (now case) × Cleared maxSummary (now needed) ⌝ }
     ensures { λ _. ⌜ Gathered (asDocument (summaryIn (now (case .entry)))) (givesStrong (summaryIn (now (case .entry)))) (now (needed .exit)) ⌝ }
 {
     let n = summary_count(case);
@@ -47,9 +48,9 @@ pub fn strong_children(case: &[u8], needed: &mut [u64])
 }
 
 // Every node has a child on each strong edge from its path.
-pub fn all_kept(w: &[u8], path: &[u16], kids: &[u64], needed: &[u64]) -> bool
-    requires { ⌜ DocumentGiven (now w) × (length (documentOf (now w)) ≤ length (now path)) × (length (documentOf (now w)) ≤ length (now kids)) ⌝ }
-    requires { ⌜ ((v : ℕ) → v < length (documentOf (now w)) → getD (now path) v 0 < length (now needed)) ⌝ }
+pub fn all_kept(w: &[u8], path: &Paths, kids: &Kids, needed: &Needed) -> bool
+    requires { ⌜ DocumentGiven (now w) ⌝ }
+    requires { ⌜ ((v : ℕ) → v < length (documentOf (now w)) → getD (now path) v 0 < maxSummary) ⌝ }
     ensures { λ r. ⌜ r ≡ allOf (keptIn (now (path .entry)) (now (kids .entry)) (now (needed .entry))) (upFrom 0 (length (documentOf (now (w .entry))))) ⌝ }
 {
     let count = document_count(w);

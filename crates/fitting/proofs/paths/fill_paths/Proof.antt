@@ -10,7 +10,7 @@ use Rattle.fitting.proofs.paths.fill_paths.Statement.{statement}
 use Rattle.fitting.proofs.paths.fill_paths.Tie as tie
 
 abbrev Inv-loop : tie.InvT-loop
-Inv-loop case w path₀ n count v₀ path v = Filling (summaryIn case) (documentOf w) path₀ path v
+Inv-loop case w path₀ n count v₀ path v = Filling (summaryIn case) (documentOf w) path v
 
 abbrev μ-loop : tie.MeasureT-loop
 μ-loop case w path₀ n count v₀ path v = count - v
@@ -22,16 +22,13 @@ document-count-requires : tie.Need-document-count-requires Inv-loop μ-loop
 document-count-requires c κs = search needs
 
 loop-holds : tie.Need-loop-holds Inv-loop μ-loop
-loop-holds c = filling-start
+loop-holds c = filling-start (omega arith)
 
 path-of-requires : tie.Need-path-of-requires Inv-loop μ-loop
-path-of-requires c κs = let start = c .before .before .before .before .before .before .before .before in ((start .pre .0, start .pre .1), (search needs, c .before .before .loop .inv .on))
-
-same-length : tie.Need-same-length Inv-loop μ-loop
-same-length c = c .before .before .before .before .before .loop .inv .size
+path-of-requires c κs = let start = c .before .before .before .before .before .before .before in ((start .pre .0, start .pre .1), (search needs, c .before .before .loop .inv .on))
 
 returns : tie.Need-returns Inv-loop μ-loop
-returns c = filling-stop (omega arith) (c .before .before .path-of .ensures .0) (c .if1 .taken) (c .before .before .before .before .before .before .before .summary-count .ensures .0)
+returns c = filling-stop (omega arith) (c .before .before .path-of .ensures .same) (c .if1 .taken) (c .before .before .before .before .before .before .before .summary-count .ensures .0)
 
 cast-path : tie.Need-cast-path Inv-loop μ-loop
 cast-path c = search needs
@@ -39,8 +36,8 @@ cast-path c = search needs
 mul-path : tie.Need-mul-path Inv-loop μ-loop
 mul-path c = search needs
 
-slice-write-path : tie.Need-slice-write-path Inv-loop μ-loop
-slice-write-path c = search needs
+element-write-path : tie.Need-element-write-path Inv-loop μ-loop
+element-write-path c = search needs
 
 add-v : tie.Need-add-v Inv-loop μ-loop
 add-v c = search needs
@@ -49,10 +46,7 @@ loop-less : tie.Need-loop-less Inv-loop μ-loop
 loop-less c = search needs
 
 loop-again : tie.Need-loop-again Inv-loop μ-loop
-loop-again c = filling-step (c .before .before .before .before .before .before .loop .inv) (omega arith) (omega arith) (c .before .before .before .path-of .ensures .0) (omega arith)
-
-same-length-2 : tie.Need-same-length-2 Inv-loop μ-loop
-same-length-2 c = c .before .loop .inv .size
+loop-again c = filling-step (c .before .before .before .before .before .before .loop .inv) (omega arith) (c .before .before .before .path-of .ensures .same) (omega arith)
 
 returns-2 : tie.Need-returns-2 Inv-loop μ-loop
 returns-2 c = filling-end (c .before .loop .inv) (omega arith)
@@ -67,13 +61,11 @@ fill-paths-spec =
     document-count-requires
     loop-holds
     path-of-requires
-    same-length
     returns
     cast-path
     mul-path
-    slice-write-path
+    element-write-path
     add-v
     loop-less
     loop-again
-    same-length-2
     returns-2)

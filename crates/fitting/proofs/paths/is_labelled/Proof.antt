@@ -1,5 +1,5 @@
 -- `fitting::paths::is_labelled` meets its contract: the two tests are the definition's. Assumes nothing.
-use mathlib.Core.Path.{sym, ap, _∙_}
+use mathlib.Core.Path.{sym, _∙_}
 use borrow.Author.Tests.{eq-eqb, ne-eqb}
 use borrow.Author.Needs.{needs}
 use Rattle.fitting.proofs.paths.is_labelled.Statement.{statement}

@@ -13,7 +13,7 @@ root-path-requires : tie.Need-root-path-requires
 root-path-requires c κs = search needs
 
 returns : tie.Need-returns
-returns c = (c .root-path .ensures .0 ∙ ap (pathIn _ _) (sym (c .before .if1 .taken)), c .root-path .ensures .1)
+returns c = record { same = c .root-path .ensures .same ∙ ap (pathIn _ _) (sym (c .before .if1 .taken)); most = c .root-path .ensures .most }
 
 document-parent-requires : tie.Need-document-parent-requires
 document-parent-requires c κs = search needs
@@ -30,11 +30,13 @@ child-labelled-requires c κs =
 
 returns-2 : tie.Need-returns-2
 returns-2 c =
-    let start = c .before .before .before .before .before .before .before .before .before in (
-      next-entry _ _ (start .pre .0 .1 .tree) (start .pre .1 .1) (omega arith) (omega arith) (c .before .before .before .document-parent .ensures) (c .before .before .summary-of .ensures)
-          (c .child-labelled .ensures .0 ∙ ap (childLabelled _ _) (c .before .document-label .ensures)),
-      c .child-labelled .ensures .1,
-    )
+    let start = c .before .before .before .before .before .before .before .before .before in
+    record {
+      same =
+          next-entry _ _ (start .pre .0 .1 .tree) (start .pre .1 .1) (omega arith) (omega arith) (c .before .before .before .document-parent .ensures)
+          (c .before .before .summary-of .ensures) (c .child-labelled .ensures .0 ∙ ap (childLabelled _ _) (c .before .document-label .ensures));
+      most = c .child-labelled .ensures .1;
+    }
 
 pub path-of-spec : {M : Type 1} → statement M
 path-of-spec =

@@ -16,18 +16,22 @@ summary-label-requires : tie.Need-summary-label-requires
 summary-label-requires c κs = let start = c .before .before .before in (start .pre .0 .whole, omega (arith, start .pre .0 .tree .inhabited, length-asDocument (summaryIn (now (start .args .case)))))
 
 returns : tie.Need-returns
-returns c = (root-same _ _ (c .before .before .before .before .before .pre .1 .tree .inhabited) (sym (c .before .before .document-label .ensures) ∙ c .if1 .taken ∙ c .before .summary-label .ensures), search needs)
+returns c =
+    record { same = root-same _ _ (c .before .before .before .before .before .pre .1 .tree .inhabited) (sym (c .before .before .document-label .ensures) ∙ c .if1 .taken ∙ c .before .summary-label .ensures); most = search needs }
 
 summary-count-requires : tie.Need-summary-count-requires
 summary-count-requires c κs = search needs
 
 returns-2 : tie.Need-returns-2
 returns-2 c =
-    let labels = c .before .before in (
-      c .summary-count .ensures .0
-          ∙ root-other _ _ (c .before .before .before .before .before .before .pre .1 .tree .inhabited) (λ e. c .before .if1 .left (labels .before .document-label .ensures ∙ e ∙ sym (labels .summary-label .ensures))),
-      search needs,
-    )
+    let labels = c .before .before in
+    record {
+      same =
+          c .summary-count .ensures .0
+          ∙ root-other _ _ (c .before .before .before .before .before .before .pre .1 .tree .inhabited) (λ e.
+          c .before .if1 .left (labels .before .document-label .ensures ∙ e ∙ sym (labels .summary-label .ensures)));
+      most = search needs;
+    }
 
 pub root-path-spec : {M : Type 1} → statement M
 root-path-spec =

@@ -6,7 +6,7 @@ use native.Mathlib.Omega.{arith}
 use denote.Ref.{now}
 use lib.Bits.{bitAnd}
 use lib.Dec.{eqb}
-use lib.ListN.{length, getD}
+use lib.ListN.{getD}
 use borrow.Author.Count.{below-none, below-more}
 use borrow.Author.Tests.{not-true, not-false}
 use borrow.Author.Needs.{needs}
@@ -25,15 +25,15 @@ document-count-requires : tie.Need-document-count-requires Inv-loop μ-loop
 document-count-requires c κs = search needs
 
 -- the row that is read is that of the node's path
-inside : (c : tie.After-summary-of Inv-loop μ-loop) → c .summary-of .result .0 < length (now (c .before .before .before .before .before .before .before .before .args .needed))
-inside c = omega (arith, c .before .before .before .before .before .before .before .before .pre .1 (c .before .before .loop .v) (omega arith))
+inside : (c : tie.After-summary-of Inv-loop μ-loop) → c .summary-of .result .0 < 64
+inside c = omega (arith, c .before .before .before .before .before .before .pre .1 (c .before .before .before .loop .v) (omega arith))
 
 kept : (c : tie.After-subset64 Inv-loop μ-loop)
-    → (let a = c .before .before .before .before .before .before .before .before .before .before .before .args in c .subset64 .result ≡ keptIn (now (a .path)) (now (a .kids)) (now (a .needed)) (c .before .before .before .before .before .loop .v))
+    → (let a = c .before .before .before .before .before .before .before .before .before .args in c .subset64 .result ≡ keptIn (now (a .path)) (now (a .kids)) (now (a .needed)) (c .before .before .before .before .before .before .loop .v))
 kept c =
-    let a = c .before .before .before .before .before .before .before .before .before .before .before .args in
+    let a = c .before .before .before .before .before .before .before .before .before .args in
     c .subset64 .ensures
-    ∙ ap (λ (s : ℕ). eqb (bitAnd (getD (now (a .needed)) s 0) (getD (now (a .kids)) (c .before .before .before .before .before .loop .v) 0)) (getD (now (a .needed)) s 0)) (c .before .before .before .summary-of .ensures)
+    ∙ ap (λ (s : ℕ). eqb (bitAnd (getD (now (a .needed)) s 0) (getD (now (a .kids)) (c .before .before .before .before .before .before .loop .v) 0)) (getD (now (a .needed)) s 0)) (c .before .before .before .summary-of .ensures)
 
 loop-holds : tie.Need-loop-holds Inv-loop μ-loop
 loop-holds c = (search needs, below-none _)
@@ -44,14 +44,14 @@ summary-of-requires c κs = search needs
 mul-subset64 : tie.Need-mul-subset64 Inv-loop μ-loop
 mul-subset64 c = omega (arith, inside c)
 
-shared-slice-read-subset64 : tie.Need-shared-slice-read-subset64 Inv-loop μ-loop
-shared-slice-read-subset64 c = inside (c .before)
+element-copy-out-subset64 : tie.Need-element-copy-out-subset64 Inv-loop μ-loop
+element-copy-out-subset64 c = inside c
 
 mul-subset64-2 : tie.Need-mul-subset64-2 Inv-loop μ-loop
 mul-subset64-2 c = search needs
 
-shared-slice-read-subset64-2 : tie.Need-shared-slice-read-subset64-2 Inv-loop μ-loop
-shared-slice-read-subset64-2 c = search needs
+element-copy-out-subset64-2 : tie.Need-element-copy-out-subset64-2 Inv-loop μ-loop
+element-copy-out-subset64-2 c = search needs
 
 subset64-requires : tie.Need-subset64-requires Inv-loop μ-loop
 subset64-requires c κs = search needs
@@ -66,7 +66,7 @@ loop-less : tie.Need-loop-less Inv-loop μ-loop
 loop-less c = search needs
 
 loop-again : tie.Need-loop-again Inv-loop μ-loop
-loop-again c = (search needs, below-more _ _ (c .before .before .before .before .before .before .loop .inv .1) (sym (kept (c .before)) ∙ not-false _ (c .if1 .left)))
+loop-again c = (search needs, below-more _ _ (c .before .before .before .before .before .before .before .loop .inv .1) (sym (kept (c .before)) ∙ not-false _ (c .if1 .left)))
 
 returns-2 : tie.Need-returns-2 Inv-loop μ-loop
 returns-2 c = passed-end _ _ _ (omega arith) (c .before .loop .inv .1)
@@ -81,9 +81,9 @@ all-kept-spec =
     loop-holds
     summary-of-requires
     mul-subset64
-    shared-slice-read-subset64
+    element-copy-out-subset64
     mul-subset64-2
-    shared-slice-read-subset64-2
+    element-copy-out-subset64-2
     subset64-requires
     returns
     add-v

@@ -3,17 +3,18 @@
 use Prim.Native.Nat.{_-_, _<_}
 use mathlib.Core.Path.{sym, ap}
 use native.Mathlib.Omega.{arith}
+use denote.Ref.{now}
 use lib.Dec.{eqb}
 use lib.ListN.{length}
 use borrow.Author.Needs.{needs}
 use Rattle.model.specs.Bytes.{documentOf}
 use Rattle.fitting.specs.Steps.{givesPath}
-use Rattle.fitting.proofs.GatherLaws.{Gathering, gathering-start, gathering-room, gathering-put, gathering-end}
+use Rattle.fitting.proofs.GatherLaws.{Gathering, gathering-start, gathering-up, gathering-put, gathering-end}
 use Rattle.fitting.proofs.strong.child_paths.Statement.{statement}
 use Rattle.fitting.proofs.strong.child_paths.Tie as tie
 
 abbrev Inv-loop : tie.InvT-loop
-Inv-loop w path kids₀ count v₀ kids v = Gathering (documentOf w) (givesPath path) kids₀ kids v
+Inv-loop w path kids₀ count v₀ kids v = Gathering (documentOf w) (givesPath path) kids v
 
 abbrev μ-loop : tie.MeasureT-loop
 μ-loop w path kids₀ count v₀ kids v = count - v
@@ -22,32 +23,32 @@ document-count-requires : tie.Need-document-count-requires Inv-loop μ-loop
 document-count-requires c κs = search needs
 
 -- the parent's row is in the table
-room : (c : tie.After-document-parent Inv-loop μ-loop) → c .document-parent .result .0 < length (c .before .before .loop .kids)
-room c = gathering-room (c .before .before .loop .inv) (c .before .before .before .before .before .before .before .pre .0 .0 .tree) (omega arith) (omega arith) (c .document-parent .ensures)
+up : (c : tie.After-document-parent Inv-loop μ-loop) → c .document-parent .result .0 < length (documentOf (now (c .before .before .before .before .before .args .w)))
+up c = gathering-up (c .before .before .loop .inv) (c .before .before .before .before .before .pre .0 .0 .tree) (omega arith) (c .document-parent .ensures)
 
 loop-holds : tie.Need-loop-holds Inv-loop μ-loop
-loop-holds c = let start = c .before .before .before .before in gathering-start (start .pre .0 .0 .tree) (start .pre .1 .1)
+loop-holds c = let start = c .before .before in gathering-start (start .pre .0 .0 .tree) (start .pre .0 .0 .few) (start .pre .0 .1)
 
 document-parent-requires : tie.Need-document-parent-requires Inv-loop μ-loop
 document-parent-requires c κs = search needs
 
 mul-insert64 : tie.Need-mul-insert64 Inv-loop μ-loop
-mul-insert64 c = omega (arith, room c)
+mul-insert64 c = omega (arith, up c)
 
-slice-read-insert64 : tie.Need-slice-read-insert64 Inv-loop μ-loop
-slice-read-insert64 c = room (c .before)
+element-copy-out-insert64 : tie.Need-element-copy-out-insert64 Inv-loop μ-loop
+element-copy-out-insert64 c = omega (arith, up c)
 
 summary-of-requires : tie.Need-summary-of-requires Inv-loop μ-loop
 summary-of-requires c κs = search needs
 
 insert64-requires : tie.Need-insert64-requires Inv-loop μ-loop
-insert64-requires c κs = omega (arith, c .before .before .before .before .before .before .before .before .before .pre .1 .0 (c .before .before .before .before .loop .v) (omega arith))
+insert64-requires c κs = omega (arith, c .before .before .before .before .before .before .before .before .pre .1 (c .before .before .before .before .before .loop .v) (omega arith))
 
 mul-kids : tie.Need-mul-kids Inv-loop μ-loop
-mul-kids c = omega (arith, room (c .before .before .before))
+mul-kids c = omega (arith, up (c .before .before .before .before))
 
-slice-write-kids : tie.Need-slice-write-kids Inv-loop μ-loop
-slice-write-kids c = room (c .before .before .before)
+element-write-kids : tie.Need-element-write-kids Inv-loop μ-loop
+element-write-kids c = omega (arith, up (c .before .before .before .before))
 
 add-v : tie.Need-add-v Inv-loop μ-loop
 add-v c = search needs
@@ -57,12 +58,9 @@ loop-less c = search needs
 
 loop-again : tie.Need-loop-again Inv-loop μ-loop
 loop-again c =
-    let parent = c .before .before .before in
-    gathering-put _ (parent .before .before .loop .inv) (parent .before .before .before .before .before .before .before .pre .0 .0 .tree) (omega arith) (omega arith) (parent .document-parent .ensures) (c .insert64 .ensures)
+    let parent = c .before .before .before .before in
+    gathering-put _ (parent .before .before .loop .inv) (parent .before .before .before .before .before .pre .0 .0 .tree) (omega arith) (parent .document-parent .ensures) (c .insert64 .ensures)
     (λ t. ap (eqb t) (sym (c .before .summary-of .ensures)))
-
-same-length : tie.Need-same-length Inv-loop μ-loop
-same-length c = c .before .loop .inv .size
 
 returns : tie.Need-returns Inv-loop μ-loop
 returns c = gathering-end (c .before .loop .inv) (omega arith)
@@ -77,13 +75,12 @@ child-paths-spec =
     loop-holds
     document-parent-requires
     mul-insert64
-    slice-read-insert64
+    element-copy-out-insert64
     summary-of-requires
     insert64-requires
     mul-kids
-    slice-write-kids
+    element-write-kids
     add-v
     loop-less
     loop-again
-    same-length
     returns)

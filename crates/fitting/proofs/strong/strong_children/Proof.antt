@@ -12,12 +12,12 @@ use Rattle.model.specs.Summary.{asDocument}
 use Rattle.model.proofs.TreeLaws.{length-asDocument}
 use Rattle.format.specs.Given.{summaryIn}
 use Rattle.fitting.specs.Steps.{givesStrong}
-use Rattle.fitting.proofs.GatherLaws.{Gathering, gathering-start, gathering-room, gathering-step, gathering-end}
+use Rattle.fitting.proofs.GatherLaws.{Gathering, gathering-start, gathering-up, gathering-step, gathering-end}
 use Rattle.fitting.proofs.strong.strong_children.Statement.{statement}
 use Rattle.fitting.proofs.strong.strong_children.Tie as tie
 
 abbrev Inv-loop : tie.InvT-loop
-Inv-loop case needed₀ n t₀ needed t = Gathering (asDocument (summaryIn case)) (givesStrong (summaryIn case)) needed₀ needed t
+Inv-loop case needed₀ n t₀ needed t = Gathering (asDocument (summaryIn case)) (givesStrong (summaryIn case)) needed t
 
 abbrev μ-loop : tie.MeasureT-loop
 μ-loop case needed₀ n t₀ needed t = n - t
@@ -30,22 +30,22 @@ size : (c : tie.Start Inv-loop μ-loop) → length (asDocument (summaryIn (now (
 size c = length-asDocument (summaryIn (now (c .args .case)))
 
 -- the parent's row is in the table
-room : (c : tie.After-summary-parent Inv-loop μ-loop) → c .summary-parent .result .0 < length (c .before .before .loop .needed)
-room c =
-    let start = c .before .before .before .before .before .before in
-    gathering-room (c .before .before .loop .inv) (start .pre .0 .0 .tree) (omega (arith, size start)) (omega (arith, size start)) (c .summary-parent .ensures)
+up : (c : tie.After-summary-parent Inv-loop μ-loop) → c .summary-parent .result .0 < length (summaryIn (now (c .before .before .before .before .before .args .case)))
+up c =
+    let start = c .before .before .before .before .before in
+    omega (arith, size start, gathering-up (c .before .before .loop .inv) (start .pre .0 .tree) (omega (arith, size start)) (c .summary-parent .ensures))
 
 loop-holds : tie.Need-loop-holds Inv-loop μ-loop
-loop-holds c = let start = c .before .before .before in gathering-start (start .pre .0 .0 .tree) (start .pre .1)
+loop-holds c = let start = c .before .before in gathering-start (start .pre .0 .tree) (omega (arith, size start)) (start .pre .1)
 
 summary-parent-requires : tie.Need-summary-parent-requires Inv-loop μ-loop
 summary-parent-requires c κs = search needs
 
 mul-insert-if64 : tie.Need-mul-insert-if64 Inv-loop μ-loop
-mul-insert-if64 c = omega (arith, room c)
+mul-insert-if64 c = omega (arith, up c)
 
-slice-read-insert-if64 : tie.Need-slice-read-insert-if64 Inv-loop μ-loop
-slice-read-insert-if64 c = room (c .before)
+element-copy-out-insert-if64 : tie.Need-element-copy-out-insert-if64 Inv-loop μ-loop
+element-copy-out-insert-if64 c = omega (arith, up c)
 
 summary-strong-requires : tie.Need-summary-strong-requires Inv-loop μ-loop
 summary-strong-requires c κs = search needs
@@ -54,10 +54,10 @@ insert-if64-requires : tie.Need-insert-if64-requires Inv-loop μ-loop
 insert-if64-requires c κs = search needs
 
 mul-needed : tie.Need-mul-needed Inv-loop μ-loop
-mul-needed c = omega (arith, room (c .before .before .before))
+mul-needed c = omega (arith, up (c .before .before .before))
 
-slice-write-needed : tie.Need-slice-write-needed Inv-loop μ-loop
-slice-write-needed c = room (c .before .before .before)
+element-write-needed : tie.Need-element-write-needed Inv-loop μ-loop
+element-write-needed c = omega (arith, up (c .before .before .before))
 
 add-t : tie.Need-add-t Inv-loop μ-loop
 add-t c = search needs
@@ -68,15 +68,12 @@ loop-less c = search needs
 loop-again : tie.Need-loop-again Inv-loop μ-loop
 loop-again c =
     let parent = c .before .before .before in
-    let start = parent .before .before .before .before .before .before in
-    gathering-step _ _ (parent .before .before .loop .inv) (start .pre .0 .0 .tree) (omega (arith, size start)) (omega (arith, size start)) (parent .summary-parent .ensures) (c .insert-if64 .ensures)
+    let start = parent .before .before .before .before .before in
+    gathering-step _ _ (parent .before .before .loop .inv) (start .pre .0 .tree) (omega (arith, size start)) (parent .summary-parent .ensures) (c .insert-if64 .ensures)
     (λ t. ap (λ (x : ℕ). eqb x 1 && eqb t (parent .before .before .loop .t)) (sym (c .before .summary-strong .ensures)))
 
-same-length : tie.Need-same-length Inv-loop μ-loop
-same-length c = c .before .loop .inv .size
-
 returns : tie.Need-returns Inv-loop μ-loop
-returns c = gathering-end (c .before .loop .inv) (omega (arith, size (c .before .before .before .before .before)))
+returns c = gathering-end (c .before .loop .inv) (omega (arith, size (c .before .before .before .before)))
 
 pub strong-children-spec : {M : Type 1} → statement M
 strong-children-spec =
@@ -88,13 +85,12 @@ strong-children-spec =
     loop-holds
     summary-parent-requires
     mul-insert-if64
-    slice-read-insert-if64
+    element-copy-out-insert-if64
     summary-strong-requires
     insert-if64-requires
     mul-needed
-    slice-write-needed
+    element-write-needed
     add-t
     loop-less
     loop-again
-    same-length
     returns)
