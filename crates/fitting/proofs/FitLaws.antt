@@ -75,7 +75,7 @@ module _ (S : Summary) (W : Document) (tree : IsTree W) where
             let r = strong-kept-exact S W v .0 e t (edge t (gathered-exact strong (pathIn S W v) t .0 h)) in
             gathered-exact rows v t .1 (r .0, r .1, eq-eqb t (getD path (r .0) 0) (sym (on .same (r .0) (r .1 .inside) ∙ r .2)))))
 
-    pub all-inside : allOf (keptIn path kids needed) (upFrom 0 (length W)) ≡ fits S W
-    all-inside =
-        all-agree (keptIn path kids needed) (strongKept S W) (upFrom 0 (length W)) (λ v m. let h = upFrom-mem 0 (length W) v m in row-kept v (omega arith))
+    pub all-inside : {r : Bool} → r ≡ allOf (keptIn path kids needed) (upFrom 0 (length W)) → r ≡ fits S W
+    all-inside e =
+        e ∙ all-agree (keptIn path kids needed) (strongKept S W) (upFrom 0 (length W)) (λ v m. let h = upFrom-mem 0 (length W) v m in row-kept v (omega arith))
         ∙ decided true (paths-inside-exact S W .1 (λ v h. subst (λ (s : ℕ). s < length S) (on .same v h) (on .inside v h)))

@@ -1,5 +1,4 @@
 -- `fitting::fits` meets its contract: the tables' laws say what the three tests of fitting say. Assumes nothing.
-use mathlib.Core.Path.{_∙_}
 use native.Mathlib.Omega.{arith}
 use borrow.Author.Tests.{not-true, not-false}
 use Rattle.fitting.proofs.GatherLaws.{cleared}
@@ -11,27 +10,35 @@ fill-paths-requires : tie.Need-fill-paths-requires
 fill-paths-requires c κs = let start = c .before .before .before in (start .pre .0, start .pre .1, cleared 1024)
 
 returns : tie.Need-returns
-returns c = not-inside _ _ (c .before .before .before .before .before .pre .1 .tree) (c .before .fill-paths .ensures .none (not-true _ (c .if1 .taken)))
+returns c =
+    let start = c .before .before .before .before .before in
+    not-inside _ _ (start .pre .1 .tree) (c .before .fill-paths .ensures .none (not-true _ (c .if1 .taken)))
 
 child-paths-requires : tie.Need-child-paths-requires
 child-paths-requires c κs =
-    let start = c .before .before .before .before .before .before .before in
-    let on = c .before .before .before .fill-paths .ensures .all (not-false _ (c .before .before .if1 .left)) in
+    let found = c .before .before in
+    let start = found .before .before .before .before .before in
+    let on = found .before .fill-paths .ensures .all (not-false _ (found .if1 .left)) in
     ((start .pre .1, cleared 1024), λ v h. omega (arith, on .inside v h, start .pre .0 .few))
 
 strong-children-requires : tie.Need-strong-children-requires
-strong-children-requires c κs = (c .before .before .before .before .before .before .before .before .before .pre .0, cleared 64)
+strong-children-requires c κs = let start = c .before .before .before .before .before .before .before .before .before in (start .pre .0, cleared 64)
 
 all-kept-requires : tie.Need-all-kept-requires
 all-kept-requires c κs =
-    let start = c .before .before .before .before .before .before .before .before .before .before .before .before .before in
-    let on = c .before .before .before .before .before .before .before .before .before .fill-paths .ensures .all (not-false _ (c .before .before .before .before .before .before .before .before .if1 .left)) in
+    let found = c .before .before .before .before .before .before .before .before in
+    let start = found .before .before .before .before .before in
+    let on = found .before .fill-paths .ensures .all (not-false _ (found .if1 .left)) in
     (start .pre .1, λ v h. omega (arith, on .inside v h, start .pre .0 .few))
 
 returns-2 : tie.Need-returns-2
 returns-2 c =
-    let on = c .before .before .before .before .before .before .before .before .before .before .fill-paths .ensures .all (not-false _ (c .before .before .before .before .before .before .before .before .before .if1 .left)) in
-    c .all-kept .ensures ∙ all-inside _ _ (c .before .before .before .before .before .before .before .before .before .before .before .before .before .before .pre .1 .tree) on (c .before .before .before .before .before .before .child-paths .ensures) (c .before .before .before .before .strong-children .ensures)
+    let strong = c .before .before .before .before in
+    let rows = strong .before .before in
+    let found = rows .before .before .before in
+    let start = found .before .before .before .before .before in
+    let on = found .before .fill-paths .ensures .all (not-false _ (found .if1 .left)) in
+    all-inside _ _ (start .pre .1 .tree) on (rows .child-paths .ensures) (strong .strong-children .ensures) (c .all-kept .ensures)
 
 pub fits-spec : {M : Type 1} → statement M
 fits-spec =

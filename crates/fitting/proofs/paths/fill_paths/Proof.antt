@@ -25,10 +25,16 @@ loop-holds : tie.Need-loop-holds Inv-loop μ-loop
 loop-holds c = filling-start (omega arith)
 
 path-of-requires : tie.Need-path-of-requires Inv-loop μ-loop
-path-of-requires c κs = let start = c .before .before .before .before .before .before .before in ((start .pre .0, start .pre .1), (search needs, c .before .before .loop .inv .on))
+path-of-requires c κs =
+    let turn = c .before .before in
+    let start = turn .before .before .before .before .before in
+    ((start .pre .0, start .pre .1), (search needs, turn .loop .inv .on))
 
 returns : tie.Need-returns Inv-loop μ-loop
-returns c = filling-stop (omega arith) (c .before .before .path-of .ensures .same) (c .if1 .taken) (c .before .before .before .before .before .before .before .summary-count .ensures .0)
+returns c =
+    let path = c .before .before in
+    let counts = path .before .before .before .before .before in
+    filling-stop (omega arith) (path .path-of .ensures .same) (c .if1 .taken) (counts .summary-count .ensures .0)
 
 cast-path : tie.Need-cast-path Inv-loop μ-loop
 cast-path c = search needs
@@ -46,7 +52,10 @@ loop-less : tie.Need-loop-less Inv-loop μ-loop
 loop-less c = search needs
 
 loop-again : tie.Need-loop-again Inv-loop μ-loop
-loop-again c = filling-step (c .before .before .before .before .before .before .loop .inv) (omega arith) (c .before .before .before .path-of .ensures .same) (omega arith)
+loop-again c =
+    let path = c .before .before .before in
+    let turn = path .before .before .before in
+    filling-step (turn .loop .inv) (omega arith) (path .path-of .ensures .same) (omega arith)
 
 returns-2 : tie.Need-returns-2 Inv-loop μ-loop
 returns-2 c = filling-end (c .before .loop .inv) (omega arith)

@@ -19,22 +19,29 @@ document-parent-requires : tie.Need-document-parent-requires
 document-parent-requires c κs = search needs
 
 summary-of-requires : tie.Need-summary-of-requires
-summary-of-requires c κs = let start = c .before .before .before .before .before .before in omega (arith, start .pre .0 .1 .tree .earlier (start .args .v .0) (omega arith) (omega arith))
+summary-of-requires c κs =
+    let start = c .before .before .before .before .before .before in
+    omega (arith, start .pre .0 .1 .tree .earlier (start .args .v .0) (omega arith) (omega arith))
 
 document-label-requires : tie.Need-document-label-requires
 document-label-requires c κs = search needs
 
 child-labelled-requires : tie.Need-child-labelled-requires
 child-labelled-requires c κs =
-    let start = c .before .before .before .before .before .before .before .before in (start .pre .0 .0, parent-inside (start .pre .0 .1 .tree) (start .pre .1 .1) (omega arith) (omega arith) (c .before .before .document-parent .ensures) (c .before .summary-of .ensures))
+    let path = c .before in
+    let parent = path .before in
+    let start = parent .before .before .before .before .before .before in
+    (start .pre .0 .0, parent-inside (start .pre .0 .1 .tree) (start .pre .1 .1) (omega arith) (omega arith) (parent .document-parent .ensures) (path .summary-of .ensures))
 
 returns-2 : tie.Need-returns-2
 returns-2 c =
-    let start = c .before .before .before .before .before .before .before .before .before in
+    let path = c .before .before in
+    let parent = path .before in
+    let start = parent .before .before .before .before .before .before in
     record {
       same =
-          next-entry _ _ (start .pre .0 .1 .tree) (start .pre .1 .1) (omega arith) (omega arith) (c .before .before .before .document-parent .ensures)
-          (c .before .before .summary-of .ensures) (c .child-labelled .ensures .0 ∙ ap (childLabelled _ _) (c .before .document-label .ensures));
+          next-entry _ _ (start .pre .0 .1 .tree) (start .pre .1 .1) (omega arith) (omega arith) (parent .document-parent .ensures) (path .summary-of .ensures)
+          (c .child-labelled .ensures .0 ∙ ap (childLabelled _ _) (c .before .document-label .ensures));
       most = c .child-labelled .ensures .1;
     }
 

@@ -13,11 +13,16 @@ document-label-requires : tie.Need-document-label-requires
 document-label-requires c κs = search needs
 
 summary-label-requires : tie.Need-summary-label-requires
-summary-label-requires c κs = let start = c .before .before .before in (start .pre .0 .whole, omega (arith, start .pre .0 .tree .inhabited, length-asDocument (summaryIn (now (start .args .case)))))
+summary-label-requires c κs =
+    let start = c .before .before .before in
+    (start .pre .0 .whole, omega (arith, start .pre .0 .tree .inhabited, length-asDocument (summaryIn (now (start .args .case)))))
 
 returns : tie.Need-returns
 returns c =
-    record { same = root-same _ _ (c .before .before .before .before .before .pre .1 .tree .inhabited) (sym (c .before .before .document-label .ensures) ∙ c .if1 .taken ∙ c .before .summary-label .ensures); most = search needs }
+    let labels = c .before in
+    let start = labels .before .before .before .before in
+    let same = sym (labels .before .document-label .ensures) ∙ c .if1 .taken ∙ labels .summary-label .ensures in
+    record { same = root-same _ _ (start .pre .1 .tree .inhabited) same; most = search needs }
 
 summary-count-requires : tie.Need-summary-count-requires
 summary-count-requires c κs = search needs
@@ -25,10 +30,11 @@ summary-count-requires c κs = search needs
 returns-2 : tie.Need-returns-2
 returns-2 c =
     let labels = c .before .before in
+    let start = labels .before .before .before .before in
     record {
       same =
           c .summary-count .ensures .0
-          ∙ root-other _ _ (c .before .before .before .before .before .before .pre .1 .tree .inhabited) (λ e.
+          ∙ root-other _ _ (start .pre .1 .tree .inhabited) (λ e.
           c .before .if1 .left (labels .before .document-label .ensures ∙ e ∙ sym (labels .summary-label .ensures)));
       most = search needs;
     }

@@ -26,14 +26,21 @@ document-count-requires c κs = search needs
 
 -- the row that is read is that of the node's path
 inside : (c : tie.After-summary-of Inv-loop μ-loop) → c .summary-of .result .0 < 64
-inside c = omega (arith, c .before .before .before .before .before .before .pre .1 (c .before .before .before .loop .v) (omega arith))
+inside c =
+    let turn = c .before .before .before in
+    let start = turn .before .before .before in
+    omega (arith, start .pre .1 (turn .loop .v) (omega arith))
 
 kept : (c : tie.After-subset64 Inv-loop μ-loop)
-    → (let a = c .before .before .before .before .before .before .before .before .before .args in c .subset64 .result ≡ keptIn (now (a .path)) (now (a .kids)) (now (a .needed)) (c .before .before .before .before .before .before .loop .v))
+    → (let turn = c .before .before .before .before .before .before in
+    let a = turn .before .before .before .args in
+    c .subset64 .result ≡ keptIn (now (a .path)) (now (a .kids)) (now (a .needed)) (turn .loop .v))
 kept c =
-    let a = c .before .before .before .before .before .before .before .before .before .args in
+    let path = c .before .before .before in
+    let turn = path .before .before .before in
+    let a = turn .before .before .before .args in
     c .subset64 .ensures
-    ∙ ap (λ (s : ℕ). eqb (bitAnd (getD (now (a .needed)) s 0) (getD (now (a .kids)) (c .before .before .before .before .before .before .loop .v) 0)) (getD (now (a .needed)) s 0)) (c .before .before .before .summary-of .ensures)
+    ∙ ap (λ (s : ℕ). eqb (bitAnd (getD (now (a .needed)) s 0) (getD (now (a .kids)) (turn .loop .v) 0)) (getD (now (a .needed)) s 0)) (path .summary-of .ensures)
 
 loop-holds : tie.Need-loop-holds Inv-loop μ-loop
 loop-holds c = (search needs, below-none _)
@@ -66,7 +73,9 @@ loop-less : tie.Need-loop-less Inv-loop μ-loop
 loop-less c = search needs
 
 loop-again : tie.Need-loop-again Inv-loop μ-loop
-loop-again c = (search needs, below-more _ _ (c .before .before .before .before .before .before .before .loop .inv .1) (sym (kept (c .before)) ∙ not-false _ (c .if1 .left)))
+loop-again c =
+    let turn = c .before .before .before .before .before .before .before in
+    (search needs, below-more _ _ (turn .loop .inv .1) (sym (kept (c .before)) ∙ not-false _ (c .if1 .left)))
 
 returns-2 : tie.Need-returns-2 Inv-loop μ-loop
 returns-2 c = passed-end _ _ _ (omega arith) (c .before .loop .inv .1)

@@ -3,9 +3,7 @@
 use Prim.Native.Nat.{_-_, _<_}
 use mathlib.Core.Path.{sym, ap}
 use native.Mathlib.Omega.{arith}
-use denote.Ref.{now}
 use lib.Dec.{eqb}
-use lib.ListN.{length}
 use borrow.Author.Needs.{needs}
 use Rattle.model.specs.Bytes.{documentOf}
 use Rattle.fitting.specs.Steps.{givesPath}
@@ -23,8 +21,11 @@ document-count-requires : tie.Need-document-count-requires Inv-loop μ-loop
 document-count-requires c κs = search needs
 
 -- the parent's row is in the table
-up : (c : tie.After-document-parent Inv-loop μ-loop) → c .document-parent .result .0 < length (documentOf (now (c .before .before .before .before .before .args .w)))
-up c = gathering-up (c .before .before .loop .inv) (c .before .before .before .before .before .pre .0 .0 .tree) (omega arith) (c .document-parent .ensures)
+up : (c : tie.After-document-parent Inv-loop μ-loop) → c .document-parent .result .0 < 1024
+up c =
+    let turn = c .before .before in
+    let start = turn .before .before .before in
+    omega (arith, gathering-up (turn .loop .inv) (start .pre .0 .0 .tree) (omega arith) (c .document-parent .ensures))
 
 loop-holds : tie.Need-loop-holds Inv-loop μ-loop
 loop-holds c = let start = c .before .before in gathering-start (start .pre .0 .0 .tree) (start .pre .0 .0 .few) (start .pre .0 .1)
@@ -36,19 +37,22 @@ mul-insert64 : tie.Need-mul-insert64 Inv-loop μ-loop
 mul-insert64 c = omega (arith, up c)
 
 element-copy-out-insert64 : tie.Need-element-copy-out-insert64 Inv-loop μ-loop
-element-copy-out-insert64 c = omega (arith, up c)
+element-copy-out-insert64 c = up c
 
 summary-of-requires : tie.Need-summary-of-requires Inv-loop μ-loop
 summary-of-requires c κs = search needs
 
 insert64-requires : tie.Need-insert64-requires Inv-loop μ-loop
-insert64-requires c κs = omega (arith, c .before .before .before .before .before .before .before .before .pre .1 (c .before .before .before .before .before .loop .v) (omega arith))
+insert64-requires c κs =
+    let turn = c .before .before .before .before .before in
+    let start = turn .before .before .before in
+    omega (arith, start .pre .1 (turn .loop .v) (omega arith))
 
 mul-kids : tie.Need-mul-kids Inv-loop μ-loop
 mul-kids c = omega (arith, up (c .before .before .before .before))
 
 element-write-kids : tie.Need-element-write-kids Inv-loop μ-loop
-element-write-kids c = omega (arith, up (c .before .before .before .before))
+element-write-kids c = up (c .before .before .before .before)
 
 add-v : tie.Need-add-v Inv-loop μ-loop
 add-v c = search needs
@@ -59,7 +63,9 @@ loop-less c = search needs
 loop-again : tie.Need-loop-again Inv-loop μ-loop
 loop-again c =
     let parent = c .before .before .before .before in
-    gathering-put _ (parent .before .before .loop .inv) (parent .before .before .before .before .before .pre .0 .0 .tree) (omega arith) (parent .document-parent .ensures) (c .insert64 .ensures)
+    let turn = parent .before .before in
+    let start = turn .before .before .before in
+    gathering-put _ (turn .loop .inv) (start .pre .0 .0 .tree) (omega arith) (parent .document-parent .ensures) (c .insert64 .ensures)
     (λ t. ap (eqb t) (sym (c .before .summary-of .ensures)))
 
 returns : tie.Need-returns Inv-loop μ-loop

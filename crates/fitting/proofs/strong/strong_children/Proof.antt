@@ -30,10 +30,12 @@ size : (c : tie.Start Inv-loop μ-loop) → length (asDocument (summaryIn (now (
 size c = length-asDocument (summaryIn (now (c .args .case)))
 
 -- the parent's row is in the table
-up : (c : tie.After-summary-parent Inv-loop μ-loop) → c .summary-parent .result .0 < length (summaryIn (now (c .before .before .before .before .before .args .case)))
+up : (c : tie.After-summary-parent Inv-loop μ-loop) → c .summary-parent .result .0 < 64
 up c =
-    let start = c .before .before .before .before .before in
-    omega (arith, size start, gathering-up (c .before .before .loop .inv) (start .pre .0 .tree) (omega (arith, size start)) (c .summary-parent .ensures))
+    let turn = c .before .before in
+    let start = turn .before .before .before in
+    let same = size start in
+    omega (arith, gathering-up (turn .loop .inv) (start .pre .0 .tree) (omega arith) (c .summary-parent .ensures))
 
 loop-holds : tie.Need-loop-holds Inv-loop μ-loop
 loop-holds c = let start = c .before .before in gathering-start (start .pre .0 .tree) (omega (arith, size start)) (start .pre .1)
@@ -45,7 +47,7 @@ mul-insert-if64 : tie.Need-mul-insert-if64 Inv-loop μ-loop
 mul-insert-if64 c = omega (arith, up c)
 
 element-copy-out-insert-if64 : tie.Need-element-copy-out-insert-if64 Inv-loop μ-loop
-element-copy-out-insert-if64 c = omega (arith, up c)
+element-copy-out-insert-if64 c = up c
 
 summary-strong-requires : tie.Need-summary-strong-requires Inv-loop μ-loop
 summary-strong-requires c κs = search needs
@@ -57,7 +59,7 @@ mul-needed : tie.Need-mul-needed Inv-loop μ-loop
 mul-needed c = omega (arith, up (c .before .before .before))
 
 element-write-needed : tie.Need-element-write-needed Inv-loop μ-loop
-element-write-needed c = omega (arith, up (c .before .before .before))
+element-write-needed c = up (c .before .before .before)
 
 add-t : tie.Need-add-t Inv-loop μ-loop
 add-t c = search needs
@@ -68,9 +70,11 @@ loop-less c = search needs
 loop-again : tie.Need-loop-again Inv-loop μ-loop
 loop-again c =
     let parent = c .before .before .before in
-    let start = parent .before .before .before .before .before in
-    gathering-step _ _ (parent .before .before .loop .inv) (start .pre .0 .tree) (omega (arith, size start)) (parent .summary-parent .ensures) (c .insert-if64 .ensures)
-    (λ t. ap (λ (x : ℕ). eqb x 1 && eqb t (parent .before .before .loop .t)) (sym (c .before .summary-strong .ensures)))
+    let turn = parent .before .before in
+    let start = turn .before .before .before in
+    let same = size start in
+    gathering-step _ _ (turn .loop .inv) (start .pre .0 .tree) (omega arith) (parent .summary-parent .ensures) (c .insert-if64 .ensures)
+    (λ t. ap (λ (x : ℕ). eqb x 1 && eqb t (turn .loop .t)) (sym (c .before .summary-strong .ensures)))
 
 returns : tie.Need-returns Inv-loop μ-loop
 returns c = gathering-end (c .before .loop .inv) (omega (arith, size (c .before .before .before .before)))
