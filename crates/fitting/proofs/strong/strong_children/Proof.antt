@@ -47,7 +47,7 @@ mul-insert-if64 : tie.Need-mul-insert-if64 Inv-loop μ-loop
 mul-insert-if64 c = omega (arith, up c)
 
 element-copy-out-insert-if64 : tie.Need-element-copy-out-insert-if64 Inv-loop μ-loop
-element-copy-out-insert-if64 c = up c
+element-copy-out-insert-if64 c = omega (arith, up c)
 
 summary-strong-requires : tie.Need-summary-strong-requires Inv-loop μ-loop
 summary-strong-requires c κs = search needs
