@@ -8,24 +8,29 @@ use mathlib.Core.List.{List}
 use native.Mathlib.Omega.{arith}
 use native.Mathlib.Nat.{zero-add}
 use lib.Bits.{bitOr}
-use lib.Dec.{eqb, ltb}
-use lib.ListN.{length, getD, set, replicate, length-set}
+use lib.Dec.{eqb}
+use lib.ListN.{length, getD, set, replicate, length-replicate, length-set}
 use lib.Seq.{getD-set-same, getD-set-other}
-use borrow.Author.Tests.{ltb-true, eqb-true, eqb-false, lt-ltb, eq-eqb}
+use borrow.Author.Tests.{eqb-true, eqb-false, lt-ltb}
 use Rattle.model.specs.Lists.{upFrom, anyOf}
-use Rattle.model.specs.Tree.{Rooted}
+use Rattle.model.specs.Tree.{Document, IsTree, parentOf, Child}
+use Rattle.model.specs.Embeddings.{childTest}
 use Rattle.model.proofs.ListLaws.{and-intro, and-left, and-right, any-below, below-any}
+use Rattle.model.proofs.TreeLaws.{test-child, child-test}
 use Rattle.model.proofs.Masks.{has}
 use Rattle.bits.specs.Sets.{insertIf}
 use Rattle.bits.proofs.MaskLaws.{has-none, has-insert, any-snoc}
 use Rattle.format.proofs.RangeLaws.{upFrom-last}
-use Rattle.fitting.specs.Steps.{Gathered}
+use Rattle.fitting.specs.Steps.{Cleared, Gathered}
 
--- a cleared table
-pub cleared : (n k : ℕ) → getD {A = ℕ} (replicate n 0) k 0 ≡ 0
-cleared zero k = refl
-cleared (suc n) zero = refl
-cleared (suc n) (suc k) = cleared n k
+-- a table as it is made
+pub cleared : (n : ℕ) → Cleared n (replicate n 0)
+cleared n = record { size = length-replicate n 0; zero = each n }
+  where
+    each : (n k : ℕ) → getD {A = ℕ} (replicate n 0) k 0 ≡ 0
+    each zero k = refl
+    each (suc n) zero = refl
+    each (suc n) (suc k) = each n k
 
 -- one number more
 any-last : (test : ℕ → Bool) (i : ℕ) → anyOf test (upFrom 0 (i + 1)) ≡ (anyOf test (upFrom 0 i) || test i)
@@ -51,101 +56,73 @@ has-put b masks p x k t h = go (eqb p k) refl
     go false q =
         ap (λ (m : ℕ). has m t) (getD-set-other masks p k new 0 (λ e. eqb-false p k q (sym e))) ∙ sym (or-false (has (getD masks k 0) t))
 
-module _ {parents : List ℕ} {gives : ℕ → ℕ → Bool} where
-  pub gathered-start : {masks : List ℕ} → ((k : ℕ) → getD masks k 0 ≡ 0) → Gathered parents gives 1 masks
-  unfolding anyOf upFrom
-  gathered-start z = record { row = λ k t. ap (λ (m : ℕ). has m t) (z k) ∙ has-none t }
+-- the loop: node i is next
+pub record Gathering (T : Document) (gives : ℕ → ℕ → Bool) (masks : List ℕ) (i : ℕ) : Type 0 where
+  pub started : 0 < i
+  pub turns : i ≤ length T
+  pub room : length T ≤ length masks
+  pub row : (k t : ℕ) → has (getD masks k 0) t ≡ anyOf (λ j. childTest T k j && gives j t) (upFrom 0 i)
+
+module _ {T : Document} {gives : ℕ → ℕ → Bool} {masks : List ℕ} where
+  pub gathering-start : {n : ℕ} → IsTree T → length T ≤ n → Cleared n masks → Gathering T gives masks 1
+  unfolding anyOf upFrom childTest
+  gathering-start {n} tree h z =
+      record {
+        started = omega arith;
+        turns = omega (arith, tree .inhabited);
+        room = omega (arith, z .size);
+        row = λ k t. ap (λ (m : ℕ). has m t) (z .zero k) ∙ has-none t;
+      }
+
+  -- the parent's row is in the table
+  pub gathering-up : {i p : ℕ} → Gathering T gives masks i → IsTree T → i < length T → p ≡ parentOf T i → p < length T
+  gathering-up {i} {p} g tree h e =
+      let up : parentOf T i < i = tree .earlier i (g .started) h in
+      omega arith
 
   -- node i, with parent p, gives x where b says so
-  pub gathered-step : {masks : List ℕ} {i : ℕ} (b : Bool) (p x : ℕ) → Gathered parents gives i masks → 0 < i → getD parents i 0 ≡ p → p < length masks
-      → ((t : ℕ) → gives i t ≡ (b && eqb t x)) → Gathered parents gives (i + 1) (set masks p (insertIf b (getD masks p 0) x))
-  gathered-step {masks} {i} b p x g pos up room share = record { row = row }
+  pub gathering-step : {i p y : ℕ} (b : Bool) (x : ℕ) → Gathering T gives masks i → IsTree T → i < length T → p ≡ parentOf T i → y ≡ insertIf b (getD masks p 0) x
+      → ((t : ℕ) → gives i t ≡ (b && eqb t x)) → Gathering T gives (set masks p y) (i + 1)
+  unfolding childTest
+  gathering-step {i} {p} {y} b x g tree h e f share =
+      record { started = omega arith; turns = omega arith; room = omega (arith, length-set masks p y); row = row }
     where
       test : ℕ → ℕ → ℕ → Bool
-      test k t j = ltb 0 j && eqb (getD parents j 0) k && gives j t
+      test k t j = childTest T k j && gives j t
 
       here : (k t : ℕ) → test k t i ≡ (eqb p k && (b && eqb t x))
       here k t =
-          ap (λ (s : Bool). s && eqb (getD parents i 0) k && gives i t) (lt-ltb 0 i pos)
-          ∙ ap₂ (λ (y : ℕ) (s : Bool). eqb y k && s) up (share t)
+          ap₂ (λ (r s : Bool). r && s && eqb (parentOf T i) k && gives i t) (lt-ltb 0 i (g .started)) (lt-ltb i (length T) h)
+          ∙ ap₂ (λ (q : ℕ) (s : Bool). eqb q k && s) (sym e) (share t)
 
-      row : (k t : ℕ) → has (getD (set masks p (insertIf b (getD masks p 0) x)) k 0) t ≡ anyOf (test k t) (upFrom 0 (i + 1))
+      row : (k t : ℕ) → has (getD (set masks p y) k 0) t ≡ anyOf (test k t) (upFrom 0 (i + 1))
       row k t =
-          has-put b masks p x k t room ∙ ap₂ (λ (r s : Bool). r || s) (g .row k t) (sym (here k t)) ∙ sym (any-last (test k t) i)
-
--- the loop: node i is next
-pub record Gathering (parents : List ℕ) (gives : ℕ → ℕ → Bool) (n : ℕ) (masks₀ masks : List ℕ) (i : ℕ) : Type 0 where
-  pub started : 0 < i
-  pub turns : i ≤ n
-  pub size : length masks ≡ length masks₀
-  pub rows : Gathered parents gives i masks
-
-module _ {parents : List ℕ} {gives : ℕ → ℕ → Bool} {n : ℕ} {masks₀ : List ℕ} where
-  pub gathering-start : 0 < n → ((k : ℕ) → getD masks₀ k 0 ≡ 0) → Gathering parents gives n masks₀ masks₀ 1
-  gathering-start h z = record { started = omega arith; turns = omega arith; size = refl; rows = gathered-start z }
-
-  -- the parent's row is in the table
-  pub gathering-room : {masks : List ℕ} {i p : ℕ} → Gathering parents gives n masks₀ masks i → Rooted n (λ j. getD parents j 0) → n ≤ length masks₀ → i < n
-      → p ≡ getD parents i 0 → p < length masks
-  gathering-room {masks} {i} {p} g tree room h e =
-      let up : getD parents i 0 < i = tree .earlier i (g .started) h in
-      let size : length masks ≡ length masks₀ = g .size in
-      omega arith
-
-  pub gathering-step : {masks : List ℕ} {i p y : ℕ} (b : Bool) (x : ℕ) → Gathering parents gives n masks₀ masks i → Rooted n (λ j. getD parents j 0) → n ≤ length masks₀ → i < n
-      → p ≡ getD parents i 0 → y ≡ insertIf b (getD masks p 0) x → ((t : ℕ) → gives i t ≡ (b && eqb t x)) → Gathering parents gives n masks₀ (set masks p y) (i + 1)
-  gathering-step {masks} {i} {p} {y} b x g tree room h e f share =
-      record {
-        started = omega arith;
-        turns = omega arith;
-        size = length-set masks p y ∙ g .size;
-        rows =
-            subst (λ (z : ℕ). Gathered parents gives (i + 1) (set masks p z)) (sym f)
-            (gathered-step b p x (g .rows) (g .started) (sym e) (gathering-room g tree room h e) share);
-      }
+          ap (λ (z : ℕ). has (getD (set masks p z) k 0) t) f ∙ has-put b masks p x k t (omega (arith, gathering-up g tree h e))
+          ∙ ap₂ (λ (r s : Bool). r || s) (g .row k t) (sym (here k t)) ∙ sym (any-last (test k t) i)
 
   -- the same where a node always gives
-  pub gathering-put : {masks : List ℕ} {i p y : ℕ} (x : ℕ) → Gathering parents gives n masks₀ masks i → Rooted n (λ j. getD parents j 0) → n ≤ length masks₀ → i < n
-      → p ≡ getD parents i 0 → y ≡ bitOr (getD masks p 0) (2 ^ x) → ((t : ℕ) → gives i t ≡ eqb t x) → Gathering parents gives n masks₀ (set masks p y) (i + 1)
+  pub gathering-put : {i p y : ℕ} (x : ℕ) → Gathering T gives masks i → IsTree T → i < length T → p ≡ parentOf T i → y ≡ bitOr (getD masks p 0) (2 ^ x)
+      → ((t : ℕ) → gives i t ≡ eqb t x) → Gathering T gives (set masks p y) (i + 1)
   unfolding insertIf
-  gathering-put x g tree room h e f share = gathering-step true x g tree room h e f share
+  gathering-put x g tree h e f share = gathering-step true x g tree h e f share
 
-  pub gathering-end : {masks : List ℕ} {i : ℕ} → Gathering parents gives n masks₀ masks i → n ≤ i → Gathered parents gives n masks
-  gathering-end {masks} {i} g h =
-      let done : i ≡ n = omega arith in
-      subst (λ (k : ℕ). Gathered parents gives k masks) done (g .rows)
+  pub gathering-end : {i : ℕ} → Gathering T gives masks i → length T ≤ i → Gathered T gives masks
+  gathering-end {i} g h =
+      let done : i ≡ length T = omega arith in
+      record { row = λ k t. g .row k t ∙ ap (λ (m : ℕ). anyOf (λ j. childTest T k j && gives j t) (upFrom 0 m)) done }
 
--- some child of k below i gives t
-pub record Given (parents : List ℕ) (gives : ℕ → ℕ → Bool) (i k t : ℕ) : Type 0 where
-  pub node : ℕ
-  pub below : node < i
-  pub notRoot : 0 < node
-  pub isParent : getD parents node 0 ≡ k
-  pub does : gives node t ≡ true
-
--- which is what a bit says
-pub gathered-exact : {parents : List ℕ} {gives : ℕ → ℕ → Bool} {i : ℕ} {masks : List ℕ} → Gathered parents gives i masks
-    → (k t : ℕ) → (has (getD masks k 0) t ≡ true) ↔ Given parents gives i k t
-gathered-exact {parents} {gives} {i} {masks} g k t = (forth, back)
+-- a bit says that some child gives it
+pub gathered-exact : {T : Document} {gives : ℕ → ℕ → Bool} {masks : List ℕ} → Gathered T gives masks
+    → (k t : ℕ) → (has (getD masks k 0) t ≡ true) ↔ ((j : ℕ) × Child T k j × (gives j t ≡ true))
+gathered-exact {T} {gives} {masks} g k t = (forth, back)
   where
     test : ℕ → Bool
-    test j = ltb 0 j && eqb (getD parents j 0) k && gives j t
+    test j = childTest T k j && gives j t
 
-    forth : has (getD masks k 0) t ≡ true → Given parents gives i k t
+    forth : has (getD masks k 0) t ≡ true → (j : ℕ) × Child T k j × (gives j t ≡ true)
     forth e =
-        let r = any-below test i (sym (g .row k t) ∙ e) in
-        let j : ℕ = r .0 in
-        let child : (ltb 0 j && eqb (getD parents j 0) k) ≡ true = and-left (ltb 0 j && eqb (getD parents j 0) k) (gives j t) (r .2) in
-        record {
-          node = j;
-          below = r .1;
-          notRoot = ltb-true 0 j (and-left (ltb 0 j) (eqb (getD parents j 0) k) child);
-          isParent = eqb-true (getD parents j 0) k (and-right (ltb 0 j) (eqb (getD parents j 0) k) child);
-          does = and-right (ltb 0 j && eqb (getD parents j 0) k) (gives j t) (r .2);
-        }
+        let r = any-below test (length T) (sym (g .row k t) ∙ e) in
+        (r .0, test-child T k (r .0) (and-left (childTest T k (r .0)) (gives (r .0) t) (r .2)), and-right (childTest T k (r .0)) (gives (r .0) t) (r .2))
 
-    back : Given parents gives i k t → has (getD masks k 0) t ≡ true
-    back w =
-        g .row k t
-        ∙ below-any test i (w .node) (w .below)
-        (and-intro (and-intro (lt-ltb 0 (w .node) (w .notRoot)) (eq-eqb (getD parents (w .node) 0) k (w .isParent))) (w .does))
+    back : (j : ℕ) × Child T k j × (gives j t ≡ true) → has (getD masks k 0) t ≡ true
+    back r = g .row k t ∙ below-any test (length T) (r .0) (r .1 .inside) (and-intro (child-test (r .1)) (r .2))

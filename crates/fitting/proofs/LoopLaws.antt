@@ -3,13 +3,11 @@
 use Prim.Native.Nat.{ℕ, zero, suc, _+_, _≤_, _<_}
 use mathlib.Core.Path.{_≡_, refl, sym, ap, _∙_}
 use mathlib.Core.Bool.{Bool, true, false}
-use mathlib.Core.List.{List}
 use native.Mathlib.Omega.{arith}
-use lib.Dec.{eqb, ltb}
-use lib.ListN.{getD}
-use borrow.Author.Tests.{ltb-true, eqb-true, eqb-false}
+use lib.Dec.{eqb}
+use borrow.Author.Tests.{eqb-true, eqb-false}
 use Rattle.model.specs.Lists.{upFrom, allOf, firstOf}
-use Rattle.model.proofs.ListLaws.{bool-ext, not-both, all-below, below-all}
+use Rattle.model.proofs.ListLaws.{not-both, all-below, below-all}
 
 -- ---- every number passes
 
@@ -27,20 +25,6 @@ passed-not test n i h e = sym (go (allOf test (upFrom 0 n)) refl)
     go : (t : Bool) → allOf test (upFrom 0 n) ≡ t → t ≡ false
     go true q = absurd (not-both (test i) (all-below test n q i h) e)
     go false q = refl
-
--- tests that agree on the range
-pub all-agree : (f g : ℕ → Bool) (n : ℕ) → ((i : ℕ) → i < n → f i ≡ g i) → allOf f (upFrom 0 n) ≡ allOf g (upFrom 0 n)
-all-agree f g n same =
-    bool-ext (allOf f (upFrom 0 n)) (allOf g (upFrom 0 n))
-    (λ e. below-all g n (λ i h. sym (same i h) ∙ all-below f n e i h))
-    (λ e. below-all f n (λ i h. same i h ∙ all-below g n e i h))
-
--- a table's entries that are all below n are below any bound on n
-pub inside-below : (table : List ℕ) (n count bound : ℕ) → allOf (λ v. ltb (getD table v 0) n) (upFrom 0 count) ≡ true → n ≤ bound
-    → (v : ℕ) → v < count → getD table v 0 < bound
-inside-below table n count bound e h v l =
-    let k : getD table v 0 < n = ltb-true (getD table v 0) n (all-below (λ v. ltb (getD table v 0) n) count e v l) in
-    omega arith
 
 -- ---- the first that passes
 

@@ -1,201 +1,133 @@
--- Laws of the path map over columns: the search for a child with a label reads the two columns, the root's entry compares labels,
--- each further entry comes from those before it, so the table fills from the front. Assumes nothing.
-use Prim.Native.Nat.{ℕ, zero, suc, _+_, _≤_, _<_}
-use mathlib.Core.Path.{_≡_, refl, sym, ap, ap₂, _∙_}
-use mathlib.Core.Bool.{Bool, true, false, _&&_}
-use mathlib.Core.List.{List, [], _∷_, _++_, map}
+-- Laws of the path map: the search for a child with a label starts after its parent, the root's entry compares labels, each further
+-- entry comes from its parent's, so the table fills up in order. Assumes nothing.
+use Prim.Native.Nat.{ℕ, _+_, _≤_, _<_}
+use mathlib.Core.Path.{_≡_, refl, sym, ap, ap₂, _∙_, subst}
+use mathlib.Core.Bool.{Bool, true, false, _&&_, false≢true}
+use mathlib.Core.List.{List}
 use native.Mathlib.Omega.{arith}
-use lib.Dec.{eqb, ltb}
-use lib.ListN.{length, getD, take, set, length-set}
-use lib.Seq.{take-at, getD-take, length-take-le}
+use lib.Dec.{eqb}
+use lib.ListN.{length, getD, set, length-set}
+use lib.Seq.{getD-set-same, getD-set-other}
 use borrow.Author.Count.{below-more}
 use borrow.Author.Tests.{lt-ltb, eq-eqb, ne-eqb}
-use Rattle.model.specs.Bytes.{writtenAtFront}
-use Rattle.model.specs.Lists.{upFrom, firstOf}
-use Rattle.model.specs.Tree.{DocumentRecord, Document, parentOf, labelOf}
-use Rattle.model.specs.Summary.{Summary, asDocument, summaryLabel}
+use Rattle.model.specs.Lists.{upFrom}
+use Rattle.model.specs.Tree.{Document, IsTree, parentOf, labelOf}
+use Rattle.model.specs.Summary.{Summary, asDocument, summaryParent, summaryLabel}
 use Rattle.model.specs.Embeddings.{childTest}
-use Rattle.model.specs.Fitting.{childLabelled, nextPath, pathsFrom, pathMap}
-use Rattle.model.proofs.Bytes.{front-none}
-use Rattle.model.proofs.ListLaws.{first-miss, upFrom-mem}
-use Rattle.model.proofs.TreeLaws.{length-asDocument}
-use Rattle.model.proofs.Paths.{length-pathMap}
-use Rattle.format.specs.Tables.{recordFrom, documentFrom, summaryFrom}
-use Rattle.format.proofs.RangeLaws.{map-last}
-use Rattle.format.proofs.FrontLaws.{front-set, front-getD}
-use Rattle.format.proofs.TableLaws.{length-documentFrom, document-parent, document-label, length-summaryFrom, summary-document}
-use Rattle.fitting.specs.Steps.{plainFrom}
+use Rattle.model.specs.Fitting.{childLabelled}
+use Rattle.model.proofs.ListLaws.{first-miss, upFrom-mem, and-left}
+use Rattle.model.proofs.TreeLaws.{length-asDocument, test-child, rooted-lt}
+use Rattle.model.proofs.Paths.{pathIn, path-root, path-next}
+use Rattle.fitting.specs.Steps.{labelledAt, OnPaths, Filled}
 use Rattle.fitting.proofs.LoopLaws.{first-at}
 
 -- ---- the child with a label
 
--- t has parent s and label l
-abbrev pub labelledAt : List ℕ → List ℕ → ℕ → ℕ → ℕ → Bool
-labelledAt parents labels s l t = eqb (getD parents t 0) s && eqb (getD labels t 0) l
+-- the model's test
+abbrev childWith : Summary → ℕ → ℕ → ℕ → Bool
+childWith S s l t = childTest (asDocument S) s t && eqb (summaryLabel S t) l
 
--- none of the numbers below i but the root's is a child of s with label l
-pub record Missed (parents labels : List ℕ) (s l i : ℕ) : Type 0 where
-  pub started : 0 < i
-  pub none : (j : ℕ) → j < i → 0 < j → labelledAt parents labels s l j ≡ false
+-- none of the numbers below i is a child of s with label l
+pub record Missed (S : Summary) (s l i : ℕ) : Type 0 where
+  pub after : s < i
+  pub turns : i ≤ length S
+  pub none : (j : ℕ) → j < i → childWith S s l j ≡ false
 
-module _ {parents labels : List ℕ} {s l : ℕ} where
-  pub missed-start : Missed parents labels s l 1
-  missed-start = record { started = omega arith; none = λ j h p. absurd (omega arith) }
-
-  pub missed-step : {i : ℕ} → Missed parents labels s l i → labelledAt parents labels s l i ≡ false → Missed parents labels s l (i + 1)
-  missed-step {i} m e =
-      record { started = omega arith; none = below-more (λ j. 0 < j → labelledAt parents labels s l j ≡ false) i (m .none) (λ p. e) }
-
-module _ (parents labels : List ℕ) (n : ℕ) where
-  -- the model's test
-  abbrev childWith : ℕ → ℕ → ℕ → Bool
-  childWith s l t = childTest (asDocument (plainFrom parents labels n)) s t && eqb (summaryLabel (plainFrom parents labels n) t) l
-
-  by-columns : (s l t : ℕ) → t < n → childWith s l t ≡ (ltb 0 t && labelledAt parents labels s l t)
+module _ (S : Summary) (s l : ℕ) where
+  -- of a number inside that is not the root's the two tests say the same
+  by-fields : (t : ℕ) → 0 < t → t < length S → childWith S s l t ≡ labelledAt S s l t
   unfolding childTest
-  by-columns s l t h =
-      let D : Document = documentFrom parents labels n in
-      let size : length D ≡ n = length-documentFrom parents labels n in
-      ap (λ (X : Document). childTest X s t && eqb (labelOf X t) l) (summary-document parents labels [] n)
-      ∙ regroup (ltb 0 t) (ltb t (length D)) (eqb (parentOf D t) s) (eqb (labelOf D t) l) (lt-ltb t (length D) (omega arith))
-      ∙ ap₂ (λ (x y : ℕ). ltb 0 t && (eqb x s && eqb y l)) (document-parent parents labels n t h) (document-label parents labels n t h)
+  by-fields t p h =
+      let size : length (asDocument S) ≡ length S = length-asDocument S in
+      ap₂ (λ (a b : Bool). a && b && eqb (summaryParent S t) s && eqb (summaryLabel S t) l) (lt-ltb 0 t p) (lt-ltb t (length (asDocument S)) (omega arith))
+
+  -- a child stands after its parent
+  pub missed-start : IsTree (asDocument S) → s < length S → Missed S s l (s + 1)
+  missed-start tree h = record { after = omega arith; turns = omega arith; none = λ j k. go j k (childWith S s l j) refl }
     where
-      regroup : (a b c d : Bool) → b ≡ true → (a && b && c && d) ≡ (a && (c && d))
-      regroup true b c d e = ap (λ (x : Bool). x && c && d) e
-      regroup false b c d e = refl
+      go : (j : ℕ) → j < s + 1 → (b : Bool) → childWith S s l j ≡ b → b ≡ false
+      go j k true e =
+          let c = test-child (asDocument S) s j (and-left (childTest (asDocument S) s j) (eqb (summaryLabel S j) l) e) in
+          let up : s < j = rooted-lt tree (c .notRoot) (c .inside) (c .isParent) in
+          absurd (omega arith)
+      go j k false e = refl
 
-  missed-below : (s l i j : ℕ) → Missed parents labels s l i → j < i → j < n → childWith s l j ≡ false
-  missed-below s l i zero m k h = by-columns s l 0 h
-  missed-below s l i (suc j) m k h =
-      by-columns s l (suc j) h ∙ ap₂ (λ (x y : Bool). x && y) (lt-ltb 0 (suc j) (omega arith)) (m .none (suc j) k (omega arith))
-
-  by-count : (s l : ℕ) → childLabelled (plainFrom parents labels n) s l ≡ firstOf (childWith s l) n (upFrom 0 n)
-  unfolding childLabelled
-  by-count s l = ap (λ (k : ℕ). firstOf (childWith s l) k (upFrom 0 k)) (length-summaryFrom parents labels [] n)
+  pub missed-step : {i : ℕ} → Missed S s l i → i < length S → labelledAt S s l i ≡ false → Missed S s l (i + 1)
+  missed-step {i} m h e =
+      record { after = omega arith; turns = omega arith; none = below-more (λ j. childWith S s l j ≡ false) i (m .none) (by-fields i (omega arith) h ∙ e) }
 
   -- the search stops at the first child with the label
-  pub child-found : {s l i : ℕ} → Missed parents labels s l i → i < n → labelledAt parents labels s l i ≡ true → i ≡ childLabelled (plainFrom parents labels n) s l
-  child-found {s} {l} {i} m h e =
-      sym (by-count s l ∙ first-at (childWith s l) n n i h
-      (by-columns s l i h ∙ ap₂ (λ (x y : Bool). x && y) (lt-ltb 0 i (m .started)) e) (λ j k. missed-below s l i j m k (omega arith)))
+  pub child-found : {i : ℕ} → Missed S s l i → i < length S → labelledAt S s l i ≡ true → i ≡ childLabelled S s l
+  unfolding childLabelled
+  child-found {i} m h e = sym (first-at (childWith S s l) (length S) (length S) i h (by-fields i (omega arith) h ∙ e) (m .none))
 
   -- or passes all
-  pub child-none : {s l i : ℕ} → Missed parents labels s l i → n ≤ i → n ≡ childLabelled (plainFrom parents labels n) s l
-  child-none {s} {l} {i} m h =
-      sym (by-count s l ∙ first-miss (childWith s l) n (upFrom 0 n)
-      (λ x k. let inside = upFrom-mem 0 n x k in missed-below s l i x m (omega arith) (omega arith)))
+  pub child-none : {i : ℕ} → Missed S s l i → length S ≤ i → length S ≡ childLabelled S s l
+  unfolding childLabelled
+  child-none {i} m h =
+      sym (first-miss (childWith S s l) (length S) (upFrom 0 (length S)) (λ x k. let inside = upFrom-mem 0 (length S) x k in m .none x (omega arith)))
 
 -- ---- the entry of a node
 
-after-some : (S : Summary) (ms : List ℕ) (r : DocumentRecord) → 0 < length ms → nextPath S ms r ≡ childLabelled S (getD ms (r .parent) 0) (r .label)
-unfolding nextPath
-after-some S [] r h = absurd (omega arith)
-after-some S (m ∷ ms) r h = refl
+module _ (S : Summary) (W : Document) where
+  pub root-same : 0 < length W → labelOf W 0 ≡ summaryLabel S 0 → 0 ≡ pathIn S W 0
+  root-same h e = sym (path-root S W h ∙ ap (λ (b : Bool). elim b as (λ _. ℕ) [ true ↦ 0 | false ↦ length S ]) (eq-eqb (labelOf W 0) (summaryLabel S 0) e))
 
-module _ (parents labels : List ℕ) (n : ℕ) (dp dl path : List ℕ) where
-  -- the entry that the nodes before i lead to
-  abbrev pub entry : ℕ → ℕ
-  entry i = nextPath (plainFrom parents labels n) (take i path) (recordFrom dp dl i)
-
-  -- the root's
-  root-entry : (i : ℕ) → i ≡ 0 → 0 < n → (b : Bool) → eqb (getD dl 0 0) (getD labels 0 0) ≡ b → (elim b as (λ _. ℕ) [ true ↦ 0 | false ↦ n ]) ≡ entry i
-  unfolding nextPath
-  root-entry i z h b e =
-      let label : summaryLabel (plainFrom parents labels n) 0 ≡ getD labels 0 0 = ap (λ (D : Document). labelOf D 0) (summary-document parents labels [] n) ∙ document-label parents labels n 0 h in
-      sym (ap entry z ∙ ap₂ (λ (t : Bool) (k : ℕ). elim t as (λ _. ℕ) [ true ↦ 0 | false ↦ k ]) (ap (eqb (getD dl 0 0)) label ∙ e) (length-summaryFrom parents labels [] n))
-
-  pub root-same : (i : ℕ) → i ≡ 0 → 0 < n → getD dl 0 0 ≡ getD labels 0 0 → 0 ≡ entry i
-  root-same i z h e = root-entry i z h true (eq-eqb (getD dl 0 0) (getD labels 0 0) e)
-
-  pub root-other : (i : ℕ) → i ≡ 0 → 0 < n → (getD dl 0 0 ≡ getD labels 0 0 → ⊥) → n ≡ entry i
-  root-other i z h e = root-entry i z h false (ne-eqb (getD dl 0 0) (getD labels 0 0) e)
+  pub root-other : 0 < length W → (labelOf W 0 ≡ summaryLabel S 0 → ⊥) → length S ≡ pathIn S W 0
+  root-other h e = sym (path-root S W h ∙ ap (λ (b : Bool). elim b as (λ _. ℕ) [ true ↦ 0 | false ↦ length S ]) (ne-eqb (labelOf W 0) (summaryLabel S 0) e))
 
   -- any other's: p is the parent's number, s its entry
-  pub next-entry : (i p s r : ℕ) → 0 < i → i < length path → getD dp i 0 < i → p ≡ getD dp i 0 → s ≡ getD path p 0
-      → r ≡ childLabelled (plainFrom parents labels n) s (getD dl i 0) → r ≡ entry i
-  next-entry i p s r pos h up e f g =
-      let size : length (take i path) ≡ i = length-take-le i path (omega arith) in
-      let there : s ≡ getD (take i path) (getD dp i 0) 0 = f ∙ ap (λ (k : ℕ). getD path k 0) e ∙ sym (getD-take i path (getD dp i 0) 0 up) in
-      g ∙ ap (λ (k : ℕ). childLabelled (plainFrom parents labels n) k (getD dl i 0)) there
-      ∙ sym (after-some (plainFrom parents labels n) (take i path) (recordFrom dp dl i) (omega arith))
+  pub next-entry : {path : List ℕ} {i p s r : ℕ} → IsTree W → OnPaths S W path i → 0 < i → i < length W → p ≡ parentOf W i → s ≡ getD path p 0
+      → r ≡ childLabelled S s (labelOf W i) → r ≡ pathIn S W i
+  next-entry {path} {i} {p} {s} {r} tree on pos h e f g =
+      let up : p < i = subst (λ (x : ℕ). x < i) (sym e) (tree .earlier i pos h) in
+      g ∙ ap (λ (k : ℕ). childLabelled S k (labelOf W i)) (f ∙ on .same p up ∙ ap (pathIn S W) e) ∙ sym (path-next S W tree i pos h)
+
+-- that entry is a summary node
+pub parent-inside : {S : Summary} {W : Document} {path : List ℕ} {i p s : ℕ} → IsTree W → OnPaths S W path i → 0 < i → i < length W → p ≡ parentOf W i → s ≡ getD path p 0
+    → s < length S
+parent-inside {S} {W} {path} {i} {p} {s} tree on pos h e f =
+    let up : p < i = subst (λ (x : ℕ). x < i) (sym e) (tree .earlier i pos h) in
+    subst (λ (x : ℕ). x < length S) (sym f) (on .inside p up)
 
 -- ---- the table
 
-paths-last : (S : Summary) (rs : Document) (r : DocumentRecord) (ms : List ℕ) → pathsFrom S (rs ++ (r ∷ [])) ms ≡ pathsFrom S rs ms ++ (nextPath S (pathsFrom S rs ms) r ∷ [])
-unfolding pathsFrom
-paths-last S [] r ms = refl
-paths-last S (q ∷ rs) r ms = paths-last S rs r (ms ++ (nextPath S ms q ∷ []))
+-- the first i entries stand in it
+pub record Filling (S : Summary) (W : Document) (path : List ℕ) (i : ℕ) : Type 0 where
+  pub turns : i ≤ length W
+  pub room : length W ≤ length path
+  pub on : OnPaths S W path i
 
-module _ (S : Summary) (dp dl : List ℕ) (i : ℕ) where
-  map-more : pathMap S (documentFrom dp dl (i + 1)) ≡ pathMap S (documentFrom dp dl i) ++ (nextPath S (pathMap S (documentFrom dp dl i)) (recordFrom dp dl i) ∷ [])
-  unfolding documentFrom pathMap
-  map-more = ap (λ (rs : Document). pathsFrom S rs []) (map-last (recordFrom dp dl) i) ∙ paths-last S (map (recordFrom dp dl) (upFrom 0 i)) (recordFrom dp dl i) []
+module _ {S : Summary} {W : Document} {path : List ℕ} where
+  pub filling-start : length W ≤ length path → Filling S W path 0
+  filling-start room = record { turns = omega arith; room = room; on = record { same = λ v h. absurd (omega arith); inside = λ v h. absurd (omega arith) } }
 
-  map-size : length (pathMap S (documentFrom dp dl i)) ≡ i
-  map-size = length-pathMap S (documentFrom dp dl i) ∙ length-documentFrom dp dl i
-
-  map-front : (path path₀ : List ℕ) → path ≡ writtenAtFront (pathMap S (documentFrom dp dl i)) path₀ → take i path ≡ pathMap S (documentFrom dp dl i)
-  unfolding writtenAtFront
-  map-front path path₀ e = ap (take i) e ∙ take-at (pathMap S (documentFrom dp dl i)) _ i map-size
-
--- the first i entries stand at the front
-pub record Filling (S : Summary) (dp dl : List ℕ) (count : ℕ) (path₀ path : List ℕ) (i : ℕ) : Type 0 where
-  pub turns : i ≤ count
-  pub size : length path ≡ length path₀
-  pub filled : path ≡ writtenAtFront (pathMap S (documentFrom dp dl i)) path₀
-
-module _ {S : Summary} {dp dl : List ℕ} {count : ℕ} {path₀ : List ℕ} where
-  pub filling-start : Filling S dp dl count path₀ path₀ 0
-  unfolding documentFrom upFrom pathMap pathsFrom
-  filling-start = record { turns = omega arith; size = refl; filled = sym (front-none path₀) }
-
-  pub filling-step : {path : List ℕ} {i x : ℕ} → Filling S dp dl count path₀ path i → count ≤ length path₀ → i < count → x ≡ nextPath S (take i path) (recordFrom dp dl i)
-      → Filling S dp dl count path₀ (set path i x) (i + 1)
-  filling-step {path} {i} {x} f room h e =
-      let w : List ℕ = pathMap S (documentFrom dp dl i) in
-      let len : length w ≡ i = map-size S dp dl i in
-      let here : x ≡ nextPath S w (recordFrom dp dl i) = e ∙ ap (λ (ms : List ℕ). nextPath S ms (recordFrom dp dl i)) (map-front S dp dl i path path₀ (f .filled)) in
+  pub filling-step : {i x : ℕ} → Filling S W path i → i < length W → x ≡ pathIn S W i → x < length S → Filling S W (set path i x) (i + 1)
+  filling-step {i} {x} f h e inside =
       record {
         turns = omega arith;
-        size = length-set path i x ∙ f .size;
-        filled =
-            ap₂ (λ (l : List ℕ) (k : ℕ). set l k x) (f .filled) (sym len) ∙ front-set w path₀ x (omega arith)
-            ∙ ap (λ (y : ℕ). writtenAtFront (w ++ (y ∷ [])) path₀) here ∙ ap (λ (v : List ℕ). writtenAtFront v path₀) (sym (map-more S dp dl i));
+        room = omega (arith, length-set path i x);
+        on =
+            record {
+              same = below-more (λ v. getD (set path i x) v 0 ≡ pathIn S W v) i (λ v k. kept v k ∙ f .on .same v k) (here ∙ e);
+              inside =
+                  below-more (λ v. getD (set path i x) v 0 < length S) i
+                  (λ v k. subst (λ (y : ℕ). y < length S) (sym (kept v k)) (f .on .inside v k)) (subst (λ (y : ℕ). y < length S) (sym here) inside);
+            };
       }
+    where
+      kept : (v : ℕ) → v < i → getD (set path i x) v 0 ≡ getD path v 0
+      kept v k = getD-set-other path i v x 0 (λ q. omega arith)
 
-  pub filling-end : {path : List ℕ} {i : ℕ} → Filling S dp dl count path₀ path i → count ≤ i → path ≡ writtenAtFront (pathMap S (documentFrom dp dl count)) path₀
-  filling-end {path} {i} f h =
-      let done : i ≡ count = omega arith in
-      f .filled ∙ ap (λ (k : ℕ). writtenAtFront (pathMap S (documentFrom dp dl k)) path₀) done
+      here : getD (set path i x) i 0 ≡ x
+      here = getD-set-same path i x 0 (omega arith)
 
--- ---- strong edges have no part in it
+  -- all of them do
+  pub filling-end : {i : ℕ} → Filling S W path i → length W ≤ i → Filled S W path true
+  filling-end {i} f h =
+      let done : i ≡ length W = omega arith in
+      record { all = λ _. subst (λ (k : ℕ). OnPaths S W path k) done (f .on); none = λ e. absurd (false≢true (sym e)) }
 
-module _ (S R : Summary) (e : asDocument S ≡ asDocument R) where
-  same-count : length S ≡ length R
-  same-count = sym (length-asDocument S) ∙ ap length e ∙ length-asDocument R
-
-  same-child : (s l : ℕ) → childLabelled S s l ≡ childLabelled R s l
-  unfolding childLabelled
-  same-child s l = ap₂ (λ (D : Document) (k : ℕ). firstOf (λ t. childTest D s t && eqb (labelOf D t) l) k (upFrom 0 k)) e same-count
-
-  same-next : (ms : List ℕ) (r : DocumentRecord) → nextPath S ms r ≡ nextPath R ms r
-  unfolding nextPath
-  same-next [] r = ap₂ (λ (D : Document) (k : ℕ). elim (eqb (r .label) (labelOf D 0)) as (λ _. ℕ) [ true ↦ 0 | false ↦ k ]) e same-count
-  same-next (m ∷ ms) r = same-child (getD (m ∷ ms) (r .parent) 0) (r .label)
-
-  same-from : (rs : Document) (ms : List ℕ) → pathsFrom S rs ms ≡ pathsFrom R rs ms
-  unfolding pathsFrom
-  same-from [] ms = refl
-  same-from (r ∷ rs) ms = same-from rs (ms ++ (nextPath S ms r ∷ [])) ∙ ap (λ (x : ℕ). pathsFrom R rs (ms ++ (x ∷ []))) (same-next ms r)
-
-  same-map : (W : Document) → pathMap S W ≡ pathMap R W
-  unfolding pathMap
-  same-map W = same-from W []
-
--- the table that was filled has each node's entry
-pub path-table : (parents labels strongs : List ℕ) (n : ℕ) (W : Document) (path path₀ : List ℕ) → path ≡ writtenAtFront (pathMap (plainFrom parents labels n) W) path₀
-    → (v : ℕ) → v < length W → getD path v 0 ≡ getD (pathMap (summaryFrom parents labels strongs n) W) v 0
-path-table parents labels strongs n W path path₀ e v h =
-    let size : length (pathMap (plainFrom parents labels n) W) ≡ length W = length-pathMap (plainFrom parents labels n) W in
-    ap (λ (l : List ℕ). getD l v 0) e ∙ front-getD (pathMap (plainFrom parents labels n) W) path₀ v 0 (omega arith)
-    ∙ ap (λ (l : List ℕ). getD l v 0) (same-map (plainFrom parents labels n) (summaryFrom parents labels strongs n) (summary-document parents labels [] n ∙ sym (summary-document parents labels strongs n)) W)
+  -- or a node has no summary node
+  pub filling-stop : {i x n : ℕ} → i < length W → x ≡ pathIn S W i → x ≡ n → n ≡ length S → Filled S W path false
+  filling-stop {i} {x} {n} h e f g = record { all = λ e. absurd (false≢true e); none = λ _. (i, h, omega arith) }

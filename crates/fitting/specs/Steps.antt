@@ -1,31 +1,55 @@
--- What the steps of the test of fitting leave to one another.
-use Prim.Native.Nat.{ℕ}
+-- What the steps of the test of fitting leave to one another. Three tables: `path` has each document node's summary node; a row of
+-- `kids`, one for each document node, has the paths of its children; a row of `needed`, one for each summary node, has its strong
+-- children.
+use Prim.Native.Nat.{ℕ, _≤_, _<_}
 use mathlib.Core.Path.{_≡_}
-use mathlib.Core.Bool.{Bool, _&&_}
-use mathlib.Core.List.{List, []}
+use mathlib.Core.Bool.{Bool, true, false, _&&_}
+use mathlib.Core.List.{List}
 use lib.Bits.{bitAnd}
-use lib.Dec.{eqb, ltb}
-use lib.ListN.{getD}
+use lib.Dec.{eqb}
+use lib.ListN.{length, getD}
 use Rattle.model.specs.Lists.{upFrom, anyOf}
-use Rattle.model.specs.Summary.{Summary}
+use Rattle.model.specs.Tree.{Document}
+use Rattle.model.specs.Summary.{Summary, summaryParent, summaryLabel, noSummaryRecord}
+use Rattle.model.specs.Embeddings.{childTest}
 use Rattle.model.proofs.Masks.{has}
-use Rattle.format.specs.Tables.{summaryFrom}
+use Rattle.model.proofs.Paths.{pathIn}
 
--- the summary of two columns with every edge plain: which paths there are does not depend on the strong edges
-abbrev pub plainFrom : List ℕ → List ℕ → ℕ → Summary
-plainFrom parents labels n = summaryFrom parents labels [] n
+-- a table of n entries is cleared
+pub record Cleared (n : ℕ) (table : List ℕ) : Type 0 where
+  pub size : length table ≡ n
+  pub zero : (k : ℕ) → getD table k 0 ≡ 0
 
--- each node below i but the root has put what it gives into its parent's row: bit t of row k says that some child of k gives t
-pub record Gathered (parents : List ℕ) (gives : ℕ → ℕ → Bool) (i : ℕ) (masks : List ℕ) : Type 0 where
-  pub row : (k t : ℕ) → has (getD masks k 0) t ≡ anyOf (λ j. ltb 0 j && eqb (getD parents j 0) k && gives j t) (upFrom 0 i)
+-- summary node t has parent s and label l
+abbrev pub labelledAt : Summary → ℕ → ℕ → ℕ → Bool
+labelledAt S s l t = eqb (summaryParent S t) s && eqb (summaryLabel S t) l
+
+-- r is the summary node of document node v, or the summary's count where there is none
+pub record IsPath (S : Summary) (W : Document) (v r : ℕ) : Type 0 where
+  pub same : r ≡ pathIn S W v
+  pub most : r ≤ length S
+
+-- the table has the summary nodes of the document nodes below i
+pub record OnPaths (S : Summary) (W : Document) (path : List ℕ) (i : ℕ) : Type 0 where
+  pub same : (v : ℕ) → v < i → getD path v 0 ≡ pathIn S W v
+  pub inside : (v : ℕ) → v < i → getD path v 0 < length S
+
+-- it has those of all, or some document node has none
+pub record Filled (S : Summary) (W : Document) (path : List ℕ) (found : Bool) : Type 0 where
+  pub all : found ≡ true → OnPaths S W path (length W)
+  pub none : found ≡ false → (v : ℕ) × (v < length W) × (length S ≤ pathIn S W v)
+
+-- each node of a tree but the root has put what it gives into its parent's row: bit t of row k says that some child of k gives t
+pub record Gathered (T : Document) (gives : ℕ → ℕ → Bool) (masks : List ℕ) : Type 0 where
+  pub row : (k t : ℕ) → has (getD masks k 0) t ≡ anyOf (λ j. childTest T k j && gives j t) (upFrom 0 (length T))
 
 -- a document node gives its path
 abbrev pub givesPath : List ℕ → ℕ → ℕ → Bool
 givesPath path j t = eqb t (getD path j 0)
 
 -- a summary node gives itself, where the edge to it is strong
-abbrev pub givesStrong : List ℕ → ℕ → ℕ → Bool
-givesStrong strongs j t = eqb (getD strongs j 0) 1 && eqb t j
+abbrev pub givesStrong : Summary → ℕ → ℕ → Bool
+givesStrong S j t = eqb (getD S j noSummaryRecord .strong) 1 && eqb t j
 
 -- what the path of document node v needs is among the paths of its children
 abbrev pub keptIn : List ℕ → List ℕ → List ℕ → ℕ → Bool

@@ -1,41 +1,35 @@
-// The test of fitting over columns: one pass gives each document node its summary node or none, then the strong edges are tested
-// with masks. Nodes × 64 steps.
+// The test of fitting over bytes: one pass gives each document node its summary node and stops where there is none, then the strong
+// edges are tested with masks. Nodes × 64 steps.
 
 mod paths;
 mod strong;
 
 ghost use mathlib.Core.Path.{_≡_};
-ghost use Prim.Native.Nat.{_≤_};
-ghost use lib.ListN.{length};
-ghost use Rattle.model.specs.Tree.{IsTree};
-ghost use Rattle.model.specs.Summary.{asDocument};
+ghost use Rattle.model.specs.Bytes.{documentOf};
 ghost use Rattle.model.specs.Fitting.{fits as fitsOf};
-ghost use Rattle.format.specs.Tables.{documentFrom, summaryFrom};
+ghost use Rattle.format.specs.Given.{summaryIn, SummaryGiven, DocumentGiven};
 
-// The document that stands in the last two columns fits the summary that stands in the first three.
-pub fn fits(
-    parents: &[u16],
-    labels: &[u16],
-    strongs: &[u16],
-    n: usize,
-    docparents: &[u16],
-    doclabels: &[u16],
-    count: usize,
-) -> bool
-    requires { ⌜ (n ≤ length (now parents)) × (n ≤ length (now labels)) × (n ≤ length (now strongs)) × (n ≤ 64) ⌝ }
-    requires { ⌜ (count ≤ length (now docparents)) × (count ≤ length (now doclabels)) × (count ≤ 1024) ⌝ }
-    requires { ⌜ IsTree (asDocument (summaryFrom (now parents) (now labels) (now strongs) n)) ⌝ }
-    requires { ⌜ IsTree (documentFrom (now docparents) (now doclabels) count) ⌝ }
-    ensures { λ r. ⌜ r ≡ fitsOf (summaryFrom (now (parents .entry)) (now (labels .entry)) (now (strongs .entry)) n) (documentFrom (now (docparents .entry)) (now (doclabels .entry)) count) ⌝ }
+// Each document node's summary node.
+type Paths = [u16; 1024];
+
+// A row for each document node: the paths of its children.
+type Kids = [u64; 1024];
+
+// A row for each summary node: its strong children.
+type Needed = [u64; 64];
+
+// The document fits the summary of the case.
+pub fn fits(case: &[u8], w: &[u8]) -> bool
+    requires { ⌜ SummaryGiven (now case) × DocumentGiven (now w) ⌝ }
+    ensures { λ r. ⌜ r ≡ fitsOf (summaryIn (now (case .entry))) (documentOf (now (w .entry))) ⌝ }
 {
     let mut path = [0u16; 1024];
-    paths::fill_paths(parents, labels, n, docparents, doclabels, count, &mut path);
-    if !paths::all_inside(&path, n, count) {
+    if !paths::fill_paths(case, w, &mut path) {
         return false;
     }
     let mut kids = [0u64; 1024];
-    strong::child_paths(docparents, &path, count, &mut kids);
+    strong::child_paths(w, &path, &mut kids);
     let mut needed = [0u64; 64];
-    strong::strong_children(parents, strongs, n, &mut needed);
-    strong::all_kept(&path, &kids, &needed, count)
+    strong::strong_children(case, &mut needed);
+    strong::all_kept(w, &path, &kids, &needed)
 }

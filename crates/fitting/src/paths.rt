@@ -1,116 +1,91 @@
 // The summary node of each document node: the root's by its label, any other's the child of its parent's with its label. Where
 // there is none, the summary's count stands for it.
 
+use crate::Paths;
+use format::document::document_count;
+use format::document::document_label;
+use format::document::document_parent;
 use format::nodes::DocumentNode;
 use format::nodes::SummaryNode;
-use format::nodes::number;
 use format::nodes::summary_of;
-use format::nodes::summary_parent;
+use format::summary::summary_count;
+use format::summary::summary_label;
+use format::summary::summary_parent;
 ghost use mathlib.Core.Path.{_≡_};
-ghost use mathlib.Core.Bool.{_&&_};
 ghost use Prim.Native.Nat.{_≤_, _<_};
-ghost use lib.Dec.{eqb, ltb};
-ghost use lib.ListN.{length, getD, take};
-ghost use Rattle.model.specs.Bytes.{writtenAtFront};
-ghost use Rattle.model.specs.Lists.{upFrom, allOf};
-ghost use Rattle.model.specs.Tree.{Rooted};
-ghost use Rattle.model.specs.Fitting.{childLabelled, nextPath, pathMap};
-ghost use Rattle.format.specs.Tables.{recordFrom, documentFrom};
-ghost use Rattle.fitting.specs.Steps.{plainFrom};
+ghost use lib.ListN.{length};
+ghost use Rattle.model.specs.Limits.{maxDocument};
+ghost use Rattle.model.specs.Bytes.{documentOf};
+ghost use Rattle.model.specs.Fitting.{childLabelled};
+ghost use Rattle.format.specs.Given.{summaryIn, SummaryGiven, DocumentGiven};
+ghost use Rattle.fitting.specs.Steps.{Cleared, labelledAt, IsPath, OnPaths, Filled};
 
 // Summary node t has parent s and label l.
-fn is_labelled(parents: &[u16], labels: &[u16], t: SummaryNode, s: SummaryNode, l: u16) -> bool
-    requires { ⌜ (t .0 < length (now parents)) × (t .0 < length (now labels)) ⌝ }
-    ensures { λ r. ⌜ r ≡ (eqb (getD (now (parents .entry)) (t .0) 0) (s .0) && eqb (getD (now (labels .entry)) (t .0) 0) l) ⌝ }
+fn is_labelled(case: &[u8], t: SummaryNode, s: SummaryNode, l: u16) -> bool
+    requires { ⌜ SummaryGiven (now case) × (t .0 < length (summaryIn (now case))) ⌝ }
+    ensures { λ r. ⌜ r ≡ labelledAt (summaryIn (now (case .entry))) (s .0) l (t .0) ⌝ }
 {
-    let i = t.0;
-    let p = summary_parent(parents, t);
-    if p.0 == s.0 { labels[i] == l } else { false }
+    if summary_parent(case, t).0 == s.0 {
+        summary_label(case, t) == l
+    } else {
+        false
+    }
 }
 
-// The child of s with label l, or n where s has none. The root is nobody's child.
-fn child_labelled(parents: &[u16], labels: &[u16], n: usize, s: SummaryNode, l: u16) -> SummaryNode
-    requires { ⌜ (n ≤ length (now parents)) × (n ≤ length (now labels)) ⌝ }
-    ensures { λ r. ⌜ (r .0 ≡ childLabelled (plainFrom (now (parents .entry)) (now (labels .entry)) n) (s .0) l) × (r .0 ≤ n) ⌝ }
+// The child of s with label l, or the summary's count where s has none. A child stands after its parent.
+fn child_labelled(case: &[u8], s: SummaryNode, l: u16) -> SummaryNode
+    requires { ⌜ SummaryGiven (now case) × (s .0 < length (summaryIn (now case))) ⌝ }
+    ensures { λ r. ⌜ (r .0 ≡ childLabelled (summaryIn (now (case .entry))) (s .0) l) × (r .0 ≤ length (summaryIn (now (case .entry)))) ⌝ }
 {
-    for t in 1..n {
-        if is_labelled(parents, labels, SummaryNode(t), s, l) {
+    let n = summary_count(case);
+    for t in s.0 + 1..n {
+        if is_labelled(case, SummaryNode(t), s, l) {
             return SummaryNode(t);
         }
     }
     SummaryNode(n)
 }
 
-// The summary node of v, after those of the nodes before it: the root's is the summary's root where the labels are equal.
-fn path_of(
-    parents: &[u16],
-    labels: &[u16],
-    n: usize,
-    docparents: &[u16],
-    doclabels: &[u16],
-    path: &[u16],
-    v: DocumentNode,
-) -> SummaryNode
-    requires { ⌜ (0 < n) × (n ≤ length (now parents)) × (n ≤ length (now labels)) ⌝ }
-    requires { ⌜ (v .0 < length (now docparents)) × (v .0 < length (now doclabels)) × (v .0 < length (now path)) ⌝ }
-    requires { ⌜ (0 < v .0 → getD (now docparents) (v .0) 0 < v .0) ⌝ }
-    ensures { λ r. ⌜ (r .0 ≡ nextPath (plainFrom (now (parents .entry)) (now (labels .entry)) n) (take (v .0) (now (path .entry))) (recordFrom (now (docparents .entry)) (now (doclabels .entry)) (v .0))) × (r .0 ≤ n) ⌝ }
+// The summary node of the document's root: the summary's root where the labels are equal.
+fn root_path(case: &[u8], w: &[u8]) -> SummaryNode
+    requires { ⌜ SummaryGiven (now case) × DocumentGiven (now w) ⌝ }
+    ensures { λ r. ⌜ IsPath (summaryIn (now (case .entry))) (documentOf (now (w .entry))) 0 (r .0) ⌝ }
 {
-    let i = v.0;
-    if i == 0 {
-        if doclabels[0] == labels[0] {
-            return SummaryNode(0);
-        }
-        return SummaryNode(n);
+    let own = document_label(w, DocumentNode(0));
+    let label = summary_label(case, SummaryNode(0));
+    if own == label {
+        return SummaryNode(0);
     }
-    let p = number(docparents, i);
-    child_labelled(
-        parents,
-        labels,
-        n,
-        summary_of(path, DocumentNode(p)),
-        doclabels[i],
-    )
+    SummaryNode(summary_count(case))
 }
 
-// The path map goes to the front of path.
-pub fn fill_paths(
-    parents: &[u16],
-    labels: &[u16],
-    n: usize,
-    docparents: &[u16],
-    doclabels: &[u16],
-    count: usize,
-    path: &mut [u16],
-)
-    requires { ⌜ (0 < n) × (n ≤ length (now parents)) × (n ≤ length (now labels)) × (n ≤ 64) ⌝ }
-    requires { ⌜ (count ≤ length (now docparents)) × (count ≤ length (now doclabels)) × (count ≤ length (now path)) ⌝ }
-    requires { ⌜ Rooted count (λ i. getD (now docparents) i 0) ⌝ }
-    ensures { λ _. ⌜ now (path .exit) ≡ writtenAtFront (pathMap (plainFrom (now (parents .entry)) (now (labels .entry)) n) (documentFrom (now (docparents .entry)) (now (doclabels .entry)) count)) (now (path .entry)) ⌝ }
+// The summary node of v, after those of the nodes before it.
+fn path_of(case: &[u8], w: &[u8], path: &Paths, v: DocumentNode) -> SummaryNode
+    requires { ⌜ SummaryGiven (now case) × DocumentGiven (now w) ⌝ }
+    requires { ⌜ v .0 < length (documentOf (now w)) ⌝ }
+    requires { ⌜ OnPaths (summaryIn (now case)) (documentOf (now w)) (now path) (v .0) ⌝ }
+    ensures { λ r. ⌜ IsPath (summaryIn (now (case .entry))) (documentOf (now (w .entry))) (v .0) (r .0) ⌝ }
 {
-    for v in 0..count {
-        let s = path_of(
-            parents,
-            labels,
-            n,
-            docparents,
-            doclabels,
-            path,
-            DocumentNode(v),
-        );
-        path[v] = s.0 as u16;
+    if v.0 == 0 {
+        return root_path(case, w);
     }
+    let s = summary_of(path, document_parent(w, v));
+    child_labelled(case, s, document_label(w, v))
 }
 
-// Every node has a summary node.
-pub fn all_inside(path: &[u16], n: usize, count: usize) -> bool
-    requires { ⌜ count ≤ length (now path) ⌝ }
-    ensures { λ r. ⌜ r ≡ allOf (λ v. ltb (getD (now (path .entry)) v 0) n) (upFrom 0 count) ⌝ }
+// The path map goes to the table, up to the first node with no summary node. The result is whether there is no such node.
+pub fn fill_paths(case: &[u8], w: &[u8], path: &mut Paths) -> bool
+    requires { ⌜ SummaryGiven (now case) × DocumentGiven (now w) × Cleared maxDocument (now path) ⌝ }
+    ensures { λ r. ⌜ Filled (summaryIn (now (case .entry))) (documentOf (now (w .entry))) (now (path .exit)) r ⌝ }
 {
+    let n = summary_count(case);
+    let count = document_count(w);
     for v in 0..count {
-        if n <= summary_of(path, DocumentNode(v)).0 {
+        let s = path_of(case, w, path, DocumentNode(v));
+        if s.0 == n {
             return false;
         }
+        path[v] = s.0 as u16;
     }
     true
 }

@@ -3,7 +3,9 @@
 use borrow.Author.Needs.{needs}
 use mathlib.Core.Path.{sym, _∙_}
 use denote.Ref.{now}
+use Rattle.model.proofs.Questions.{accepted-fits}
 use Rattle.model.proofs.Calls.{fits-refused, fits-accepted}
+use Rattle.format.proofs.GivenLaws.{given-summary, given-document}
 use Rattle.calls.proofs.AnswerLaws.{answer-refused, answer-given}
 use Rattle.calls.proofs.fits.fits_call.Statement.{statement}
 use Rattle.calls.proofs.fits.fits_call.Tie as tie
@@ -16,21 +18,24 @@ returns c =
     let a = c .before .before .before .before .args in
     answer-refused _ _ (fits-refused (now (a .case)) (now (a .document))) (c .before .fits-refusal .ensures) (c .if1 .taken)
 
-accepted-fits-requires : tie.Need-accepted-fits-requires
-accepted-fits-requires c κs = sym (c .before .fits-refusal .ensures) ∙ c .if1 .left
+fits-requires : tie.Need-fits-requires
+fits-requires c κs =
+    let a = c .before .before .before .before .args in
+    let F = accepted-fits (now (a .case)) (now (a .document)) (sym (c .before .fits-refusal .ensures) ∙ c .if1 .left) in
+    (given-summary (F .case), given-document (F .document))
 
 returns-2 : tie.Need-returns-2
 returns-2 c =
     let e = c .before .before in
     let a = e .before .before .before .before .args in
-    answer-given _ _ _ (fits-accepted (now (a .case)) (now (a .document))) (e .before .fits-refusal .ensures) (e .if1 .left) (c .before .accepted-fits .ensures) (c .if2 .taken)
+    answer-given _ _ _ (fits-accepted (now (a .case)) (now (a .document))) (e .before .fits-refusal .ensures) (e .if1 .left) (c .before .fits2 .ensures) (c .if2 .taken)
 
 returns-3 : tie.Need-returns-3
 returns-3 c =
     let e = c .before .before in
     let a = e .before .before .before .before .args in
-    answer-given _ _ _ (fits-accepted (now (a .case)) (now (a .document))) (e .before .fits-refusal .ensures) (e .if1 .left) (c .before .accepted-fits .ensures) (c .if2 .left)
+    answer-given _ _ _ (fits-accepted (now (a .case)) (now (a .document))) (e .before .fits-refusal .ensures) (e .if1 .left) (c .before .fits2 .ensures) (c .if2 .left)
 
 pub fits-call-spec : {M : Type 1} → statement M
 fits-call-spec =
-    tie.close (tie.spec fits-refusal-requires returns accepted-fits-requires returns-2 returns-3)
+    tie.close (tie.spec fits-refusal-requires returns fits-requires returns-2 returns-3)

@@ -1,26 +1,40 @@
--- `fitting::paths::fill_paths` meets its contract: after v turns the first v entries of the path map stand at the front. The measure
--- is what is left of count. Assumes nothing.
+-- `fitting::paths::fill_paths` meets its contract: after v turns the table has the summary nodes of the first v document nodes. The
+-- measure is what is left of count. Assumes nothing.
 use Prim.Native.Nat.{_-_}
+use native.Mathlib.Omega.{arith}
 use borrow.Author.Needs.{needs}
-use Rattle.fitting.specs.Steps.{plainFrom}
-use Rattle.fitting.proofs.PathLaws.{Filling, filling-start, filling-step, filling-end}
+use Rattle.model.specs.Bytes.{documentOf}
+use Rattle.format.specs.Given.{summaryIn}
+use Rattle.fitting.proofs.PathLaws.{Filling, filling-start, filling-step, filling-end, filling-stop}
 use Rattle.fitting.proofs.paths.fill_paths.Statement.{statement}
 use Rattle.fitting.proofs.paths.fill_paths.Tie as tie
 
 abbrev Inv-loop : tie.InvT-loop
-Inv-loop parents labels n docparents doclabels count path₀ v₀ path v = Filling (plainFrom parents labels n) docparents doclabels count path₀ path v
+Inv-loop case w path₀ n count v₀ path v = Filling (summaryIn case) (documentOf w) path v
 
 abbrev μ-loop : tie.MeasureT-loop
-μ-loop parents labels n docparents doclabels count path₀ v₀ path v = count - v
+μ-loop case w path₀ n count v₀ path v = count - v
+
+summary-count-requires : tie.Need-summary-count-requires Inv-loop μ-loop
+summary-count-requires c κs = search needs
+
+document-count-requires : tie.Need-document-count-requires Inv-loop μ-loop
+document-count-requires c κs = search needs
 
 loop-holds : tie.Need-loop-holds Inv-loop μ-loop
-loop-holds c = filling-start
+loop-holds c = filling-start (omega arith)
 
 path-of-requires : tie.Need-path-of-requires Inv-loop μ-loop
 path-of-requires c κs =
-    let turn = c .before in
-    let start = turn .before .before .before .before .before .before .before in
-    (search needs, (search needs, λ p. start .pre .1 .1 .earlier (turn .before .loop .v) p (turn .loop-test .taken)))
+    let turn = c .before .before in
+    let start = turn .before .before .before .before .before in
+    ((start .pre .0, start .pre .1), (search needs, turn .loop .inv .on))
+
+returns : tie.Need-returns Inv-loop μ-loop
+returns c =
+    let path = c .before .before in
+    let counts = path .before .before .before .before .before in
+    filling-stop (omega arith) (path .path-of .ensures .same) (c .if1 .taken) (counts .summary-count .ensures .0)
 
 cast-path : tie.Need-cast-path Inv-loop μ-loop
 cast-path c = search needs
@@ -28,8 +42,8 @@ cast-path c = search needs
 mul-path : tie.Need-mul-path Inv-loop μ-loop
 mul-path c = search needs
 
-slice-write-path : tie.Need-slice-write-path Inv-loop μ-loop
-slice-write-path c = search needs
+element-write-path : tie.Need-element-write-path Inv-loop μ-loop
+element-write-path c = search needs
 
 add-v : tie.Need-add-v Inv-loop μ-loop
 add-v c = search needs
@@ -39,14 +53,12 @@ loop-less c = search needs
 
 loop-again : tie.Need-loop-again Inv-loop μ-loop
 loop-again c =
-    let turn = c .before .before .before in
-    filling-step (turn .before .loop .inv) (search needs) (turn .loop-test .taken) (c .before .path-of .ensures .0)
+    let path = c .before .before .before in
+    let turn = path .before .before .before in
+    filling-step (turn .loop .inv) (omega arith) (path .path-of .ensures .same) (omega arith)
 
-same-length : tie.Need-same-length Inv-loop μ-loop
-same-length c = c .before .loop .inv .size
-
-returns : tie.Need-returns Inv-loop μ-loop
-returns c = filling-end (c .before .loop .inv) (c .loop-test .left)
+returns-2 : tie.Need-returns-2 Inv-loop μ-loop
+returns-2 c = filling-end (c .before .loop .inv) (omega arith)
 
 pub fill-paths-spec : {M : Type 1} → statement M
 fill-paths-spec =
@@ -54,13 +66,15 @@ fill-paths-spec =
     (tie.spec
     Inv-loop
     μ-loop
+    summary-count-requires
+    document-count-requires
     loop-holds
     path-of-requires
+    returns
     cast-path
     mul-path
-    slice-write-path
+    element-write-path
     add-v
     loop-less
     loop-again
-    same-length
-    returns)
+    returns-2)

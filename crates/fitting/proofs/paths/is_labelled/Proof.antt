@@ -8,24 +8,15 @@ use Rattle.fitting.proofs.paths.is_labelled.Tie as tie
 summary-parent-requires : tie.Need-summary-parent-requires
 summary-parent-requires c κs = search needs
 
-mul-result : tie.Need-mul-result
-mul-result c = search needs
-
-shared-slice-read-result : tie.Need-shared-slice-read-result
-shared-slice-read-result c = search needs
+summary-label-requires : tie.Need-summary-label-requires
+summary-label-requires c κs = search needs
 
 returns : tie.Need-returns
-returns c = rw (eq-eqb _ _ (sym (c .before .before .before .before .summary-parent .ensures) ∙ c .before .if1 .taken))
+returns c = rw (eq-eqb _ _ (sym (c .before .before .before .before .summary-parent .ensures) ∙ c .before .if1 .taken), c .summary-label .ensures)
 
 returns-2 : tie.Need-returns-2
 returns-2 c = rw (ne-eqb _ _ (λ q. c .if1 .left (c .before .before .before .summary-parent .ensures ∙ q)))
 
 pub is-labelled-spec : {M : Type 1} → statement M
 is-labelled-spec =
-    tie.close
-    (tie.spec
-    summary-parent-requires
-    mul-result
-    shared-slice-read-result
-    returns
-    returns-2)
+    tie.close (tie.spec summary-parent-requires summary-label-requires returns returns-2)

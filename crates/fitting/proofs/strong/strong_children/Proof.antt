@@ -1,54 +1,65 @@
 -- `fitting::strong::strong_children` meets its contract: after the turns below t each of those nodes with a strong edge has put
 -- itself into its parent's row. The measure is what is left of n. Assumes nothing.
-use Prim.Native.Nat.{_-_, _<_}
-use mathlib.Core.Path.{refl}
+use Prim.Native.Nat.{ℕ, _-_, _<_}
+use mathlib.Core.Path.{_≡_, sym, ap}
+use mathlib.Core.Bool.{_&&_}
 use native.Mathlib.Omega.{arith}
+use denote.Ref.{now}
+use lib.Dec.{eqb}
 use lib.ListN.{length}
 use borrow.Author.Needs.{needs}
+use Rattle.model.specs.Summary.{asDocument}
+use Rattle.model.proofs.TreeLaws.{length-asDocument}
+use Rattle.format.specs.Given.{summaryIn}
 use Rattle.fitting.specs.Steps.{givesStrong}
-use Rattle.fitting.proofs.GatherLaws.{Gathering, gathering-start, gathering-room, gathering-step, gathering-end}
+use Rattle.fitting.proofs.GatherLaws.{Gathering, gathering-start, gathering-up, gathering-step, gathering-end}
 use Rattle.fitting.proofs.strong.strong_children.Statement.{statement}
 use Rattle.fitting.proofs.strong.strong_children.Tie as tie
 
 abbrev Inv-loop : tie.InvT-loop
-Inv-loop parents strongs n needed₀ t₀ needed t = Gathering parents (givesStrong strongs) n needed₀ needed t
+Inv-loop case needed₀ n t₀ needed t = Gathering (asDocument (summaryIn case)) (givesStrong (summaryIn case)) needed t
 
 abbrev μ-loop : tie.MeasureT-loop
-μ-loop parents strongs n needed₀ t₀ needed t = n - t
+μ-loop case needed₀ n t₀ needed t = n - t
+
+summary-count-requires : tie.Need-summary-count-requires Inv-loop μ-loop
+summary-count-requires c κs = search needs
+
+-- the summary read as a document has as many nodes
+size : (c : tie.Start Inv-loop μ-loop) → length (asDocument (summaryIn (now (c .args .case)))) ≡ length (summaryIn (now (c .args .case)))
+size c = length-asDocument (summaryIn (now (c .args .case)))
 
 -- the parent's row is in the table
-room : (c : tie.After-number Inv-loop μ-loop) → c .number .result < length (c .before .before .loop .needed)
-room c =
-    let turn = c .before in
-    let start = turn .before .before .before .before .before in
-    gathering-room (turn .before .loop .inv) (start .pre .1 .0) (search needs) (turn .loop-test .taken) (c .number .ensures)
+up : (c : tie.After-summary-parent Inv-loop μ-loop) → c .summary-parent .result .0 < 64
+up c =
+    let turn = c .before .before in
+    let start = turn .before .before .before in
+    let same = size start in
+    omega (arith, gathering-up (turn .loop .inv) (start .pre .0 .tree) (omega arith) (c .summary-parent .ensures))
 
 loop-holds : tie.Need-loop-holds Inv-loop μ-loop
-loop-holds c = let start = c .before .before .before in gathering-start (start .pre .1 .0 .inhabited) (start .pre .1 .1)
+loop-holds c = let start = c .before .before in gathering-start (start .pre .0 .tree) (omega (arith, size start)) (start .pre .1)
 
-number-requires : tie.Need-number-requires Inv-loop μ-loop
-number-requires c κs = search needs
+summary-parent-requires : tie.Need-summary-parent-requires Inv-loop μ-loop
+summary-parent-requires c κs = search needs
 
 mul-insert-if64 : tie.Need-mul-insert-if64 Inv-loop μ-loop
-mul-insert-if64 c = omega (arith, room c)
+mul-insert-if64 c = omega (arith, up c)
 
-slice-read-insert-if64 : tie.Need-slice-read-insert-if64 Inv-loop μ-loop
-slice-read-insert-if64 c = room (c .before)
+element-copy-out-insert-if64 : tie.Need-element-copy-out-insert-if64 Inv-loop μ-loop
+element-copy-out-insert-if64 c = omega (arith, up c)
 
-mul-insert-if64-2 : tie.Need-mul-insert-if64-2 Inv-loop μ-loop
-mul-insert-if64-2 c = search needs
-
-shared-slice-read-insert-if64 : tie.Need-shared-slice-read-insert-if64 Inv-loop μ-loop
-shared-slice-read-insert-if64 c = search needs
+summary-strong-requires : tie.Need-summary-strong-requires Inv-loop μ-loop
+summary-strong-requires c κs = search needs
 
 insert-if64-requires : tie.Need-insert-if64-requires Inv-loop μ-loop
 insert-if64-requires c κs = search needs
 
 mul-needed : tie.Need-mul-needed Inv-loop μ-loop
-mul-needed c = omega (arith, room (c .before .before .before))
+mul-needed c = omega (arith, up (c .before .before .before))
 
-slice-write-needed : tie.Need-slice-write-needed Inv-loop μ-loop
-slice-write-needed c = room (c .before .before .before)
+element-write-needed : tie.Need-element-write-needed Inv-loop μ-loop
+element-write-needed c = up (c .before .before .before)
 
 add-t : tie.Need-add-t Inv-loop μ-loop
 add-t c = search needs
@@ -59,15 +70,14 @@ loop-less c = search needs
 loop-again : tie.Need-loop-again Inv-loop μ-loop
 loop-again c =
     let parent = c .before .before .before in
-    let turn = parent .before in
-    let start = turn .before .before .before .before .before in
-    gathering-step _ _ (turn .before .loop .inv) (start .pre .1 .0) (search needs) (turn .loop-test .taken) (parent .number .ensures) (c .insert-if64 .ensures) (λ t. refl)
-
-same-length : tie.Need-same-length Inv-loop μ-loop
-same-length c = c .before .loop .inv .size
+    let turn = parent .before .before in
+    let start = turn .before .before .before in
+    let same = size start in
+    gathering-step _ _ (turn .loop .inv) (start .pre .0 .tree) (omega arith) (parent .summary-parent .ensures) (c .insert-if64 .ensures)
+    (λ t. ap (λ (x : ℕ). eqb x 1 && eqb t (turn .loop .t)) (sym (c .before .summary-strong .ensures)))
 
 returns : tie.Need-returns Inv-loop μ-loop
-returns c = gathering-end (c .before .loop .inv) (c .loop-test .left)
+returns c = gathering-end (c .before .loop .inv) (omega (arith, size (c .before .before .before .before)))
 
 pub strong-children-spec : {M : Type 1} → statement M
 strong-children-spec =
@@ -75,17 +85,16 @@ strong-children-spec =
     (tie.spec
     Inv-loop
     μ-loop
+    summary-count-requires
     loop-holds
-    number-requires
+    summary-parent-requires
     mul-insert-if64
-    slice-read-insert-if64
-    mul-insert-if64-2
-    shared-slice-read-insert-if64
+    element-copy-out-insert-if64
+    summary-strong-requires
     insert-if64-requires
     mul-needed
-    slice-write-needed
+    element-write-needed
     add-t
     loop-less
     loop-again
-    same-length
     returns)
