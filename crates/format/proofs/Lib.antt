@@ -6,3 +6,4 @@ pub mod TableLaws
 pub mod ColumnLaws
 pub mod WriteLaws
 pub mod ReadLaws
+pub mod FirstLaws

@@ -2,35 +2,29 @@
 -- its children from i on offer. So a node is offered all it can be when its turn comes, since its children stand after it. Assumes
 -- nothing.
 use Prim.Native.Nat.{ℕ, suc, _+_, _-_, _≤_, _<_}
-use mathlib.Core.Path.{_≡_, refl, sym, ap, ap₂, _∙_, subst}
+use mathlib.Core.Path.{_≡_, refl, sym, ap, _∙_, subst}
 use mathlib.Core.Bool.{Bool, true, false, _||_, or-comm}
-use mathlib.Core.List.{List, _∷_, map}
+use mathlib.Core.List.{List, _∷_}
 use native.Mathlib.Omega.{arith}
 use lib.Bits.{bitAnd, bitOr}
 use lib.Dec.{eqb}
 use lib.ListN.{length, getD, set, length-set}
 use borrow.Author.Tests.{eqb-true, eqb-false}
 use Rattle.model.specs.Lists.{upFrom, keep, anyOf, maskBelow}
-use Rattle.model.specs.Tree.{Rooted, Document, IsTree, parentOf, Child}
+use Rattle.model.specs.Tree.{Document, IsTree, parentOf, labelOf, Child}
 use Rattle.model.specs.Pattern.{Pattern}
 use Rattle.model.specs.Embeddings.{childTest}
 use Rattle.model.specs.Bytes.{writtenAtFront}
 use Rattle.model.proofs.ListLaws.{bool-ext, any-intro, any-elim, keep-intro, keep-elim, mem-upFrom}
 use Rattle.model.proofs.TreeLaws.{test-child, child-test, child-lt}
 use Rattle.model.proofs.Masks.{mask-none}
-use Rattle.model.proofs.Bytes.{front-length, front-after}
 use Rattle.bits.proofs.MaskLaws.{mask-agree, mask-or, any-cons}
-use Rattle.format.specs.Tables.{documentFrom}
-use Rattle.model.proofs.ListLaws.{length-map-upFrom}
-use Rattle.format.proofs.RangeLaws.{getD-map-below}
-use Rattle.format.proofs.FrontLaws.{front-getD}
-use Rattle.format.proofs.TableLaws.{length-documentFrom}
-use Rattle.matching.specs.Masks.{kidMasks, deepBy, fitsBy}
-use Rattle.matching.specs.Matching.{fitsAt, offersAt, offered, partAt, markPin}
-use Rattle.matching.specs.Tables.{shapeFrom, partTable, Lent, settleAt}
+use Rattle.matching.specs.Matching.{fitsAt, offersAt, offered, partAt}
+use Rattle.matching.specs.Wanted.{deepIn, countIn, Wants, markPin, fitsBy}
+use Rattle.matching.specs.Tables.{partTable, Cleared, settleAt}
 use Rattle.matching.proofs.PartLaws.{offered-elim, offered-intro, part-fits}
-use Rattle.matching.proofs.TurnLaws.{offerUp-root, offerUp-parent, at-front, set-here, set-else}
-use Rattle.matching.proofs.Columns.{Columns, length-shapeFrom, lent-columns, column-earlier, column-rooted, fits-mask, offers-mask}
+use Rattle.matching.proofs.TurnLaws.{offerUp-root, offerUp-parent, entries-front, set-here, set-else}
+use Rattle.matching.proofs.WantedLaws.{fits-mask, offers-mask}
 
 -- ---- what the children from i on offer
 
@@ -95,26 +89,16 @@ pub record Settling (Q : Pattern) (W : Document) (pin : ℕ → ℕ → Bool) (t
   pub waiting : (v : ℕ) → v < i → getD t v 0 ≡ maskBelow (offeredFrom Q W pin i v) (length Q)
   pub after : (v : ℕ) → length W ≤ v → getD t v 0 ≡ getD t₀ v 0
 
--- a table that begins with zeros
-pub settling-start : (Q : Pattern) (W : Document) (pin : ℕ → ℕ → Bool) (t b : List ℕ) → t ≡ writtenAtFront (map (λ (i : ℕ). 0) (upFrom 0 (length W))) b
-    → Settling Q W pin t t (length W)
-settling-start Q W pin t b e =
+pub settling-start : (Q : Pattern) (W : Document) (pin : ℕ → ℕ → Bool) (t : List ℕ) {n : ℕ} → Cleared t → n ≡ length W → Settling Q W pin t t n
+settling-start Q W pin t {n} z e =
     record {
       turns = omega arith;
       size = refl;
       settled = λ v a h. absurd (omega arith);
-      waiting = λ v h. zero-at v h ∙ sym (mask-none (offeredFrom Q W pin (length W) v) (length Q) (λ p l. from-none Q W pin v p));
+      waiting =
+          λ v h. z v ∙ sym (mask-none (offeredFrom Q W pin n v) (length Q) (λ p l. ap (λ (i : ℕ). offeredFrom Q W pin i v p) e ∙ from-none Q W pin v p));
       after = λ v h. refl;
     }
-  where
-    zeros : List ℕ
-    zeros = map (λ (i : ℕ). 0) (upFrom 0 (length W))
-
-    zero-at : (v : ℕ) → v < length W → getD t v 0 ≡ 0
-    zero-at v h =
-        ap (λ (l : List ℕ). getD l v 0) e
-        ∙ front-getD zeros b v 0 (subst (λ (x : ℕ). v < x) (sym (length-map-upFrom (λ (i : ℕ). 0) 0 (length W))) h)
-        ∙ getD-map-below (λ (i : ℕ). 0) (length W) v 0 h
 
 -- ---- one turn
 
@@ -214,112 +198,44 @@ module _ {Q : Pattern} {W : Document} {pin : ℕ → ℕ → Bool} {t₀ t : Lis
             other w ne ∙ set-else t v fit rows w (λ q. omega arith) ∙ s .waiting w (omega arith) ∙ waits w ne
 
 -- the turn that the code takes
-pub settling-step : {Q : Pattern} {W : Document} {parents labels qparents qlabels edges t₀ t : List ℕ} {i : ℕ} (marks : List ℕ) (v deep : ℕ) (kids t′ : List ℕ)
-    → Columns Q W parents labels qparents qlabels edges → length W ≤ length t₀ → Settling Q W (markPin marks) t₀ t i → i ≡ suc v
-    → kids ≡ kidMasks qparents (length Q) → deep ≡ maskBelow (deepBy edges) (length Q)
-    → t′ ≡ settleAt parents v (maskBelow (fitsBy qlabels marks kids (getD labels v 0) (v + 1) (getD t v 0)) (length Q)) deep t
-    → Settling Q W (markPin marks) t₀ t′ v
+pub settling-step : {Q : Pattern} {W : Document} {w t₀ t t′ : List ℕ} {i : ℕ} (v : ℕ) → Wants Q w → IsTree W → length W ≤ length t₀
+    → Settling Q W (markPin w) t₀ t i → i ≡ suc v → t′ ≡ settleAt W w v t → Settling Q W (markPin w) t₀ t′ v
 unfolding settleAt
-settling-step {Q} {W} {parents} {labels} {qparents} {qlabels} {edges} {t₀} {t} {i} marks v deep kids t′ C room s₀ e k d new =
-    subst (λ (l : List ℕ). Settling Q W pin t₀ l v) (sym new) (go (eqb v 0) refl)
+settling-step {Q} {W} {w} {t₀} {t} {t′} {i} v K T room s₀ e new = subst (λ (l : List ℕ). Settling Q W pin t₀ l v) (sym new) (go (eqb v 0) refl)
   where
     pin : ℕ → ℕ → Bool
-    pin = markPin marks
+    pin = markPin w
 
     s : Settling Q W pin t₀ t (suc v)
     s = subst (λ (x : ℕ). Settling Q W pin t₀ t x) e s₀
 
     acc : getD t v 0 ≡ maskBelow (offered Q W pin v) (length Q)
-    acc = settling-offered (C .tree) room s
+    acc = settling-offered T room s
 
     fit : ℕ
-    fit = maskBelow (fitsBy qlabels marks kids (getD labels v 0) (v + 1) (getD t v 0)) (length Q)
+    fit = maskBelow (fitsBy w (labelOf W v) (v + 1) (getD t v 0)) (countIn w)
 
     offer : ℕ
-    offer = bitOr fit (bitAnd deep (getD t v 0))
+    offer = bitOr fit (bitAnd (deepIn w) (getD t v 0))
 
     fits : fit ≡ maskBelow (fitsAt Q W pin v (offered Q W pin v)) (length Q)
-    fits =
-        ap₂ (λ (l : List ℕ) (x : ℕ). maskBelow (fitsBy qlabels marks l (getD labels v 0) (v + 1) x) (length Q)) k acc
-        ∙ fits-mask C marks v (offered Q W pin v) (s .turns)
+    fits = ap (λ (x : ℕ). maskBelow (fitsBy w (labelOf W v) (v + 1) x) (countIn w)) acc ∙ fits-mask K W v (offered Q W pin v)
 
     part : fit ≡ maskBelow (partAt Q W pin v) (length Q)
     part = fits ∙ mask-agree (fitsAt Q W pin v (offered Q W pin v)) (partAt Q W pin v) (length Q) (λ p l. sym (part-fits Q W pin v p))
 
     offers : offer ≡ maskBelow (offersAt Q W pin v (offered Q W pin v)) (length Q)
-    offers = (λ j. bitOr (fits j) (bitAnd (d j) (acc j))) ∙ offers-mask C pin v (offered Q W pin v)
+    offers = (λ j. bitOr (fits j) (bitAnd (deepIn w) (acc j))) ∙ offers-mask K W v pin (offered Q W pin v)
 
-    go : (b : Bool) → eqb v 0 ≡ b → Settling Q W pin t₀ (settleAt parents v fit deep t) v
-    go true z = rw (offerUp-root parents v offer (set t v fit) (eqb-true v 0 z), settleAt) (step-root (C .tree) room s fit offer part offers (eqb-true v 0 z))
+    go : (b : Bool) → eqb v 0 ≡ b → Settling Q W pin t₀ (settleAt W w v t) v
+    go true z = rw (offerUp-root (parentOf W v) v offer (set t v fit) (eqb-true v 0 z), settleAt) (step-root T room s fit offer part offers (eqb-true v 0 z))
     go false z =
         let ne : (v ≡ 0) → ⊥ = eqb-false v 0 z in
-        rw (offerUp-parent parents v offer (set t v fit) ne ∙ ap (λ (u : ℕ). set (set t v fit) u (bitOr (getD (set t v fit) u 0) offer)) (sym (C .parentRow v (s .turns))), settleAt)
-        (step-parent (C .tree) room s fit offer part offers (omega arith))
+        rw (offerUp-parent (parentOf W v) v offer (set t v fit) ne, settleAt) (step-parent T room s fit offer part offers (omega arith))
 
--- the whole table, over what stood there before the zeros
-pub settling-end : {Q : Pattern} {W : Document} {pin : ℕ → ℕ → Bool} {t₀ t : List ℕ} (b : List ℕ) → Settling Q W pin t₀ t 0 → length W ≤ length b
-    → t₀ ≡ writtenAtFront (map (λ (i : ℕ). 0) (upFrom 0 (length W))) b → t ≡ writtenAtFront (partTable Q W pin) b
+-- the whole table
+pub settling-end : {Q : Pattern} {W : Document} {pin : ℕ → ℕ → Bool} {t₀ t : List ℕ} {i : ℕ} → Settling Q W pin t₀ t i → i ≡ 0 → length W ≤ length t₀
+    → t ≡ writtenAtFront (partTable Q W pin) t₀
 unfolding partTable
-settling-end {Q} {W} {pin} {t₀} {t} b s room e =
-    at-front w b t (omega (arith, w-length)) (s .size ∙ sizes) (λ v h. settled v (subst (λ (x : ℕ). v < x) w-length h)) (λ v h. kept v (subst (λ (x : ℕ). x ≤ v) w-length h))
-  where
-    w : List ℕ
-    w = map (λ v. maskBelow (partAt Q W pin v) (length Q)) (upFrom 0 (length W))
-
-    zeros : List ℕ
-    zeros = map (λ (i : ℕ). 0) (upFrom 0 (length W))
-
-    zeros-length : length zeros ≡ length W
-    zeros-length = length-map-upFrom (λ (i : ℕ). 0) 0 (length W)
-
-    w-length : length w ≡ length W
-    w-length = length-map-upFrom (λ v. maskBelow (partAt Q W pin v) (length Q)) 0 (length W)
-
-    sizes : length t₀ ≡ length b
-    sizes = ap length e ∙ front-length zeros b (omega (arith, zeros-length))
-
-    settled : (v : ℕ) → v < length W → getD t v 0 ≡ getD w v 0
-    settled v h = s .settled v (omega arith) h ∙ sym (getD-map-below (λ v. maskBelow (partAt Q W pin v) (length Q)) (length W) v 0 h)
-
-    kept : (v : ℕ) → length W ≤ v → getD t v 0 ≡ getD b v 0
-    kept v h = s .after v h ∙ ap (λ (l : List ℕ). getD l v 0) e ∙ front-after zeros b v 0 (omega (arith, zeros-length))
-
--- ---- the loop over lent columns
-
-module _ {parents labels : List ℕ} {n : ℕ} {qparents qlabels edges : List ℕ} {m : ℕ} (L : Lent parents labels n qparents qlabels edges m) where
-  abbrev Q : Pattern
-  Q = shapeFrom qparents qlabels edges m
-
-  abbrev W : Document
-  W = documentFrom parents labels n
-
-  nodes : length W ≡ n
-  nodes = length-documentFrom parents labels n
-
-  pub lent-earlier : (v : ℕ) → 0 < v → v < n → getD parents v 0 < v
-  lent-earlier v z h = column-earlier (lent-columns L) v z (subst (λ (x : ℕ). v < x) (sym nodes) h)
-
-  pub lent-rooted : Rooted m (λ c. getD qparents c 0)
-  lent-rooted = subst (λ (x : ℕ). Rooted x (λ c. getD qparents c 0)) (length-shapeFrom qparents qlabels edges m) (column-rooted (lent-columns L))
-
-  pub parts-turns : {pin : ℕ → ℕ → Bool} {t₀ t : List ℕ} {i : ℕ} → Settling Q W pin t₀ t i → i ≤ n
-  parts-turns {i = i} s = subst (λ (x : ℕ). i ≤ x) nodes (s .turns)
-
-  pub parts-start : (marks : List ℕ) {t : List ℕ} (b : List ℕ) → t ≡ writtenAtFront (map (λ (i : ℕ). 0) (upFrom 0 n)) b → Settling Q W (markPin marks) t t n
-  parts-start marks {t} b e =
-      subst (λ (x : ℕ). Settling Q W (markPin marks) t t x) nodes
-      (settling-start Q W (markPin marks) t b (subst (λ (x : ℕ). t ≡ writtenAtFront (map (λ (i : ℕ). 0) (upFrom 0 x)) b) (sym nodes) e))
-
-  pub parts-step : (marks : List ℕ) {t₀ t t′ kids : List ℕ} {i v deep : ℕ} → n ≤ length t₀ → Settling Q W (markPin marks) t₀ t i → i ≡ suc v → kids ≡ kidMasks qparents m
-      → deep ≡ maskBelow (deepBy edges) m → t′ ≡ settleAt parents v (maskBelow (fitsBy qlabels marks kids (getD labels v 0) (v + 1) (getD t v 0)) m) deep t
-      → Settling Q W (markPin marks) t₀ t′ v
-  parts-step marks {t₀} {t} {t′} {kids} {i} {v} {deep} room s e k d new =
-      let size : m ≡ length Q = sym (length-shapeFrom qparents qlabels edges m) in
-      settling-step marks v deep kids t′ (lent-columns L) (omega (arith, nodes)) s e (k ∙ ap (kidMasks qparents) size) (d ∙ ap (maskBelow (deepBy edges)) size)
-      (subst (λ (x : ℕ). t′ ≡ settleAt parents v (maskBelow (fitsBy qlabels marks kids (getD labels v 0) (v + 1) (getD t v 0)) x) deep t) size new)
-
-  pub parts-end : (marks : List ℕ) {t₀ t : List ℕ} {i : ℕ} (b : List ℕ) → Settling Q W (markPin marks) t₀ t i → i ≡ 0 → n ≤ length b → t₀ ≡ writtenAtFront (map (λ (i : ℕ). 0) (upFrom 0 n)) b
-      → t ≡ writtenAtFront (partTable Q W (markPin marks)) b
-  parts-end marks {t₀} {t} {i} b s z room e =
-      settling-end b (subst (λ (x : ℕ). Settling Q W (markPin marks) t₀ t x) z s) (omega (arith, nodes))
-      (subst (λ (x : ℕ). t₀ ≡ writtenAtFront (map (λ (i : ℕ). 0) (upFrom 0 x)) b) (sym nodes) e)
+settling-end {Q} {W} {pin} {t₀} {t} s z room =
+    entries-front (λ v. maskBelow (partAt Q W pin v) (length Q)) (length W) t₀ t room (s .size) (λ v h. s .settled v (omega arith) h) (s .after)

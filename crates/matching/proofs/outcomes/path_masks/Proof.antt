@@ -1,22 +1,30 @@
 -- `matching::outcomes::path_masks` meets its contract: a node's paths are where it stands. After q turns the first q masks stand; the
--- measure is what is left of m. Assumes nothing.
-use Prim.Native.Nat.{ℕ, _-_}
-use mathlib.Core.Path.{refl}
+-- measure is what is left of the count. Assumes nothing.
+use Prim.Native.Nat.{_-_}
+use mathlib.Core.Path.{_∙_}
 use native.Mathlib.Omega.{arith}
-use lib.ListN.{replicate}
+use lib.ListN.{length, replicate}
 use borrow.Author.Needs.{needs}
-use Rattle.model.specs.Lists.{maskBelow}
-use Rattle.matching.specs.Outcomes.{inMask}
-use Rattle.matching.proofs.ReadLoops.{Filling, filling-start, filling-step, filling-end}
-use Rattle.matching.proofs.ColumnAnswers.{paths-read}
+use Rattle.model.specs.Limits.{maxSummary, summaryWidth}
+use Rattle.model.specs.Embeddings.{pathMask}
+use Rattle.model.proofs.Results.{path-mask-beyond}
+use Rattle.format.specs.Given.{summaryIn, patternAt}
+use Rattle.format.proofs.SectionLaws.{tree-summary}
+use Rattle.format.proofs.GivenLaws.{summary-as-tree}
+use Rattle.matching.proofs.Answers.{path-read}
+use Rattle.matching.proofs.ReadLoops.{Filling, filling-start, filling-step, filling-end, filling-zeros}
+use Rattle.matching.proofs.TurnLaws.{zeros-at}
 use Rattle.matching.proofs.outcomes.path_masks.Statement.{statement}
 use Rattle.matching.proofs.outcomes.path_masks.Tie as tie
 
 abbrev Inv-loop : tie.InvT-loop
-Inv-loop parents labels n qparents qlabels edges m table r₀ q₀ r q = Filling (λ (k : ℕ). maskBelow (inMask table k) n) m (replicate 16 0) r q
+Inv-loop case at table n m r₀ q₀ r q = Filling (pathMask (summaryIn case) (patternAt case at)) (length (patternAt case at)) (replicate 16 0) r q
 
 abbrev μ-loop : tie.MeasureT-loop
-μ-loop parents labels n qparents qlabels edges m table r₀ q₀ r q = m - q
+μ-loop case at table n m r₀ q₀ r q = m - q
+
+wanted-of-requires : tie.Need-wanted-of-requires Inv-loop μ-loop
+wanted-of-requires c κs = search needs
 
 slice-aggregate-stands : tie.Need-slice-aggregate-stands Inv-loop μ-loop
 slice-aggregate-stands c = search needs
@@ -24,11 +32,16 @@ slice-aggregate-stands c = search needs
 slice-aggregate-stands-2 : tie.Need-slice-aggregate-stands-2 Inv-loop μ-loop
 slice-aggregate-stands-2 c = search needs
 
-slice-aggregate-stands-3 : tie.Need-slice-aggregate-stands-3 Inv-loop μ-loop
-slice-aggregate-stands-3 c = search needs
-
 stands-requires : tie.Need-stands-requires Inv-loop μ-loop
-stands-requires c κs = search needs
+stands-requires c κs =
+    let d = summary-as-tree (c .before .before .before .before .before .pre .0) in
+    (((maxSummary, d), (_, c .before .before .before .wanted-of .ensures .0), zeros-at 64), (d .few, d .few))
+
+summary-count-requires : tie.Need-summary-count-requires Inv-loop μ-loop
+summary-count-requires c κs = search needs
+
+pattern-count-requires : tie.Need-pattern-count-requires Inv-loop μ-loop
+pattern-count-requires c κs = search needs
 
 loop-holds : tie.Need-loop-holds Inv-loop μ-loop
 loop-holds c = filling-start _
@@ -37,13 +50,13 @@ slice-aggregate-stand-mask : tie.Need-slice-aggregate-stand-mask Inv-loop μ-loo
 slice-aggregate-stand-mask c = search needs
 
 stand-mask-requires : tie.Need-stand-mask-requires Inv-loop μ-loop
-stand-mask-requires c κs = search needs
+stand-mask-requires c κs = let p = c .before .before .before .before .before .before .before .before .before .before .before .before .before .pre in (omega (arith, c .before .before .before .before .summary-count .ensures .0, p .0 .few), omega (arith, c .before .before .before .before .summary-count .ensures .0, p .0 .few), omega (arith, c .before .before .before .pattern-count .ensures .0, p .1 .few))
 
 mul-r : tie.Need-mul-r Inv-loop μ-loop
 mul-r c = search needs
 
 array-write-r : tie.Need-array-write-r Inv-loop μ-loop
-array-write-r c = search needs
+array-write-r c = omega (arith, c .before .before .before .before .before .before .before .before .before .before .before .before .before .before .pre .1 .few)
 
 add-q : tie.Need-add-q Inv-loop μ-loop
 add-q c = search needs
@@ -52,10 +65,15 @@ loop-less : tie.Need-loop-less Inv-loop μ-loop
 loop-less c = search needs
 
 loop-again : tie.Need-loop-again Inv-loop μ-loop
-loop-again c = filling-step _ (c .before .before .before .loop .inv) (omega (arith, c .before .before .before .before .before .before .before .before .before .before .before .before .before .before .before .pre .0 .few)) (c .before .before .loop-test .taken) (c .stand-mask .ensures)
+loop-again c =
+    let s = c .before .before .before .before .before .before .before .before .before .before .before .before .before .before in
+    let w = c .before .before .before .before .before .before .before .before .before .before .before .before .wanted-of .ensures in
+    filling-step _ (c .before .before .before .loop .inv) (s .pre .1 .few) (omega arith) (c .stand-mask .ensures ∙ path-read _ (w .0) summaryWidth (s .args .case .now) _ (w .1) (tree-summary (s .args .case .now)) (s .pre .0 .tree) (c .before .before .before .before .before .before .before .before .stands .ensures) (c .before .before .before .before .before .summary-count .ensures .0) (omega arith))
 
 returns : tie.Need-returns Inv-loop μ-loop
-returns c = paths-read (c .before .before .before .before .before .before .before .before .before .before .before .before .before .pre .0) _ _ refl (c .before .before .before .before .stands .ensures .0) refl (filling-end _ (c .before .loop .inv) (c .loop-test .left))
+returns c =
+    let s = c .before .before .before .before .before .before .before .before .before .before .before .before in
+    filling-end _ (c .before .loop .inv) (omega arith) ∙ filling-zeros _ _ 16 (s .pre .1 .few) (λ i h l. path-mask-beyond _ _ i h)
 
 pub path-masks-spec : {M : Type 1} → statement M
 path-masks-spec =
@@ -63,10 +81,12 @@ path-masks-spec =
     (tie.spec
     Inv-loop
     μ-loop
+    wanted-of-requires
     slice-aggregate-stands
     slice-aggregate-stands-2
-    slice-aggregate-stands-3
     stands-requires
+    summary-count-requires
+    pattern-count-requires
     loop-holds
     slice-aggregate-stand-mask
     stand-mask-requires

@@ -1,8 +1,9 @@
--- `matching::tables::descend` meets its contract: what hangs from what v keeps is what `hanging` gives. Assumes nothing.
+-- `matching::tables::descend` meets its contract: both tables are stored to as the definitions say. Assumes nothing.
 use Prim.Native.Nat.{ℕ}
-use mathlib.Core.Path.{refl, ap}
-use lib.Bits.{bitAnd, bitOr}
+use mathlib.Core.Path.{refl, ap₂, ap}
+use native.Mathlib.Omega.{arith}
 use lib.ListN.{set}
+use lib.Bits.{bitAnd, bitOr}
 use borrow.Author.Needs.{needs}
 use Rattle.matching.proofs.tables.descend.Statement.{statement}
 use Rattle.matching.proofs.tables.descend.Tie as tie
@@ -22,6 +23,9 @@ slice-write-table c = search needs
 hanging-requires : tie.Need-hanging-requires
 hanging-requires c κs = search needs
 
+wanted-deep-requires : tie.Need-wanted-deep-requires
+wanted-deep-requires c κs = search needs
+
 mul-left : tie.Need-mul-left
 mul-left c = search needs
 
@@ -35,9 +39,7 @@ same-length-2 : tie.Need-same-length-2
 same-length-2 c = search needs
 
 returns : tie.Need-returns
-returns c =
-    let s = c .before .before .before .before .before .args in
-    (refl, ap (λ (x : ℕ). set (s .left .now) (s .v) (bitOr x (bitAnd (s .deep) (s .may)))) (c .hanging .ensures))
+returns c = (refl, λ i. set (c .before .before .before .before .before .args .left .now) (c .before .before .before .before .before .args .v) (bitOr (c .before .hanging .ensures i) (bitAnd (c .wanted-deep .ensures i) (c .before .before .before .before .before .args .may))))
 
 pub descend-spec : {M : Type 1} → statement M
 descend-spec =
@@ -48,6 +50,7 @@ descend-spec =
     mul-table
     slice-write-table
     hanging-requires
+    wanted-deep-requires
     mul-left
     slice-write-left
     same-length

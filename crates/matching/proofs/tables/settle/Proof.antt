@@ -1,8 +1,18 @@
 -- `matching::tables::settle` meets its contract: the table is stored to as the definition says. Assumes nothing.
+use Prim.Native.Nat.{ℕ, _+_}
 use mathlib.Core.Path.{_∙_}
+use mathlib.Core.Path.{_≡_, ap}
+use native.Mathlib.Omega.{arith}
 use lib.ListN.{length-set}
+use lib.Bits.{bitAnd, bitOr}
+use lib.ListN.{getD, set}
 use borrow.Author.Needs.{needs}
-use Rattle.matching.proofs.TurnLaws.{settle-stored}
+use Rattle.model.specs.Lists.{maskBelow}
+use Rattle.model.specs.Tree.{parentOf, labelOf}
+use Rattle.format.specs.Given.{treeOf}
+use Rattle.matching.specs.Tables.{settleAt}
+use Rattle.matching.specs.Wanted.{countIn, fitsBy}
+use Rattle.matching.specs.Tables.{offerUp}
 use Rattle.matching.proofs.tables.settle.Statement.{statement}
 use Rattle.matching.proofs.tables.settle.Tie as tie
 
@@ -12,11 +22,8 @@ mul-acc c = search needs
 slice-read-acc : tie.Need-slice-read-acc
 slice-read-acc c = search needs
 
-mul-fitting : tie.Need-mul-fitting
-mul-fitting c = search needs
-
-shared-slice-read-fitting : tie.Need-shared-slice-read-fitting
-shared-slice-read-fitting c = search needs
+tree-label-requires : tie.Need-tree-label-requires
+tree-label-requires c κs = search needs
 
 add-fitting : tie.Need-add-fitting
 add-fitting c = search needs
@@ -30,18 +37,26 @@ mul-table c = search needs
 slice-write-table : tie.Need-slice-write-table
 slice-write-table c = search needs
 
+wanted-deep-requires : tie.Need-wanted-deep-requires
+wanted-deep-requires c κs = search needs
+
 offer-up-requires : tie.Need-offer-up-requires
-offer-up-requires c κs = search needs
+offer-up-requires c κs = let s = c .before .before .before .before .before .before .before in (s .pre .0, s .pre .1, omega (arith, s .pre .2, length-set (s .args .table .now) (s .args .v) (c .before .before .fitting .result)))
 
 same-length : tie.Need-same-length
-same-length c =
-    let s = c .before .before .before .before .before .before .before .before .before .before .before .before .before .args in
-    c .before .before .offer-up .kept .1 .1 .1 .0 ∙ length-set (s .table .now) (s .v) (c .before .before .before .before .fitting .result)
+same-length c = let s = c .before .before .before .before .before .before .before .before .before .before .args in c .before .before .offer-up .kept .1 .1 .1 .1 .0 ∙ length-set (s .table .now) (s .v) (c .before .before .before .before .before .fitting .result)
+
+fit : (c : tie.After-slice-known3) → (let s = c .before .before .before .before .before .before .before .before .before .before .args in c .before .before .before .before .before .fitting .result ≡ maskBelow (fitsBy (s .wanted .now) (labelOf (treeOf (s .width) (s .t .now)) (s .v)) (s .v + 1) (getD (s .table .now) (s .v) 0)) (countIn (s .wanted .now)))
+fit c =
+    let s = c .before .before .before .before .before .before .before .before .before .before .args in
+    c .before .before .before .before .before .fitting .ensures ∙ ap (λ (l : ℕ). maskBelow (fitsBy (s .wanted .now) l (s .v + 1) (getD (s .table .now) (s .v) 0)) (countIn (s .wanted .now))) (c .before .before .before .before .before .before .tree-label .ensures)
 
 returns : tie.Need-returns
+unfolding settleAt
 returns c =
-    let s = c .before .before .before .before .before .before .before .before .before .before .before .before .before .args in
-    settle-stored (s .parents .now) (s .table .now) (s .v) (s .deep) (c .before .before .offer-up .ensures) (c .before .before .before .before .fitting .ensures)
+    let s = c .before .before .before .before .before .before .before .before .before .before .args in
+    c .before .before .offer-up .ensures
+    ∙ (λ i. offerUp (parentOf (treeOf (s .width) (s .t .now)) (s .v)) (s .v) (bitOr (fit c i) (bitAnd (c .before .before .before .before .wanted-deep .ensures i) (getD (s .table .now) (s .v) 0))) (set (s .table .now) (s .v) (fit c i)))
 
 pub settle-spec : {M : Type 1} → statement M
 settle-spec =
@@ -49,12 +64,12 @@ settle-spec =
     (tie.spec
     mul-acc
     slice-read-acc
-    mul-fitting
-    shared-slice-read-fitting
+    tree-label-requires
     add-fitting
     fitting-requires
     mul-table
     slice-write-table
+    wanted-deep-requires
     offer-up-requires
     same-length
     returns)

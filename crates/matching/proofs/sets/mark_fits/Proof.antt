@@ -1,9 +1,9 @@
--- `matching::masks::mark_fits` meets its contract: where the first test holds the second is not asked. Assumes nothing.
+-- `matching::sets::mark_fits` meets its contract: where the first test holds the second is not asked. Assumes nothing.
 use borrow.Author.Needs.{needs}
 use borrow.Author.Tests.{eq-eqb, ne-eqb}
-use Rattle.matching.specs.Masks.{markFits}
-use Rattle.matching.proofs.masks.mark_fits.Statement.{statement}
-use Rattle.matching.proofs.masks.mark_fits.Tie as tie
+use Rattle.matching.specs.Wanted.{markFits}
+use Rattle.matching.proofs.sets.mark_fits.Statement.{statement}
+use Rattle.matching.proofs.sets.mark_fits.Tie as tie
 
 wide-requires : tie.Need-wide-requires
 wide-requires c κs = search needs
