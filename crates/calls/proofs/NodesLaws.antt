@@ -1,6 +1,6 @@
 -- Nodes at a position: there are at most as many as the document has nodes, so that they fit a column and the answer buffer; and what
 -- each arm of the call returns and leaves in the buffer is the model's outcome. Assumes nothing.
-use Prim.Native.Nat.{ℕ, _+_, _*_, _≤_, _<_}
+use Prim.Native.Nat.{ℕ, _+_, _*_, _≤_}
 use mathlib.Core.Path.{_≡_, sym, ap, _∙_}
 use mathlib.Core.List.{List}
 use native.Mathlib.Omega.{arith}

@@ -2,7 +2,7 @@
 -- with its return nodes pinned to the list; the nodes at a position and the paths of a node are where it stands. Each pair of tests
 -- says the same of embeddings. Assumes nothing.
 use Prim.Native.Nat.{ℕ, _-_, _≤_, _<_}
-use mathlib.Core.Path.{_≡_, refl, sym, ap, ap₂, _∙_}
+use mathlib.Core.Path.{_≡_, refl, sym, ap, ap₂, _∙_, subst}
 use mathlib.Core.Bool.{Bool, true, false}
 use mathlib.Core.Logic.{_⊎_, inl, inr, _↔_}
 use mathlib.Core.List.{List, [], _∷_, map, List·Memᴰ, List·Memᴰ·head, List·Memᴰ·tail}
@@ -27,7 +27,7 @@ use Rattle.format.specs.Given.{treeOf}
 use Rattle.matching.specs.Matching.{partAt, standsAt, resultPin}
 use Rattle.matching.specs.Wanted.{Wants, Unmarked, Marked, markPin}
 use Rattle.matching.specs.Tables.{partTable, standTable, HoldsParts, HoldsStands}
-use Rattle.matching.specs.Outcomes.{inMask}
+use Rattle.matching.specs.Outcomes.{inMask, Written}
 use Rattle.matching.proofs.Parts.{Pin, part-exact}
 use Rattle.matching.proofs.Stands.{Standing, stands-exact}
 use Rattle.matching.proofs.TurnLaws.{front-entry}
@@ -134,11 +134,17 @@ module _ {Q : Pattern} {W : Document} {w : List ℕ} (K : Wants Q w) (width : �
       ∙ sym (result-part Q W (markPin w) (K .tree) T list F n (marked-pin Q list w M))
 
   -- nodes at a position
-  pub nodes-read : {n p q : ℕ} → Unmarked w → PatternFacts Q → IsTree W → 1 ≤ p → p ≤ arity Q → HoldsStands width t w before after → q ≡ nodeAt Q p → n ≡ length W
-      → keep (inMask after q) (upFrom 0 n) ≡ nodesAt Q W p
-  nodes-read {n} {p} {q} U F T low top H e s =
-      ap₂ (λ (x y : ℕ). keep (inMask after x) (upFrom 0 y)) e s
-      ∙ nodes-stand Q W (markPin w) (K .tree) T (free K U) p (inMask after (nodeAt Q p)) (F .holds p low top) (λ v l. stand-bit H v (nodeAt Q p) l (F .holds p low top))
+  pub nodes-read : {n p q r : ℕ} {out : List ℕ} (out₀ : List ℕ) → Unmarked w → PatternFacts Q → IsTree W → 1 ≤ p → p ≤ arity Q → HoldsStands width t w before after
+      → q ≡ nodeAt Q p → n ≡ length W → Written (keep (inMask after q) (upFrom 0 n)) out₀ out r → Written (nodesAt Q W p) out₀ out r
+  nodes-read {n} {p} {q} {r} {out} out₀ U F T low top H e s = subst (λ (l : List ℕ). Written l out₀ out r) listed
+    where
+      inside : nodeAt Q p < length Q
+      inside = F .holds p low top
+
+      listed : keep (inMask after q) (upFrom 0 n) ≡ nodesAt Q W p
+      listed =
+          ap₂ (λ (x y : ℕ). keep (inMask after x) (upFrom 0 y)) e s
+          ∙ nodes-stand Q W (markPin w) (K .tree) T (free K U) p (inMask after (nodeAt Q p)) inside (λ v l. stand-bit H v (nodeAt Q p) l inside)
 
 -- paths
 pub path-read : (S : Summary) {Q : Pattern} {w : List ℕ} → Wants Q w → (width : ℕ) (t before : List ℕ) {after : List ℕ} {n q : ℕ} → Unmarked w

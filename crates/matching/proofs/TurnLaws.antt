@@ -5,18 +5,20 @@ use mathlib.Core.Path.{_≡_, refl, sym, ap, _∙_, subst}
 use mathlib.Core.Bool.{Bool, true, false}
 use mathlib.Core.List.{List, map}
 use native.Mathlib.Omega.{arith}
-use lib.Bits.{bitOr}
+use lib.Bits.{bitAnd, bitOr}
 use lib.Dec.{eqb, ltb}
 use lib.ListN.{length, getD, set, replicate, length-replicate, getD-replicate, List·getD-eq-default}
 use lib.Seq.{ext-getD, getD-set-same, getD-set-other}
 use borrow.Author.Tests.{eqb-true, eqb-false, eq-eqb, ne-eqb, ltb-true, ltb-false}
-use Rattle.model.specs.Lists.{upFrom}
+use Rattle.model.specs.Lists.{upFrom, maskBelow}
+use Rattle.model.specs.Tree.{Document, parentOf, labelOf}
 use Rattle.model.specs.Bytes.{writtenAtFront}
 use Rattle.model.proofs.ListLaws.{length-map-upFrom}
 use Rattle.model.proofs.Bytes.{front-length, front-after}
 use Rattle.format.proofs.RangeLaws.{getD-map-below}
 use Rattle.format.proofs.FrontLaws.{front-getD}
-use Rattle.matching.specs.Tables.{offerUp, leftAt}
+use Rattle.matching.specs.Wanted.{deepIn, countIn, fitsBy}
+use Rattle.matching.specs.Tables.{offerUp, settleAt, leftAt}
 
 module _ (u v offer : ℕ) (t : List ℕ) where
   pub offerUp-root : v ≡ 0 → offerUp u v offer t ≡ t
@@ -26,6 +28,16 @@ module _ (u v offer : ℕ) (t : List ℕ) where
   pub offerUp-parent : (v ≡ 0 → ⊥) → offerUp u v offer t ≡ set t u (bitOr (getD t u 0) offer)
   unfolding offerUp
   offerUp-parent e = rw (ne-eqb v 0 e, offerUp)
+
+-- what the code stores, with the label and the mask that it reads
+pub settle-stored : (W : Document) (w : List ℕ) (v : ℕ) (t : List ℕ) {t′ : List ℕ} {fit deep label : ℕ}
+    → t′ ≡ offerUp (parentOf W v) v (bitOr fit (bitAnd deep (getD t v 0))) (set t v fit) → fit ≡ maskBelow (fitsBy w label (v + 1) (getD t v 0)) (countIn w)
+    → label ≡ labelOf W v → deep ≡ deepIn w → t′ ≡ settleAt W w v t
+unfolding settleAt
+settle-stored W w v t {t′} {fit} {deep} e f l d = e ∙ (λ i. offerUp (parentOf W v) v (bitOr (same i) (bitAnd (d i) (getD t v 0))) (set t v (same i)))
+  where
+    same : fit ≡ maskBelow (fitsBy w (labelOf W v) (v + 1) (getD t v 0)) (countIn w)
+    same = f ∙ ap (λ (x : ℕ). maskBelow (fitsBy w x (v + 1) (getD t v 0)) (countIn w)) l
 
 module _ (u v : ℕ) (left : List ℕ) where
   pub leftAt-root : v ≡ 0 → leftAt u v left ≡ 1

@@ -75,6 +75,10 @@ markAt p list = elim (eqb p 0) [ true ↦ 0 | false ↦ getD list (p - 1) 0 + 1 
 abbrev pub Marked : Pattern → List ℕ → List ℕ → Type 0
 Marked Q list w = (p : ℕ) → p < length Q → markIn w p ≡ markAt (position Q p) list
 
+-- the pattern's block, with the return nodes pinned
+abbrev pub WantsPinned : Pattern → List ℕ → List ℕ → Type 0
+WantsPinned Q list w = Wants Q w × Marked Q list w
+
 -- one more than each of the list's numbers is a mark
 abbrev pub SmallNumbers : List ℕ → Type 0
 SmallNumbers l = (i : ℕ) → i < length (listOf l) → getD (listOf l) i 0 < 65535

@@ -17,7 +17,8 @@ ghost use Rattle.model.specs.Pattern.{patternLabel, patternParent, arity};
 ghost use Rattle.model.specs.Bytes.{listOf};
 ghost use Rattle.model.specs.Facts.{PatternFacts};
 ghost use Rattle.format.specs.Given.{patternAt, PatternGiven};
-ghost use Rattle.matching.specs.Wanted.{deepIn, countIn, labelIn, markIn, kidsIn, parentIn, Wants, Unmarked, Marked, markAt, SmallNumbers, withNode};
+ghost use Rattle.matching.specs.Wanted.{deepIn, countIn, labelIn, markIn, kidsIn, parentIn, Wants, Unmarked, WantsPinned, markAt};
+ghost use Rattle.matching.specs.Wanted.{SmallNumbers, withNode};
 
 pub type Wanted = [u16; 80];
 
@@ -122,7 +123,7 @@ fn mark_at(position: usize, list: &[u8]) -> u16
 pub fn pin(b: &[u8], at: usize, list: &[u8], w: &mut Wanted)
     requires { ⌜ PatternGiven (now b) at × PatternFacts (patternAt (now b) at) × Wants (patternAt (now b) at) (now w) ⌝ }
     requires { ⌜ (length (listOf (now list)) ≡ arity (patternAt (now b) at)) × SmallNumbers (now list) ⌝ }
-    ensures { λ _. ⌜ Wants (patternAt (now (b .entry)) at) (now (w .exit)) × Marked (patternAt (now (b .entry)) at) (listOf (now (list .entry))) (now (w .exit)) ⌝ }
+    ensures { λ _. ⌜ WantsPinned (patternAt (now (b .entry)) at) (listOf (now (list .entry))) (now (w .exit)) ⌝ }
 {
     let m = pattern_count(b, at);
     for q in 0..m {

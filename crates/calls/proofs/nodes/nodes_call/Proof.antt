@@ -1,5 +1,6 @@
 -- `calls::nodes::nodes_call` meets its contract: the model's call goes by the same refusal, which leaves the buffer as it was; else the nodes
 -- fit the column and the buffer, and are what is written. Assumes nothing.
+-- what no question refused
 use Prim.Native.Nat.{_≤_}
 use mathlib.Core.Path.{sym, _∙_, subst}
 use native.Mathlib.Omega.{arith}
@@ -15,15 +16,11 @@ use Rattle.calls.proofs.NumberedLaws.{numbered-facts, given-numbered}
 use Rattle.calls.proofs.nodes.nodes_call.Statement.{statement}
 use Rattle.calls.proofs.nodes.nodes_call.Tie as tie
 
-nodes-refusal-requires : tie.Need-nodes-refusal-requires
-nodes-refusal-requires c κs = search needs
-
 returns : tie.Need-returns
 returns c =
     let a = c .before .before .before .before .before .args in
     nodes-no (a .case .now) (a .number) (a .document .now) (a .position) (a .answer .now) (c .before .nodes-refusal .ensures) (c .if1 .taken)
 
--- what no question refused
 facts : (c : tie.Else1) → (let a = c .before .before .before .before .before .args in NodesFacts (a .case .now) (a .number) (a .document .now) (a .position) (length (a .answer .now)))
 facts c =
     let a = c .before .before .before .before .before .args in
@@ -31,9 +28,6 @@ facts c =
 
 selected-at-requires : tie.Need-selected-at-requires
 selected-at-requires c κs = accepted-whole (facts c .case)
-
-slice-aggregate-nodes-at : tie.Need-slice-aggregate-nodes-at
-slice-aggregate-nodes-at c = search needs
 
 nodes-at-requires : tie.Need-nodes-at-requires
 nodes-at-requires c κs =
@@ -44,9 +38,6 @@ nodes-at-requires c κs =
       (F .positionLow, subst (λ (P : Pattern). a .position ≤ arity P) (selected-pattern (a .case .now) (a .number) _ e) (F .positionHigh), F .document .size),
     )
 
-slice-aggregate-write-counted : tie.Need-slice-aggregate-write-counted
-slice-aggregate-write-counted c = search needs
-
 write-counted-requires : tie.Need-write-counted-requires
 write-counted-requires c κs =
     let F = facts (c .before .before .before .before .before .before) in
@@ -54,25 +45,15 @@ write-counted-requires c κs =
     let few = nodes-few F _ found in
     (omega (arith, few), omega (arith, few), nodes-fit F _ found)
 
-same-length : tie.Need-same-length
-same-length c = search needs
-
 returns-2 : tie.Need-returns-2
 returns-2 c =
-    let a = c .before .before .before .before .before .before .before .before .before .before .before .before .before .before .args in
-    nodes-yes (a .case .now) (a .number) (a .document .now) (a .position) (a .answer .now) (c .before .before .before .before .before .before .before .before .before .before .nodes-refusal .ensures) (c .before .before .before .before .before .before .before .before .before .if1 .left) (replicate 1024 0)
-    (selected-pattern (a .case .now) (a .number) _ (c .before .before .before .before .before .before .before .before .selected-at .ensures)) (c .before .before .before .before .before .before .nodes-at .ensures) (c .before .before .write-counted .ensures .1)
+    let found = c .before .before .before .before .before .before in
+    let picked = found .before .before in
+    let a = picked .before .before .before .before .before .before .args in
+    nodes-yes (a .case .now) (a .number) (a .document .now) (a .position) (a .answer .now) (picked .before .before .nodes-refusal .ensures) (picked .before .if1 .left)
+    (replicate 1024 0) (selected-pattern (a .case .now) (a .number) _ (picked .selected-at .ensures)) (found .nodes-at .ensures) (c .before .before .write-counted .ensures .1)
 
 pub nodes-call-spec : {M : Type 1} → statement M
 nodes-call-spec =
-    tie.close
-    (tie.spec
-    nodes-refusal-requires
-    returns
-    selected-at-requires
-    slice-aggregate-nodes-at
-    nodes-at-requires
-    slice-aggregate-write-counted
-    write-counted-requires
-    same-length
-    returns-2)
+    tie.close (tie.spec (λ c κs. search needs) returns selected-at-requires (λ c. search needs) nodes-at-requires (λ c. search needs)
+    write-counted-requires (λ c. search needs) returns-2)

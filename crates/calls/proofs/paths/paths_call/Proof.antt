@@ -1,5 +1,6 @@
 -- `calls::paths::paths_call` meets its contract: a refusal is the definition's, and an accepted call answers each node's paths and the
 -- number of ones in each mask. Assumes nothing.
+-- what no question refused
 use mathlib.Core.Path.{sym, _∙_}
 use borrow.Author.Needs.{needs}
 use Rattle.model.proofs.Questions.{PathsFacts, accepted-paths}
@@ -11,13 +12,9 @@ use Rattle.calls.proofs.NumberedLaws.{given-numbered}
 use Rattle.calls.proofs.paths.paths_call.Statement.{statement}
 use Rattle.calls.proofs.paths.paths_call.Tie as tie
 
-paths-refusal-requires : tie.Need-paths-refusal-requires
-paths-refusal-requires c κs = search needs
-
 returns : tie.Need-returns
 returns c = let a = c .before .before .before .args in refused-fields (a .case .now) (a .number) (c .before .paths-refusal .ensures) (c .if1 .taken)
 
--- what no question refused
 facts : (c : tie.Else1) → PathsFacts (c .before .before .before .args .case .now) (c .before .before .before .args .number)
 facts c = let a = c .before .before .before .args in accepted-paths (a .case .now) (a .number) (sym (c .before .paths-refusal .ensures) ∙ c .if1 .left)
 
@@ -27,22 +24,13 @@ selected-at-requires c κs = accepted-whole (facts c .case)
 path-masks-requires : tie.Need-path-masks-requires
 path-masks-requires c κs = let F = facts (c .before) in (given-summary (F .case), given-numbered (F .case) (c .before .before .before .before .args .number) (c .selected-at .ensures))
 
-path-counts-requires : tie.Need-path-counts-requires
-path-counts-requires c κs = search needs
-
 returns-2 : tie.Need-returns-2
 returns-2 c =
-    let a = c .before .before .before .before .before .before .before .args in
-    accepted-fields (a .case .now) (a .number) (c .before .before .before .before .before .paths-refusal .ensures) (c .before .before .before .before .if1 .left) (selected-pattern (a .case .now) (a .number) _ (c .before .before .before .selected-at .ensures))
-    (c .before .before .path-masks .ensures) (c .path-counts .ensures)
+    let picked = c .before .before .before in
+    let a = picked .before .before .before .before .args in
+    accepted-fields (a .case .now) (a .number) (picked .before .before .paths-refusal .ensures) (picked .before .if1 .left)
+    (selected-pattern (a .case .now) (a .number) _ (picked .selected-at .ensures)) (c .before .before .path-masks .ensures) (c .path-counts .ensures)
 
 pub paths-call-spec : {M : Type 1} → statement M
 paths-call-spec =
-    tie.close
-    (tie.spec
-    paths-refusal-requires
-    returns
-    selected-at-requires
-    path-masks-requires
-    path-counts-requires
-    returns-2)
+    tie.close (tie.spec (λ c κs. search needs) returns selected-at-requires path-masks-requires (λ c κs. search needs) returns-2)

@@ -1,7 +1,6 @@
 -- `matching::masks::hangs_deep` meets its contract: the root hangs from nothing. Assumes nothing.
 use Prim.Native.Nat.{ℕ}
 use mathlib.Core.Path.{ap}
-use mathlib.Core.Bool.{Bool, _&&_}
 use native.Mathlib.Omega.{arith}
 use lib.Dec.{eqb}
 use borrow.Author.Needs.{needs}
@@ -14,12 +13,9 @@ returns : tie.Need-returns
 unfolding hangsDeep
 returns c = rw (le-ltb 0 (c .before .before .before .args .q .0) (omega arith), hangsDeep)
 
-pattern-edge-requires : tie.Need-pattern-edge-requires
-pattern-edge-requires c κs = search needs
-
 returns-2 : tie.Need-returns-2
 unfolding hangsDeep
 returns-2 c = rw (lt-ltb 0 (c .before .before .before .before .args .q .0) (omega arith), hangsDeep) (ap (λ (x : ℕ). eqb x 1) (c .pattern-edge .ensures))
 
 pub hangs-deep-spec : {M : Type 1} → statement M
-hangs-deep-spec = tie.close (tie.spec returns pattern-edge-requires returns-2)
+hangs-deep-spec = tie.close (tie.spec returns (λ c κs. search needs) returns-2)

@@ -10,39 +10,24 @@ use Rattle.matching.proofs.TurnLaws.{zeros-at}
 use Rattle.matching.proofs.outcomes.is_result.Statement.{statement}
 use Rattle.matching.proofs.outcomes.is_result.Tie as tie
 
-wanted-of-requires : tie.Need-wanted-of-requires
-wanted-of-requires c κs = search needs
-
 pin-requires : tie.Need-pin-requires
-pin-requires c κs = let p = c .before .before .before .before .before .pre in ((p .0 .0, p .0 .1, c .before .wanted-of .ensures .0), (p .1 .count, list-small (p .1) (omega (arith, p .0 .2 .few))))
-
-slice-aggregate-parts : tie.Need-slice-aggregate-parts
-slice-aggregate-parts c = search needs
+pin-requires c κs =
+    let p = c .before .before .before .before .before .pre in
+    ((p .0 .0, p .0 .1, c .before .wanted-of .ensures .0), (p .1 .count, list-small (p .1) (omega (arith, p .0 .2 .few))))
 
 parts-requires : tie.Need-parts-requires
 parts-requires c κs =
     let d = document-as-tree (c .before .before .before .before .before .before .before .before .pre .0 .2) in
     (((maxDocument, d), (_, c .before .before .pin .ensures .0)), (d .few, zeros-at 1024))
 
-array-read-has16 : tie.Need-array-read-has16
-array-read-has16 c = search needs
-
-has16-requires : tie.Need-has16-requires
-has16-requires c κs = search needs
-
 returns : tie.Need-returns
 returns c =
-    let s = c .before .before .before .before .before .before .before .before .before .before .before in
-    result-read (c .before .before .before .before .before .pin .ensures .0) documentWidth (s .args .w .now) _ (tree-document (s .args .w .now)) _ (c .before .before .before .before .before .pin .ensures .1) (s .pre .0 .1) (s .pre .0 .2 .tree) (s .pre .1 .count) (c .before .before .parts .ensures) (c .has16 .ensures)
+    let pinned = c .before .before .before .before .before in
+    let s = pinned .before .before .before .before .before .before in
+    result-read (pinned .pin .ensures .0) documentWidth (s .args .w .now) _ (tree-document (s .args .w .now)) _ (pinned .pin .ensures .1)
+    (s .pre .0 .1) (s .pre .0 .2 .tree) (s .pre .1 .count) (c .before .before .parts .ensures) (c .has16 .ensures)
 
 pub is-result-spec : {M : Type 1} → statement M
 is-result-spec =
-    tie.close
-    (tie.spec
-    wanted-of-requires
-    pin-requires
-    slice-aggregate-parts
-    parts-requires
-    array-read-has16
-    has16-requires
+    tie.close (tie.spec (λ c κs. search needs) pin-requires (λ c. search needs) parts-requires (λ c. search needs) (λ c κs. search needs)
     returns)

@@ -19,27 +19,6 @@ abbrev μ-loop : tie.MeasureT-loop
 loop-holds : tie.Need-loop-holds Inv-loop μ-loop
 loop-holds c = filling-start (λ (k : ℕ). ones (getD (c .args .masks .now) k 0))
 
-mul-count64 : tie.Need-mul-count64 Inv-loop μ-loop
-mul-count64 c = search needs
-
-element-copy-out-count64 : tie.Need-element-copy-out-count64 Inv-loop μ-loop
-element-copy-out-count64 c = search needs
-
-count64-requires : tie.Need-count64-requires Inv-loop μ-loop
-count64-requires c κs = search needs
-
-mul-r : tie.Need-mul-r Inv-loop μ-loop
-mul-r c = search needs
-
-array-write-r : tie.Need-array-write-r Inv-loop μ-loop
-array-write-r c = search needs
-
-add-q : tie.Need-add-q Inv-loop μ-loop
-add-q c = search needs
-
-loop-less : tie.Need-loop-less Inv-loop μ-loop
-loop-less c = search needs
-
 loop-again : tie.Need-loop-again Inv-loop μ-loop
 loop-again c = filling-step _ (c .before .before .before .loop .inv) (search needs) (c .before .before .loop-test .taken) (c .count64 .ensures)
 
@@ -48,17 +27,5 @@ returns c = filling-end _ (c .before .loop .inv) (c .loop-test .left) ∙ fillin
 
 pub path-counts-spec : {M : Type 1} → statement M
 path-counts-spec =
-    tie.close
-    (tie.spec
-    Inv-loop
-    μ-loop
-    loop-holds
-    mul-count64
-    element-copy-out-count64
-    count64-requires
-    mul-r
-    array-write-r
-    add-q
-    loop-less
-    loop-again
-    returns)
+    tie.close (tie.spec Inv-loop μ-loop loop-holds (λ c. search needs) (λ c. search needs) (λ c κs. search needs) (λ c. search needs)
+    (λ c. search needs) (λ c. search needs) (λ c. search needs) loop-again returns)

@@ -23,52 +23,32 @@ Inv-loop case at table n m r₀ q₀ r q = Filling (pathMask (summaryIn case) (p
 abbrev μ-loop : tie.MeasureT-loop
 μ-loop case at table n m r₀ q₀ r q = m - q
 
-wanted-of-requires : tie.Need-wanted-of-requires Inv-loop μ-loop
-wanted-of-requires c κs = search needs
-
-slice-aggregate-stands : tie.Need-slice-aggregate-stands Inv-loop μ-loop
-slice-aggregate-stands c = search needs
-
-slice-aggregate-stands-2 : tie.Need-slice-aggregate-stands-2 Inv-loop μ-loop
-slice-aggregate-stands-2 c = search needs
-
 stands-requires : tie.Need-stands-requires Inv-loop μ-loop
 stands-requires c κs =
     let d = summary-as-tree (c .before .before .before .before .before .pre .0) in
     (((maxSummary, d), (_, c .before .before .before .wanted-of .ensures .0), zeros-at 64), (d .few, d .few))
 
-summary-count-requires : tie.Need-summary-count-requires Inv-loop μ-loop
-summary-count-requires c κs = search needs
-
-pattern-count-requires : tie.Need-pattern-count-requires Inv-loop μ-loop
-pattern-count-requires c κs = search needs
-
 loop-holds : tie.Need-loop-holds Inv-loop μ-loop
 loop-holds c = filling-start _
 
-slice-aggregate-stand-mask : tie.Need-slice-aggregate-stand-mask Inv-loop μ-loop
-slice-aggregate-stand-mask c = search needs
-
 stand-mask-requires : tie.Need-stand-mask-requires Inv-loop μ-loop
-stand-mask-requires c κs = let p = c .before .before .before .before .before .before .before .before .before .before .before .before .before .pre in (omega (arith, c .before .before .before .before .summary-count .ensures .0, p .0 .few), omega (arith, c .before .before .before .before .summary-count .ensures .0, p .0 .few), omega (arith, c .before .before .before .pattern-count .ensures .0, p .1 .few))
-
-mul-r : tie.Need-mul-r Inv-loop μ-loop
-mul-r c = search needs
+stand-mask-requires c κs =
+    let counted = c .before .before .before .before in
+    let p = counted .before .before .before .before .before .before .before .before .before .pre in
+    let n = counted .summary-count .ensures .0 in
+    (omega (arith, n, p .0 .few), omega (arith, n, p .0 .few), omega (arith, c .before .before .before .pattern-count .ensures .0, p .1 .few))
 
 array-write-r : tie.Need-array-write-r Inv-loop μ-loop
 array-write-r c = omega (arith, c .before .before .before .before .before .before .before .before .before .before .before .before .before .before .pre .1 .few)
 
-add-q : tie.Need-add-q Inv-loop μ-loop
-add-q c = search needs
-
-loop-less : tie.Need-loop-less Inv-loop μ-loop
-loop-less c = search needs
-
 loop-again : tie.Need-loop-again Inv-loop μ-loop
 loop-again c =
-    let s = c .before .before .before .before .before .before .before .before .before .before .before .before .before .before in
-    let w = c .before .before .before .before .before .before .before .before .before .before .before .before .wanted-of .ensures in
-    filling-step _ (c .before .before .before .loop .inv) (s .pre .1 .few) (omega arith) (c .stand-mask .ensures ∙ path-read _ (w .0) summaryWidth (s .args .case .now) _ (w .1) (tree-summary (s .args .case .now)) (s .pre .0 .tree) (c .before .before .before .before .before .before .before .before .stands .ensures) (c .before .before .before .before .before .summary-count .ensures .0) (omega arith))
+    let counted = c .before .before .before .before .before in
+    let made = counted .before .before .before .before .before .before .before in
+    let s = made .before .before in
+    filling-step _ (c .before .before .before .loop .inv) (s .pre .1 .few) (omega arith)
+    (c .stand-mask .ensures ∙ path-read _ (made .wanted-of .ensures .0) summaryWidth (s .args .case .now) _ (made .wanted-of .ensures .1) (tree-summary (s .args .case .now))
+    (s .pre .0 .tree) (counted .before .before .before .stands .ensures) (counted .summary-count .ensures .0) (omega arith))
 
 returns : tie.Need-returns Inv-loop μ-loop
 returns c =
@@ -77,22 +57,6 @@ returns c =
 
 pub path-masks-spec : {M : Type 1} → statement M
 path-masks-spec =
-    tie.close
-    (tie.spec
-    Inv-loop
-    μ-loop
-    wanted-of-requires
-    slice-aggregate-stands
-    slice-aggregate-stands-2
-    stands-requires
-    summary-count-requires
-    pattern-count-requires
-    loop-holds
-    slice-aggregate-stand-mask
-    stand-mask-requires
-    mul-r
-    array-write-r
-    add-q
-    loop-less
-    loop-again
-    returns)
+    tie.close (tie.spec Inv-loop μ-loop (λ c κs. search needs) (λ c. search needs) (λ c. search needs) stands-requires
+    (λ c κs. search needs) (λ c κs. search needs) loop-holds (λ c. search needs) stand-mask-requires (λ c. search needs) array-write-r
+    (λ c. search needs) (λ c. search needs) loop-again returns)

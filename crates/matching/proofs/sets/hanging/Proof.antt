@@ -14,23 +14,11 @@ Inv-loop wanted set m r₀ q₀ r q = Inserting (hangsBy wanted set) (countIn wa
 abbrev μ-loop : tie.MeasureT-loop
 μ-loop wanted set m r₀ q₀ r q = m - q
 
-wanted-count-requires : tie.Need-wanted-count-requires Inv-loop μ-loop
-wanted-count-requires c κs = search needs
-
-loop-holds : tie.Need-loop-holds Inv-loop μ-loop
-loop-holds c = inserting-start
-
 hangs-from-requires : tie.Need-hangs-from-requires Inv-loop μ-loop
 hangs-from-requires c κs = (c .before .before .before .pre, omega arith)
 
 insert-if16-requires : tie.Need-insert-if16-requires Inv-loop μ-loop
 insert-if16-requires c κs = omega (arith, c .before .before .before .before .pre .1 .few, c .before .before .before .before .pre .1 .count)
-
-add-q : tie.Need-add-q Inv-loop μ-loop
-add-q c = search needs
-
-loop-less : tie.Need-loop-less Inv-loop μ-loop
-loop-less c = search needs
 
 loop-again : tie.Need-loop-again Inv-loop μ-loop
 loop-again c = inserting-step (c .before .hangs-from .result) (c .before .before .before .loop .inv) (omega arith) (c .before .hangs-from .ensures) (c .insert-if16 .ensures)
@@ -40,15 +28,5 @@ returns c = inserting-end (c .before .loop .inv) (omega arith)
 
 pub hanging-spec : {M : Type 1} → statement M
 hanging-spec =
-    tie.close
-    (tie.spec
-    Inv-loop
-    μ-loop
-    wanted-count-requires
-    loop-holds
-    hangs-from-requires
-    insert-if16-requires
-    add-q
-    loop-less
-    loop-again
-    returns)
+    tie.close (tie.spec Inv-loop μ-loop (λ c κs. search needs) (λ c. inserting-start) hangs-from-requires insert-if16-requires
+    (λ c. search needs) (λ c. search needs) loop-again returns)

@@ -5,9 +5,6 @@ use Rattle.matching.specs.Wanted.{markFits}
 use Rattle.matching.proofs.sets.mark_fits.Statement.{statement}
 use Rattle.matching.proofs.sets.mark_fits.Tie as tie
 
-wide-requires : tie.Need-wide-requires
-wide-requires c κs = search needs
-
 returns : tie.Need-returns
 unfolding markFits
 returns c = simp (eq-eqb _ _ (c .if1 .taken))
@@ -17,4 +14,4 @@ unfolding markFits
 returns-2 c = simp (ne-eqb _ _ (c .before .if1 .left), c .wide .ensures .0)
 
 pub mark-fits-spec : {M : Type 1} → statement M
-mark-fits-spec = tie.close (tie.spec wide-requires returns returns-2)
+mark-fits-spec = tie.close (tie.spec (λ c κs. search needs) returns returns-2)

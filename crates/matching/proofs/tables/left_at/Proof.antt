@@ -17,9 +17,6 @@ earlier c =
 returns : tie.Need-returns
 returns c = sym (leftAt-root _ (c .before .before .before .args .v) _ (c .if1 .taken))
 
-tree-parent-requires : tie.Need-tree-parent-requires
-tree-parent-requires c κs = search needs
-
 mul-result : tie.Need-mul-result
 mul-result c = omega (arith, earlier c)
 
@@ -32,5 +29,4 @@ returns-2 c =
     ap (λ (u : ℕ). getD (s .left .now) u 0) (c .before .tree-parent .ensures) ∙ sym (leftAt-parent _ (s .v) (s .left .now) (c .before .before .if1 .left))
 
 pub left-at-spec : {M : Type 1} → statement M
-left-at-spec =
-    tie.close (tie.spec returns tree-parent-requires mul-result shared-slice-read-result returns-2)
+left-at-spec = tie.close (tie.spec returns (λ c κs. search needs) mul-result shared-slice-read-result returns-2)

@@ -18,9 +18,6 @@ earlier c =
 returns : tie.Need-returns
 returns c = sym (offerUp-root _ (c .before .before .before .args .v) _ _ (c .if1 .taken))
 
-tree-parent-requires : tie.Need-tree-parent-requires
-tree-parent-requires c κs = search needs
-
 mul-table : tie.Need-mul-table
 mul-table c = omega (arith, earlier c)
 
@@ -33,9 +30,6 @@ mul-table-2 c = omega (arith, earlier (c .before))
 slice-write-table : tie.Need-slice-write-table
 slice-write-table c = omega (arith, earlier (c .before), c .before .before .before .before .before .pre .2)
 
-same-length : tie.Need-same-length
-same-length c = search needs
-
 returns-2 : tie.Need-returns-2
 returns-2 c =
     let s = c .before .before .before .before .before .args in
@@ -44,13 +38,5 @@ returns-2 c =
 
 pub offer-up-spec : {M : Type 1} → statement M
 offer-up-spec =
-    tie.close
-    (tie.spec
-    returns
-    tree-parent-requires
-    mul-table
-    slice-read-table
-    mul-table-2
-    slice-write-table
-    same-length
+    tie.close (tie.spec returns (λ c κs. search needs) mul-table slice-read-table mul-table-2 slice-write-table (λ c. search needs)
     returns-2)

@@ -16,14 +16,8 @@ Inv-loop t width wanted table₀ v₀ table v = (Q : Pattern) → Wants Q wanted
 abbrev μ-loop : tie.MeasureT-loop
 μ-loop t width wanted table₀ v₀ table v = v
 
-tree-count-requires : tie.Need-tree-count-requires Inv-loop μ-loop
-tree-count-requires c κs = search needs
-
 loop-holds : tie.Need-loop-holds Inv-loop μ-loop
 loop-holds c = λ Q K. settling-start _ _ _ _ (c .before .before .before .pre .1 .1) (c .tree-count .ensures .0)
-
-sub-v : tie.Need-sub-v Inv-loop μ-loop
-sub-v c = search needs
 
 settle-requires : tie.Need-settle-requires Inv-loop μ-loop
 settle-requires c κs =
@@ -31,11 +25,11 @@ settle-requires c κs =
     let k = c .before .before .loop .inv (s .pre .0 .1 .0) (s .pre .0 .1 .1) in
     (s .pre .0 .0, omega (arith, k .turns), omega (arith, k .turns, k .size, s .pre .1 .0), s .pre .0 .1)
 
-loop-less : tie.Need-loop-less Inv-loop μ-loop
-loop-less c = search needs
-
 loop-again : tie.Need-loop-again Inv-loop μ-loop
-loop-again c = λ Q K. settling-step (c .before .before .before .before .before .loop .v - 1) K (c .before .before .before .before .before .before .before .before .before .pre .0 .0 .1 .tree) (c .before .before .before .before .before .before .before .before .before .pre .1 .0) (c .before .before .before .before .before .loop .inv Q K) (omega arith) (c .before .before .settle .ensures)
+loop-again c =
+    let turn = c .before .before .before .before .before in
+    let s = turn .before .before .before .before in
+    λ Q K. settling-step (turn .loop .v - 1) K (s .pre .0 .0 .1 .tree) (s .pre .1 .0) (turn .loop .inv Q K) (omega arith) (c .before .before .settle .ensures)
 
 same-length : tie.Need-same-length Inv-loop μ-loop
 same-length c = let k = c .before .before .before .before .before .pre .0 .1 in c .before .loop .inv (k .0) (k .1) .size
@@ -45,15 +39,5 @@ returns c = λ Q K. settling-end (c .before .loop .inv Q K) (omega arith) (c .be
 
 pub parts-spec : {M : Type 1} → statement M
 parts-spec =
-    tie.close
-    (tie.spec
-    Inv-loop
-    μ-loop
-    tree-count-requires
-    loop-holds
-    sub-v
-    settle-requires
-    loop-less
-    loop-again
-    same-length
-    returns)
+    tie.close (tie.spec Inv-loop μ-loop (λ c κs. search needs) loop-holds (λ c. search needs) settle-requires (λ c. search needs) loop-again
+    same-length returns)

@@ -17,61 +17,51 @@ Inv-loop t width wanted table₀ left₀ n v₀ table left v = (Q : Pattern) →
 abbrev μ-loop : tie.MeasureT-loop
 μ-loop t width wanted table₀ left₀ n v₀ table left v = n - v
 
-parts-requires : tie.Need-parts-requires Inv-loop μ-loop
-parts-requires c κs = search needs
-
-tree-count-requires : tie.Need-tree-count-requires Inv-loop μ-loop
-tree-count-requires c κs = search needs
-
 loop-holds : tie.Need-loop-holds Inv-loop μ-loop
 loop-holds c = λ Q K. descending-start _ _ _ _ _
 
 left-at-requires : tie.Need-left-at-requires Inv-loop μ-loop
 left-at-requires c κs =
-    let s = c .before .before .before .before .before .before .before .before .before .before .before in
+    let counted = c .before .before .before in
+    let s = counted .before .before .before .before .before .before .before .before in
     let k = c .before .before .loop .inv (s .pre .0 .1 .0) (s .pre .0 .1 .1) in
-    (s .pre .0 .0, omega (arith, c .before .before .before .tree-count .ensures .0), omega (arith, c .before .before .before .tree-count .ensures .0, k .leftSize, s .pre .1 .1))
+    let n = counted .tree-count .ensures .0 in
+    (s .pre .0 .0, omega (arith, n), omega (arith, n, k .leftSize, s .pre .1 .1))
 
 descend-requires : tie.Need-descend-requires Inv-loop μ-loop
 descend-requires c κs =
-    let s = c .before .before .before .before .before .before .before .before .before .before .before .before .before .before in
+    let counted = c .before .before .before .before .before .before in
+    let s = counted .before .before .before .before .before .before .before .before in
     let k = c .before .before .before .before .before .loop .inv (s .pre .0 .1 .0) (s .pre .0 .1 .1) in
-    (omega (arith, c .before .before .before .before .before .before .tree-count .ensures .0, k .size, c .before .before .before .before .before .before .before .before .before .parts .kept .1 .1 .1 .0, s .pre .1 .0), omega (arith, c .before .before .before .before .before .before .tree-count .ensures .0, k .leftSize, s .pre .1 .1), s .pre .0 .1)
-
-add-v : tie.Need-add-v Inv-loop μ-loop
-add-v c = search needs
-
-loop-less : tie.Need-loop-less Inv-loop μ-loop
-loop-less c = search needs
+    let n = counted .tree-count .ensures .0 in
+    (omega (arith, n, k .size, counted .before .before .before .parts .kept .1 .1 .1 .0, s .pre .1 .0), omega (arith, n, k .leftSize, s .pre .1 .1), s .pre .0 .1)
 
 loop-again : tie.Need-loop-again Inv-loop μ-loop
 loop-again c =
-    let s = c .before .before .before .before .before .before .before .before .before .before .before .before .before .before .before .before .before .before .before in
-    λ Q K. descending-step (c .before .before .before .before .before .before .before .left-at .result) (s .args .table .now) K (s .pre .0 .0 .1 .tree) (s .pre .1 .0) (s .pre .1 .1) (c .before .before .before .before .before .before .before .before .before .before .before .before .before .before .parts .ensures Q K) (c .before .before .before .before .before .before .before .before .before .before .loop .inv Q K) (omega (arith, c .before .before .before .before .before .before .before .before .before .loop-test .taken, c .before .before .before .before .before .before .before .before .before .before .before .tree-count .ensures .0)) (c .before .before .before .before .before .before .before .left-at .ensures) (c .before .before .before .before .descend .ensures .0) (c .before .before .before .before .descend .ensures .1)
+    let asked = c .before .before .before .before .before .before .before in
+    let counted = asked .before .before .before .before in
+    let s = counted .before .before .before .before .before .before .before .before in
+    λ Q K. descending-step (asked .left-at .result) (s .args .table .now) K (s .pre .0 .0 .1 .tree) (s .pre .1 .0) (s .pre .1 .1)
+    (counted .before .before .before .parts .ensures Q K) (asked .before .before .before .loop .inv Q K) (omega (arith, asked .before .before .loop-test .taken, counted .tree-count .ensures .0))
+    (asked .left-at .ensures) (c .before .before .before .before .descend .ensures .0) (c .before .before .before .before .descend .ensures .1)
 
 same-length : tie.Need-same-length Inv-loop μ-loop
-same-length c = let k = c .before .before .before .before .before .before .before .before .before .before .pre .0 .1 in c .before .loop .inv (k .0) (k .1) .size ∙ c .before .before .before .before .before .parts .kept .1 .1 .1 .0
+same-length c =
+    let filled = c .before .before .before .before .before in
+    let k = filled .before .before .before .before .before .pre .0 .1 in
+    c .before .loop .inv (k .0) (k .1) .size ∙ filled .parts .kept .1 .1 .1 .0
 
 same-length-2 : tie.Need-same-length-2 Inv-loop μ-loop
 same-length-2 c = let k = c .before .before .before .before .before .before .before .before .before .before .pre .0 .1 in c .before .loop .inv (k .0) (k .1) .leftSize
 
 returns : tie.Need-returns Inv-loop μ-loop
-returns c = let s = c .before .before .before .before .before .before .before .before .before .before in λ Q K. descending-end (s .args .table .now) (c .before .loop .inv Q K) (omega (arith, c .loop-test .left, c .before .before .tree-count .ensures .0)) (s .pre .1 .0) (c .before .before .before .before .before .parts .ensures Q K)
+returns c =
+    let filled = c .before .before .before .before .before in
+    let s = filled .before .before .before .before .before in
+    λ Q K. descending-end (s .args .table .now) (c .before .loop .inv Q K) (omega (arith, c .loop-test .left, c .before .before .tree-count .ensures .0)) (s .pre .1 .0)
+    (filled .parts .ensures Q K)
 
 pub stands-spec : {M : Type 1} → statement M
 stands-spec =
-    tie.close
-    (tie.spec
-    Inv-loop
-    μ-loop
-    parts-requires
-    tree-count-requires
-    loop-holds
-    left-at-requires
-    descend-requires
-    add-v
-    loop-less
-    loop-again
-    same-length
-    same-length-2
-    returns)
+    tie.close (tie.spec Inv-loop μ-loop (λ c κs. search needs) (λ c κs. search needs) loop-holds left-at-requires descend-requires
+    (λ c. search needs) (λ c. search needs) loop-again same-length same-length-2 returns)

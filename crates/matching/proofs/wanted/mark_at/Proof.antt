@@ -11,28 +11,22 @@ use Rattle.matching.proofs.wanted.mark_at.Tie as tie
 returns : tie.Need-returns
 returns c = sym (mark-none (c .before .before .args .position) _ (c .if1 .taken))
 
-sub-field : tie.Need-sub-field
-sub-field c = search needs
-
 field-requires : tie.Need-field-requires
 field-requires c κs = let s = c .before .before in omega (arith, s .pre .0, list-count (s .args .list .now))
-
-add-result : tie.Need-add-result
-add-result c = search needs
 
 cast-result : tie.Need-cast-result
 cast-result c =
     let s = c .before .before .before in
-    let n = list-count (s .args .list .now) in
-    omega (arith, c .field .ensures .0, list-entry (s .args .list .now) (s .args .position - 1) (omega (arith, s .pre .0, n)), s .pre .1 (s .args .position - 1) (omega (arith, s .pre .0)))
+    let list = s .args .list .now in
+    let i = s .args .position - 1 in
+    omega (arith, c .field .ensures .0, list-entry list i (omega (arith, s .pre .0, list-count list)), s .pre .1 i (omega (arith, s .pre .0)))
 
 returns-2 : tie.Need-returns-2
 returns-2 c =
     let s = c .before .before .before in
-    let n = list-count (s .args .list .now) in
-    ap (λ (x : ℕ). x + 1) (c .field .ensures .0 ∙ sym (list-entry (s .args .list .now) (s .args .position - 1) (omega (arith, s .pre .0, n))))
+    let list = s .args .list .now in
+    ap (λ (x : ℕ). x + 1) (c .field .ensures .0 ∙ sym (list-entry list (s .args .position - 1) (omega (arith, s .pre .0, list-count list))))
     ∙ sym (mark-some (s .args .position) _ (c .before .if1 .left))
 
 pub mark-at-spec : {M : Type 1} → statement M
-mark-at-spec =
-    tie.close (tie.spec returns sub-field field-requires add-result cast-result returns-2)
+mark-at-spec = tie.close (tie.spec returns (λ c. search needs) field-requires (λ c. search needs) cast-result returns-2)
