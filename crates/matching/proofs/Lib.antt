@@ -1,8 +1,8 @@
 pub mod PartLaws
 pub mod Parts
 pub mod Stands
-pub mod MaskLoops
 pub mod TurnLaws
+pub mod MaskLoops
 pub mod WantedLaws
 pub mod Answers
 pub mod PartLoop

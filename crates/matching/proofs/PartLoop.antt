@@ -149,7 +149,7 @@ module _ {Q : Pattern} {W : Document} {pin : ℕ → ℕ → Bool} {t₀ t : Lis
         go true e = subst (λ (x : ℕ). getD (set t v fit) x 0 ≡ maskBelow (partAt Q W pin x) (length Q)) (sym (eqb-true w v e)) (set-here t v fit rows ∙ f)
         go false e =
             let ne : (w ≡ v) → ⊥ = eqb-false w v e in
-            set-else t v fit rows w ne ∙ s .settled w (omega arith) h
+            set-else t v fit w ne ∙ s .settled w (omega arith) h
 
     -- the root offers to nobody
     step-root : v ≡ 0 → Settling Q W pin t₀ (set t v fit) v
@@ -159,7 +159,7 @@ module _ {Q : Pattern} {W : Document} {pin : ℕ → ℕ → Bool} {t₀ t : Lis
           size = length-set t v fit ∙ s .size;
           settled = settled-here;
           waiting = λ w h. absurd (omega arith);
-          after = λ w h. set-else t v fit rows w (λ e. omega (arith, inside)) ∙ s .after w h;
+          after = λ w h. set-else t v fit w (λ e. omega (arith, inside)) ∙ s .after w h;
         }
 
     step-parent : 0 < v → Settling Q W pin t₀ (set (set t v fit) (parentOf W v) (bitOr (getD (set t v fit) (parentOf W v) 0) offer)) v
@@ -169,7 +169,7 @@ module _ {Q : Pattern} {W : Document} {pin : ℕ → ℕ → Bool} {t₀ t : Lis
           size = length-set (set t v fit) u x ∙ length-set t v fit ∙ s .size;
           settled = λ w a h. other w (λ e. omega (arith, before)) ∙ settled-here w a h;
           waiting = λ w h. waiting w h (eqb w u) refl;
-          after = λ w h. other w (λ e. omega (arith, before, inside)) ∙ set-else t v fit rows w (λ e. omega (arith, inside)) ∙ s .after w h;
+          after = λ w h. other w (λ e. omega (arith, before, inside)) ∙ set-else t v fit w (λ e. omega (arith, inside)) ∙ s .after w h;
         }
       where
         u : ℕ
@@ -185,17 +185,17 @@ module _ {Q : Pattern} {W : Document} {pin : ℕ → ℕ → Bool} {t₀ t : Lis
         rows′ = omega (arith, length-set t v fit, before, rows)
 
         other : (w : ℕ) → (w ≡ u → ⊥) → getD (set (set t v fit) u x) w 0 ≡ getD (set t v fit) w 0
-        other w ne = set-else (set t v fit) u x rows′ w ne
+        other w ne = set-else (set t v fit) u x w ne
 
         waiting : (w : ℕ) → w < v → (b : Bool) → eqb w u ≡ b → getD (set (set t v fit) u x) w 0 ≡ maskBelow (offeredFrom Q W pin v w) (length Q)
         waiting w h true e =
             let a : u < v = before in
             let k : w ≡ u = eqb-true w u e in
             subst (λ (y : ℕ). getD (set (set t v fit) u x) y 0 ≡ maskBelow (offeredFrom Q W pin v y) (length Q)) (sym k)
-            (set-here (set t v fit) u x rows′ ∙ ap (λ (y : ℕ). bitOr y offer) (set-else t v fit rows u (λ q. omega arith) ∙ s .waiting u (omega arith)) ∙ takes z offer o)
+            (set-here (set t v fit) u x rows′ ∙ ap (λ (y : ℕ). bitOr y offer) (set-else t v fit u (λ q. omega arith) ∙ s .waiting u (omega arith)) ∙ takes z offer o)
         waiting w h false e =
             let ne : (w ≡ u) → ⊥ = eqb-false w u e in
-            other w ne ∙ set-else t v fit rows w (λ q. omega arith) ∙ s .waiting w (omega arith) ∙ waits w ne
+            other w ne ∙ set-else t v fit w (λ q. omega arith) ∙ s .waiting w (omega arith) ∙ waits w ne
 
 -- the turn that the code takes
 pub settling-step : {Q : Pattern} {W : Document} {w t₀ t t′ : List ℕ} {i : ℕ} (v : ℕ) → Wants Q w → IsTree W → length W ≤ length t₀

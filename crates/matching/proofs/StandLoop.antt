@@ -58,11 +58,11 @@ module _ {Q : Pattern} {W : Document} {pin : ℕ → ℕ → Bool} {t₀ left₀
         turns = omega arith;
         size = length-set t v x ∙ d .size;
         leftSize = length-set left v y ∙ d .leftSize;
-        stand = up-to (λ w. getD (set t v x) w 0 ≡ maskBelow (standsAt Q W pin w) (length Q)) v (set-here t v x row ∙ stand) (λ w ne h. set-else t v x row w ne ∙ d .stand w h);
+        stand = up-to (λ w. getD (set t v x) w 0 ≡ maskBelow (standsAt Q W pin w) (length Q)) v (set-here t v x row ∙ stand) (λ w ne h. set-else t v x w ne ∙ d .stand w h);
         leave =
             up-to (λ w. getD (set left v y) w 0 ≡ maskBelow (leaves Q W pin w (leftTo Q W pin w)) (length Q)) v (set-here left v y leftRow ∙ leave)
-            (λ w ne h. set-else left v y leftRow w ne ∙ d .leave w h);
-        after = λ w h. set-else t v x row w (λ e. omega arith) ∙ d .after w (omega arith);
+            (λ w ne h. set-else left v y w ne ∙ d .leave w h);
+        after = λ w h. set-else t v x w (λ e. omega arith) ∙ d .after w (omega arith);
       }
 
 -- the turn that the code takes

@@ -88,12 +88,11 @@ zeros-at k i = go (ltb i k) refl
     go false e = List·getD-eq-default (replicate {A = ℕ} k 0) 0 (omega (arith, length-replicate {A = ℕ} k 0, ltb-false i k e))
 
 -- the entry of v, and no other, becomes x
-module _ (t : List ℕ) (v x : ℕ) (h : v < length t) where
-  pub set-here : getD (set t v x) v 0 ≡ x
-  set-here = getD-set-same t v x 0 h
+pub set-here : (t : List ℕ) (v x : ℕ) → v < length t → getD (set t v x) v 0 ≡ x
+set-here t v x h = getD-set-same t v x 0 h
 
-  pub set-else : (w : ℕ) → (w ≡ v → ⊥) → getD (set t v x) w 0 ≡ getD t w 0
-  set-else w ne = getD-set-other t v w x 0 ne
+pub set-else : (t : List ℕ) (v x w : ℕ) → (w ≡ v → ⊥) → getD (set t v x) w 0 ≡ getD t w 0
+set-else t v x w ne = getD-set-other t v w x 0 ne
 
 -- a property of the entries before v, and of v's, is one of those before v + 1
 pub up-to : (P : ℕ → Type 0) (v : ℕ) → P v → ((w : ℕ) → (w ≡ v → ⊥) → w < v → P w) → (w : ℕ) → w < v + 1 → P w

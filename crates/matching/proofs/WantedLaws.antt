@@ -18,7 +18,7 @@ use Rattle.model.proofs.Masks.{has, mask-below}
 use Rattle.bits.proofs.MaskLaws.{mask-agree, mask-and, mask-or, subset-all}
 use Rattle.matching.specs.Matching.{hangsDeep, childrenIn, fitsAt, offersAt, partAt, leaves, resultPin}
 use Rattle.matching.specs.Masks.{kidMasks}
-use Rattle.matching.specs.Wanted.{deepIn, countIn, markIn, kidsIn, parentIn, Wants, markFits, markPin, markAt, Marked, Unmarked, fitsBy, hangsBy, withNode}
+use Rattle.matching.specs.Wanted.{deepIn, countIn, labelIn, markIn, kidsIn, parentIn, Wants, markFits, markPin, markAt, Marked, Unmarked, fitsBy, hangsBy, withNode}
 use Rattle.matching.specs.Tables.{leaveAt}
 use Rattle.matching.proofs.MaskLoops.{getD-kidMasks}
 use Rattle.matching.proofs.TurnLaws.{set-here, set-else, up-to, zeros-at}
@@ -31,24 +31,6 @@ rooted-small {n} {parent} R q h = go (ltb 0 q) refl
     go true e = let k = R .earlier q (ltb-true 0 q e) h in omega arith
     go false e = let z : q ≡ 0 = omega (arith, ltb-false 0 q e) in subst (λ (x : ℕ). parent x < n) (sym z) (omega (arith, R .root))
 
--- ---- stores to a block
-
--- the first q entries from o on are f's
-pub record Region (o : ℕ) (f : ℕ → ℕ) (w : List ℕ) (q : ℕ) : Type 0 where
-  pub entry : (p : ℕ) → p < q → getD w (o + p) 0 ≡ f p
-
-module _ {o : ℕ} {f : ℕ → ℕ} {w : List ℕ} {q : ℕ} (r : Region o f w q) where
-  region-put : (x : ℕ) → o + q < length w → x ≡ f q → Region o f (set w (o + q) x) (q + 1)
-  region-put x h e =
-      record {
-        entry =
-            up-to (λ p. getD (set w (o + q) x) (o + p) 0 ≡ f p) q (set-here w (o + q) x h ∙ e)
-            (λ p ne l. set-else w (o + q) x h (o + p) (λ k. ne (omega arith)) ∙ r .entry p l);
-      }
-
-  region-keep : (i x : ℕ) → i < length w → ((p : ℕ) → p < q → o + p ≡ i → ⊥) → Region o f (set w i x) q
-  region-keep i x h apart = record { entry = λ p l. set-else w i x h (o + p) (apart p l) ∙ r .entry p l }
-
 -- ---- making it
 
 -- what is wanted of the nodes below q is in, and no node is marked
@@ -57,26 +39,26 @@ pub record Making (P : Pattern) (w : List ℕ) (q : ℕ) : Type 0 where
   pub size : length w ≡ 80
   pub deep : deepIn w ≡ maskBelow (hangsDeep P) (length P)
   pub count : countIn w ≡ length P
-  pub labels : Region 16 (patternLabel P) w q
-  pub kids : Region 48 (λ p. maskBelow (hangsFrom P p) (length P)) w q
-  pub parents : Region 64 (patternParent P) w q
-  pub unmarked : Region 32 (λ p. 0) w 16
+  pub labels : (p : ℕ) → p < q → labelIn w p ≡ patternLabel P p
+  pub kids : (p : ℕ) → p < q → kidsIn w p ≡ maskBelow (hangsFrom P p) (length P)
+  pub parents : (p : ℕ) → p < q → parentIn w p ≡ patternParent P p
+  pub unmarked : Unmarked w
 
 module _ {P : Pattern} where
   pub making-start : {deep m : ℕ} → deep ≡ maskBelow (hangsDeep P) (length P) → m ≡ length P → Making P (set (set (replicate 80 0) 0 deep) 1 m) 0
   making-start {deep} {m} d e =
-      let size : length (replicate {A = ℕ} 80 0) ≡ 80 = length-replicate {A = ℕ} 80 0 in
-      let zeros : Region 32 (λ p. 0) (replicate {A = ℕ} 80 0) 16 = record { entry = λ p h. zeros-at 80 (32 + p) } in
-      let size′ : length (set (replicate {A = ℕ} 80 0) 0 deep) ≡ 80 = length-set (replicate 80 0) 0 deep ∙ size in
+      let z : List ℕ = replicate {A = ℕ} 80 0 in
+      let size : length z ≡ 80 = length-replicate {A = ℕ} 80 0 in
+      let size′ : length (set z 0 deep) ≡ 80 = length-set z 0 deep ∙ size in
       record {
         turns = omega arith;
-        size = length-set (set (replicate 80 0) 0 deep) 1 m ∙ size′;
-        deep = set-else (set (replicate 80 0) 0 deep) 1 m (omega arith) 0 (λ k. omega arith) ∙ set-here (replicate 80 0) 0 deep (omega arith) ∙ d;
-        count = set-here (set (replicate 80 0) 0 deep) 1 m (omega arith) ∙ e;
-        labels = record { entry = λ p h. absurd (omega arith) };
-        kids = record { entry = λ p h. absurd (omega arith) };
-        parents = record { entry = λ p h. absurd (omega arith) };
-        unmarked = region-keep (region-keep zeros 0 deep (omega arith) (λ p h k. omega arith)) 1 m (omega arith) (λ p h k. omega arith);
+        size = length-set (set z 0 deep) 1 m ∙ size′;
+        deep = set-else (set z 0 deep) 1 m 0 (λ k. omega arith) ∙ set-here z 0 deep (omega arith) ∙ d;
+        count = set-here (set z 0 deep) 1 m (omega arith) ∙ e;
+        labels = λ p h. absurd (omega arith);
+        kids = λ p h. absurd (omega arith);
+        parents = λ p h. absurd (omega arith);
+        unmarked = λ p h. set-else (set z 0 deep) 1 m (32 + p) (λ k. omega arith) ∙ set-else z 0 deep (32 + p) (λ k. omega arith) ∙ zeros-at 80 (32 + p);
       }
 
   pub making-step : {w kids w′ : List ℕ} {q : ℕ} → Making P w q → q < length P → length P ≤ 16 → kids ≡ kidMasks P → w′ ≡ withNode P kids q w → Making P w′ (q + 1)
@@ -84,12 +66,20 @@ module _ {P : Pattern} where
       subst (λ (x : List ℕ). Making P x (q + 1)) (sym new) (record {
         turns = omega arith;
         size = length-set w₂ (64 + q) a ∙ size₂;
-        deep = past 0 (omega arith) ∙ M .deep;
-        count = past 1 (omega arith) ∙ M .count;
-        labels = third (second (region-put (M .labels) l in₀ refl) (λ p i j. omega arith)) (λ p i j. omega arith);
-        kids = third (region-put (first (M .kids) (λ p i j. omega arith)) k in₁ (ap (λ (x : List ℕ). getD x q 0) e ∙ getD-kidMasks P q (omega arith))) (λ p i j. omega arith);
-        parents = region-put (second (first (M .parents) (λ p i j. omega arith)) (λ p i j. omega arith)) a in₂ refl;
-        unmarked = third (second (first (M .unmarked) (λ p i j. omega arith)) (λ p i j. omega arith)) (λ p i j. omega arith);
+        deep = kept 0 (λ i. omega arith) (λ i. omega arith) (λ i. omega arith) ∙ M .deep;
+        count = kept 1 (λ i. omega arith) (λ i. omega arith) (λ i. omega arith) ∙ M .count;
+        labels =
+            up-to (λ p. labelIn w₃ p ≡ patternLabel P p) q
+            (set-else w₂ (64 + q) a (16 + q) (λ i. omega arith) ∙ set-else w₁ (48 + q) k (16 + q) (λ i. omega arith) ∙ set-here w (16 + q) l (omega (arith, M .size)))
+            (λ p ne i. kept (16 + p) (λ j. ne (omega arith)) (λ j. omega arith) (λ j. omega arith) ∙ M .labels p i);
+        kids =
+            up-to (λ p. kidsIn w₃ p ≡ maskBelow (hangsFrom P p) (length P)) q
+            (set-else w₂ (64 + q) a (48 + q) (λ i. omega arith) ∙ set-here w₁ (48 + q) k (omega (arith, size₁)) ∙ ap (λ (x : List ℕ). getD x q 0) e ∙ getD-kidMasks P q (omega arith))
+            (λ p ne i. kept (48 + p) (λ j. omega arith) (λ j. ne (omega arith)) (λ j. omega arith) ∙ M .kids p i);
+        parents =
+            up-to (λ p. parentIn w₃ p ≡ patternParent P p) q (set-here w₂ (64 + q) a (omega (arith, size₂)))
+            (λ p ne i. kept (64 + p) (λ j. omega arith) (λ j. omega arith) (λ j. ne (omega arith)) ∙ M .parents p i);
+        unmarked = λ p i. kept (32 + p) (λ j. omega arith) (λ j. omega arith) (λ j. omega arith) ∙ M .unmarked p i;
       })
     where
       l : ℕ
@@ -107,32 +97,18 @@ module _ {P : Pattern} where
       w₂ : List ℕ
       w₂ = set w₁ (48 + q) k
 
+      w₃ : List ℕ
+      w₃ = set w₂ (64 + q) a
+
       size₁ : length w₁ ≡ 80
       size₁ = length-set w (16 + q) l ∙ M .size
 
       size₂ : length w₂ ≡ 80
       size₂ = length-set w₁ (48 + q) k ∙ size₁
 
-      in₀ : 16 + q < length w
-      in₀ = omega (arith, M .size)
-
-      in₁ : 48 + q < length w₁
-      in₁ = omega (arith, size₁)
-
-      in₂ : 64 + q < length w₂
-      in₂ = omega (arith, size₂)
-
-      first : {o n : ℕ} {f : ℕ → ℕ} → Region o f w n → ((p : ℕ) → p < n → o + p ≡ 16 + q → ⊥) → Region o f w₁ n
-      first r apart = region-keep r (16 + q) l in₀ apart
-
-      second : {o n : ℕ} {f : ℕ → ℕ} → Region o f w₁ n → ((p : ℕ) → p < n → o + p ≡ 48 + q → ⊥) → Region o f w₂ n
-      second r apart = region-keep r (48 + q) k in₁ apart
-
-      third : {o n : ℕ} {f : ℕ → ℕ} → Region o f w₂ n → ((p : ℕ) → p < n → o + p ≡ 64 + q → ⊥) → Region o f (set w₂ (64 + q) a) n
-      third r apart = region-keep r (64 + q) a in₂ apart
-
-      past : (i : ℕ) → i < 16 → getD (set w₂ (64 + q) a) i 0 ≡ getD w i 0
-      past i j = set-else w₂ (64 + q) a in₂ i (λ x. omega arith) ∙ set-else w₁ (48 + q) k in₁ i (λ x. omega arith) ∙ set-else w (16 + q) l in₀ i (λ x. omega arith)
+      -- the three stores leave the other entries alone
+      kept : (i : ℕ) → (i ≡ 16 + q → ⊥) → (i ≡ 48 + q → ⊥) → (i ≡ 64 + q → ⊥) → getD w₃ i 0 ≡ getD w i 0
+      kept i x y z = set-else w₂ (64 + q) a i z ∙ set-else w₁ (48 + q) k i y ∙ set-else w (16 + q) l i x
 
   pub making-end : {w : List ℕ} {q : ℕ} → Making P w q → length P ≤ q → IsPatternTree P → length P ≤ 16 → Wants P w × Unmarked w
   making-end {w} {q} M h t few = (
@@ -142,11 +118,11 @@ module _ {P : Pattern} where
       size = M .size;
       deep = M .deep;
       count = M .count;
-      labels = λ p l. M .labels .entry p (omega arith);
-      kids = λ p l. M .kids .entry p (omega arith);
-      parents = λ p l. M .parents .entry p (omega arith);
+      labels = λ p l. M .labels p (omega arith);
+      kids = λ p l. M .kids p (omega arith);
+      parents = λ p l. M .parents p (omega arith);
     },
-    M .unmarked .entry,
+    M .unmarked,
   )
 
 -- ---- marking
@@ -155,11 +131,11 @@ module _ {P : Pattern} where
 pub record Marking (P : Pattern) (list w : List ℕ) (q : ℕ) : Type 0 where
   pub turns : q ≤ length P
   pub wants : Wants P w
-  pub marks : Region 32 (λ p. markAt (position P p) list) w q
+  pub marks : (p : ℕ) → p < q → markIn w p ≡ markAt (position P p) list
 
 module _ {P : Pattern} {list w : List ℕ} where
   pub marking-start : Wants P w → Marking P list w 0
-  marking-start K = record { turns = omega arith; wants = K; marks = record { entry = λ p h. absurd (omega arith) } }
+  marking-start K = record { turns = omega arith; wants = K; marks = λ p h. absurd (omega arith) }
 
   pub marking-step : {q x : ℕ} → Marking P list w q → q < length P → x ≡ markAt (position P q) list → Marking P list (set w (32 + q) x) (q + 1)
   marking-step {q} {x} M h e =
@@ -176,20 +152,19 @@ module _ {P : Pattern} {list w : List ℕ} where
               kids = λ p l. kept (48 + p) (λ k. omega (arith, K .few)) ∙ K .kids p l;
               parents = λ p l. kept (64 + p) (λ k. omega (arith, K .few)) ∙ K .parents p l;
             };
-        marks = region-put (M .marks) x inside e;
+        marks =
+            up-to (λ p. markIn (set w (32 + q) x) p ≡ markAt (position P p) list) q (set-here w (32 + q) x (omega (arith, K .few, K .size)) ∙ e)
+            (λ p ne l. kept (32 + p) (λ k. ne (omega arith)) ∙ M .marks p l);
       }
     where
       K : Wants P w
       K = M .wants
 
-      inside : 32 + q < length w
-      inside = omega (arith, K .few, K .size)
-
       kept : (i : ℕ) → (i ≡ 32 + q → ⊥) → getD (set w (32 + q) x) i 0 ≡ getD w i 0
-      kept i ne = set-else w (32 + q) x inside i ne
+      kept i ne = set-else w (32 + q) x i ne
 
   pub marking-end : {q : ℕ} → Marking P list w q → length P ≤ q → Wants P w × Marked P list w
-  marking-end {q} M h = (M .wants, λ p l. M .marks .entry p (omega arith))
+  marking-end {q} M h = (M .wants, λ p l. M .marks p (omega arith))
 
 -- ---- marks as pins
 

@@ -17,9 +17,12 @@ stands-requires c κs =
 nodes-with-requires : tie.Need-nodes-with-requires
 nodes-with-requires c κs =
     let s = c .before .before .before .before .before .before .before .before .before .before .before .before .before .before .pre in
-    let n = c .before .before .document-count .ensures .0 in
-    (omega (arith, n, s .0 .2 .few), omega (arith, n, s .1 .2), omega (arith, n, s .0 .2 .few),
-    omega (arith, c .before .node-at .ensures, s .0 .1 .holds _ (s .1 .0) (s .1 .1), s .0 .0 .few))
+    let n = c .before .before .document-count .ensures .0 in (
+      omega (arith, n, s .0 .2 .few),
+      omega (arith, n, s .1 .2),
+      omega (arith, n, s .0 .2 .few),
+      omega (arith, c .before .node-at .ensures, s .0 .1 .holds _ (s .1 .0) (s .1 .1), s .0 .0 .few),
+    )
 
 returns : tie.Need-returns
 returns c =
