@@ -11,14 +11,13 @@ use format::pattern::pattern_label;
 use format::pattern::pattern_parent;
 use format::pattern::pattern_position;
 ghost use mathlib.Core.Path.{_≡_};
-ghost use Prim.Native.Nat.{ℕ, _+_, _<_, _≤_};
-ghost use lib.ListN.{length, getD, set};
-ghost use Rattle.model.specs.Pattern.{patternLabel, patternParent, arity};
+ghost use Prim.Native.Nat.{_<_, _≤_};
+ghost use lib.ListN.{length};
+ghost use Rattle.model.specs.Pattern.{arity};
 ghost use Rattle.model.specs.Bytes.{listOf};
 ghost use Rattle.model.specs.Facts.{PatternFacts};
 ghost use Rattle.format.specs.Given.{patternAt, PatternGiven};
-ghost use Rattle.matching.specs.Wanted.{deepIn, countIn, labelIn, markIn, kidsIn, parentIn, Wants, Unmarked, WantsPinned, markAt};
-ghost use Rattle.matching.specs.Wanted.{SmallNumbers, withNode};
+ghost use Rattle.matching.specs.Wanted.{deepIn, countIn, labelIn, markIn, kidsIn, parentIn, Wants, Unmarked, WantsPinned, markAt, SmallNumbers, withNode};
 
 pub type Wanted = [u16; 80];
 
