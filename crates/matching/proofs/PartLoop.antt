@@ -3,19 +3,19 @@
 -- nothing.
 use Prim.Native.Nat.{ℕ, suc, _+_, _-_, _≤_, _<_}
 use mathlib.Core.Path.{_≡_, refl, sym, ap, _∙_, subst}
-use mathlib.Core.Bool.{Bool, true, false, _||_, or-comm}
-use mathlib.Core.List.{List, _∷_}
+use mathlib.Core.Bool.{Bool, true, false, _&&_, _||_, or-comm}
+use mathlib.Core.List.{List}
 use native.Mathlib.Omega.{arith}
 use lib.Bits.{bitAnd, bitOr}
 use lib.Dec.{eqb}
 use lib.ListN.{length, getD, set, length-set}
 use borrow.Author.Tests.{eqb-true, eqb-false}
-use Rattle.model.specs.Lists.{upFrom, keep, anyOf, maskBelow}
+use Rattle.model.specs.Lists.{upFrom, anyOf, maskBelow}
 use Rattle.model.specs.Tree.{Document, IsTree, parentOf, labelOf, Child}
 use Rattle.model.specs.Pattern.{Pattern}
 use Rattle.model.specs.Embeddings.{childTest}
 use Rattle.model.specs.Bytes.{writtenAtFront}
-use Rattle.model.proofs.ListLaws.{bool-ext, any-intro, any-elim, keep-intro, keep-elim, mem-upFrom}
+use Rattle.model.proofs.ListLaws.{bool-ext, and-intro, and-left, and-right, any-intro, any-elim, mem-upFrom}
 use Rattle.model.proofs.TreeLaws.{test-child, child-test, child-lt}
 use Rattle.model.proofs.Masks.{mask-none}
 use Rattle.bits.proofs.MaskLaws.{mask-agree, mask-or, any-cons}
@@ -33,51 +33,45 @@ module _ (Q : Pattern) (W : Document) (pin : ℕ → ℕ → Bool) where
   abbrev offering : ℕ → ℕ → Bool
   offering w = offersAt Q W pin w (offered Q W pin w)
 
-  childrenFrom : ℕ → ℕ → List ℕ
-  childrenFrom i v = keep (childTest W v) (upFrom i (length W - i))
+  -- w is a child of v and offers p
+  childOffers : ℕ → ℕ → ℕ → Bool
+  childOffers v p w = childTest W v w && offering w p
 
   pub offeredFrom : ℕ → ℕ → ℕ → Bool
-  offeredFrom i v p = anyOf (λ w. offering w p) (childrenFrom i v)
+  offeredFrom i v p = anyOf (childOffers v p) (upFrom i (length W - i))
 
-  range-next : (i : ℕ) → i < length W → upFrom i (length W - i) ≡ i ∷ upFrom (suc i) (length W - suc i)
-  unfolding upFrom
-  range-next i h = let e : length W - i ≡ suc (length W - suc i) = omega arith in ap (upFrom i) e
-
-  from-child : (i v p : ℕ) → i < length W → childTest W v i ≡ true → offeredFrom i v p ≡ (offering i p || offeredFrom (suc i) v p)
-  unfolding offeredFrom childrenFrom keep
-  from-child i v p h e =
-      ap (λ (l : List ℕ). anyOf (λ w. offering w p) (keep (childTest W v) l)) (range-next i h)
-      ∙ rw (e, keep) (any-cons (λ w. offering w p) i (keep (childTest W v) (upFrom (suc i) (length W - suc i))))
-
-  from-other : (i v p : ℕ) → i < length W → childTest W v i ≡ false → offeredFrom i v p ≡ offeredFrom (suc i) v p
-  unfolding offeredFrom childrenFrom keep
-  from-other i v p h e =
-      ap (λ (l : List ℕ). anyOf (λ w. offering w p) (keep (childTest W v) l)) (range-next i h) ∙ rw (e, keep)
+  -- the children from i on are i, where it is one, and those after it
+  from-next : (i v p : ℕ) (b : Bool) → i < length W → childTest W v i ≡ b → offeredFrom i v p ≡ ((b && offering i p) || offeredFrom (suc i) v p)
+  unfolding offeredFrom childOffers upFrom
+  from-next i v p b h e =
+      let k : length W - i ≡ suc (length W - suc i) = omega arith in
+      ap (λ (n : ℕ). anyOf (childOffers v p) (upFrom i n)) k ∙ any-cons (childOffers v p) i (upFrom (suc i) (length W - suc i))
+      ∙ ap (λ (t : Bool). (t && offering i p) || offeredFrom (suc i) v p) e
 
   from-none : (v p : ℕ) → offeredFrom (length W) v p ≡ false
-  unfolding offeredFrom childrenFrom keep anyOf upFrom
-  from-none v p =
-      let e : length W - length W ≡ 0 = omega arith in
-      ap (λ (k : ℕ). anyOf (λ w. offering w p) (keep (childTest W v) (upFrom (length W) k))) e
+  unfolding offeredFrom anyOf upFrom
+  from-none v p = let e : length W - length W ≡ 0 = omega arith in ap (λ (n : ℕ). anyOf (childOffers v p) (upFrom (length W) n)) e
 
   -- all of a node's children stand after it
   from-all : (v p : ℕ) → IsTree W → offeredFrom (suc v) v p ≡ offered Q W pin v p
-  unfolding offeredFrom childrenFrom
+  unfolding offeredFrom childOffers
   from-all v p t = bool-ext (offeredFrom (suc v) v p) (offered Q W pin v p) there back
     where
-      there : anyOf (λ w. offering w p) (childrenFrom (suc v) v) ≡ true → offered Q W pin v p ≡ true
-      there e =
-          let r = any-elim (λ w. offering w p) (childrenFrom (suc v) v) e in
-          let k = keep-elim (childTest W v) (r .0) (upFrom (suc v) (length W - suc v)) (r .1) in
-          offered-intro Q W pin v (r .0) p t (test-child W v (r .0) (k .1)) (r .2)
+      after : List ℕ
+      after = upFrom (suc v) (length W - suc v)
 
-      back : offered Q W pin v p ≡ true → anyOf (λ w. offering w p) (childrenFrom (suc v) v) ≡ true
+      there : anyOf (childOffers v p) after ≡ true → offered Q W pin v p ≡ true
+      there e =
+          let r = any-elim (childOffers v p) after e in
+          let w : ℕ = r .0 in
+          offered-intro Q W pin v w p t (test-child W v w (and-left (childTest W v w) (offering w p) (r .2))) (and-right (childTest W v w) (offering w p) (r .2))
+
+      back : offered Q W pin v p ≡ true → anyOf (childOffers v p) after ≡ true
       back e =
           let r = offered-elim Q W pin v p t e in
           let a : v < r .0 = child-lt t (r .1) in
           let b : r .0 < length W = r .1 .inside in
-          any-intro (λ w. offering w p) (r .0) (childrenFrom (suc v) v)
-          (keep-intro (childTest W v) (r .0) (upFrom (suc v) (length W - suc v)) (mem-upFrom (suc v) (length W - suc v) (r .0) a (omega arith)) (child-test (r .1))) (r .2)
+          any-intro (childOffers v p) (r .0) after (mem-upFrom (suc v) (length W - suc v) (r .0) a (omega arith)) (and-intro (child-test (r .1)) (r .2))
 
 -- ---- the invariant
 
@@ -117,7 +111,7 @@ module _ {Q : Pattern} {W : Document} {pin : ℕ → ℕ → Bool} {t₀ t : Lis
   -- a node that is not v's parent waits for the same as before
   waits : (w : ℕ) → (w ≡ parentOf W v → ⊥) → maskBelow (offeredFrom Q W pin (suc v) w) (length Q) ≡ maskBelow (offeredFrom Q W pin v w) (length Q)
   waits w ne =
-      mask-agree (offeredFrom Q W pin (suc v) w) (offeredFrom Q W pin v w) (length Q) (λ p l. sym (from-other Q W pin v w p inside (none (childTest W w v) refl)))
+      mask-agree (offeredFrom Q W pin (suc v) w) (offeredFrom Q W pin v w) (length Q) (λ p l. sym (from-next Q W pin v w p false inside (none (childTest W w v) refl)))
     where
       none : (b : Bool) → childTest W w v ≡ b → childTest W w v ≡ false
       none true e = absurd (ne (sym (test-child W w v e .isParent)))
@@ -130,7 +124,7 @@ module _ {Q : Pattern} {W : Document} {pin : ℕ → ℕ → Bool} {t₀ t : Lis
       ap (bitOr (maskBelow (offeredFrom Q W pin (suc v) u) (length Q))) e
       ∙ mask-or (offeredFrom Q W pin (suc v) u) own (length Q)
       ∙ mask-agree (λ p. offeredFrom Q W pin (suc v) u p || own p) (offeredFrom Q W pin v u) (length Q)
-      (λ p l. or-comm (offeredFrom Q W pin (suc v) u p) (own p) ∙ sym (from-child Q W pin v u p inside (child-test c)))
+      (λ p l. or-comm (offeredFrom Q W pin (suc v) u p) (own p) ∙ sym (from-next Q W pin v u p true inside (child-test c)))
     where
       u : ℕ
       u = parentOf W v
