@@ -1,5 +1,4 @@
-pub mod LentLaws
 pub mod AnswerLaws
+pub mod NumberedLaws
 pub mod PathLaws
-pub mod ResultLaws
 pub mod NodesLaws

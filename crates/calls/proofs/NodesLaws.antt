@@ -1,6 +1,6 @@
 -- Nodes at a position: there are at most as many as the document has nodes, so that they fit a column and the answer buffer; and what
 -- each arm of the call returns and leaves in the buffer is the model's outcome. Assumes nothing.
-use Prim.Native.Nat.{ℕ, _+_, _*_, _≤_, _<_}
+use Prim.Native.Nat.{ℕ, _+_, _*_, _≤_}
 use mathlib.Core.Path.{_≡_, sym, ap, _∙_}
 use mathlib.Core.List.{List}
 use native.Mathlib.Omega.{arith}
@@ -20,11 +20,6 @@ use Rattle.model.proofs.Calls.{nodes-refused, nodes-accepted}
 
 -- ---- the nodes
 
--- the nodes of the tables that stand in the columns are those of the model's
-pub nodes-found : {P Q : Pattern} {W X : Document} (p : ℕ) (out₀ : List ℕ) {out : List ℕ} {count : ℕ} → P ≡ Q → W ≡ X
-    → (count ≡ length (nodesAt P W p)) × (out ≡ writtenAtFront (nodesAt P W p) out₀) → (count ≡ length (nodesAt Q X p)) × (out ≡ writtenAtFront (nodesAt Q X p) out₀)
-nodes-found p out₀ e f g = (g .0 ∙ (λ i. length (nodesAt (e i) (f i) p)), g .1 ∙ (λ i. writtenAtFront (nodesAt (e i) (f i) p) out₀))
-
 few-nodes : (P : Pattern) (W : Document) (p : ℕ) → length (nodesAt P W p) ≤ length W
 unfolding nodesAt
 few-nodes P W p =
@@ -32,23 +27,16 @@ few-nodes P W p =
     let all : length (upFrom 0 (length W)) ≡ length W = length-upFrom 0 (length W) in
     omega arith
 
-module _ {b : List ℕ} {s : ℕ} {w : List ℕ} {p bytes : ℕ} (F : NodesFacts b s w p bytes) {count : ℕ}
-    (e : count ≡ length (nodesAt (selected (caseOf b) s) (documentOf w) p)) where
+-- P is the pattern where the number gives it
+module _ {b : List ℕ} {s : ℕ} {w : List ℕ} {p bytes : ℕ} (F : NodesFacts b s w p bytes) (P : Pattern) {count : ℕ} (e : count ≡ length (nodesAt P (documentOf w) p)) where
   pub nodes-few : count ≤ maxDocument
   nodes-few =
-      let few : length (nodesAt (selected (caseOf b) s) (documentOf w) p) ≤ length (documentOf w) = few-nodes (selected (caseOf b) s) (documentOf w) p in
+      let few : length (nodesAt P (documentOf w) p) ≤ length (documentOf w) = few-nodes P (documentOf w) p in
       let size : length (documentOf w) ≤ maxDocument = F .document .size in
       omega arith
 
   pub nodes-fit : 2 + 2 * count ≤ bytes
   nodes-fit = let few : count ≤ maxDocument = nodes-few in let large : minBuffer ≤ bytes = F .buffer in omega arith
-
-  -- what is written of a column with the nodes in front
-  pub nodes-written : (out₀ buffer : List ℕ) {out after : List ℕ} → out ≡ writtenAtFront (nodesAt (selected (caseOf b) s) (documentOf w) p) out₀
-      → after ≡ writtenAtFront (encodeCounted (take count out)) buffer → after ≡ writtenAtFront (encodeCounted (nodesAt (selected (caseOf b) s) (documentOf w) p)) buffer
-  nodes-written out₀ buffer f g =
-      let nodes : List ℕ = nodesAt (selected (caseOf b) s) (documentOf w) p in
-      g ∙ ap (λ (l : List ℕ). writtenAtFront (encodeCounted l) buffer) ((λ i. take (e i) (f i)) ∙ front-written nodes out₀)
 
 -- ---- the outcome
 
@@ -61,12 +49,13 @@ module _ (b : List ℕ) (s : ℕ) (w : List ℕ) (p : ℕ) (buffer : List ℕ) {
         sym (ap (λ (o : NodesOutcome). o .buffer) out),
       )
 
-  pub nodes-yes : number ≡ 0 → {count : ℕ} {after : List ℕ} → count ≡ length (nodesAt (selected (caseOf b) s) (documentOf w) p)
-      → after ≡ writtenAtFront (encodeCounted (nodesAt (selected (caseOf b) s) (documentOf w) p)) buffer
+  pub nodes-yes : number ≡ 0 → {P : Pattern} {count : ℕ} {out after : List ℕ} (out₀ : List ℕ) → selected (caseOf b) s ≡ P
+      → (count ≡ length (nodesAt P (documentOf w) p)) × (out ≡ writtenAtFront (nodesAt P (documentOf w) p) out₀) → after ≡ writtenAtFront (encodeCounted (take count out)) buffer
       → ((0 ≡ nodesCall b s w p buffer .answer .refused) × (count ≡ nodesCall b s w p buffer .answer .count)) × (after ≡ nodesCall b s w p buffer .buffer)
   unfolding nodesAccepted
-  nodes-yes z n a =
-      let out = nodes-accepted b s w p buffer (sym e ∙ z) in (
-        (sym (ap (λ (o : NodesOutcome). o .answer .refused) out), n ∙ sym (ap (λ (o : NodesOutcome). o .answer .count) out)),
-        a ∙ sym (ap (λ (o : NodesOutcome). o .buffer) out),
+  nodes-yes z {P} out₀ same found a =
+      let nodes : List ℕ = nodesAt P (documentOf w) p in
+      let out = nodes-accepted b s w p buffer (sym e ∙ z) ∙ ap (λ (Q : Pattern). nodesAccepted (nodesAt Q (documentOf w) p) buffer) same in (
+        (sym (ap (λ (o : NodesOutcome). o .answer .refused) out), found .0 ∙ sym (ap (λ (o : NodesOutcome). o .answer .count) out)),
+        a ∙ ap (λ (l : List ℕ). writtenAtFront (encodeCounted l) buffer) ((λ i. take (found .0 i) (found .1 i)) ∙ front-written nodes out₀) ∙ sym (ap (λ (o : NodesOutcome). o .buffer) out),
       )

@@ -7,3 +7,4 @@ pub mod TableLaws
 pub mod ColumnLaws
 pub mod WriteLaws
 pub mod ReadLaws
+pub mod FirstLaws

@@ -1,13 +1,11 @@
 pub mod PartLaws
 pub mod Parts
 pub mod Stands
-pub mod Answers
-pub mod MaskLoops
 pub mod TurnLaws
-pub mod Columns
+pub mod MaskLoops
+pub mod WantedLaws
+pub mod Answers
 pub mod PartLoop
 pub mod StandLoop
-pub mod Shapes
 pub mod ReadLoops
-pub mod ColumnAnswers
 pub mod TableBits

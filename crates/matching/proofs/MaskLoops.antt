@@ -7,17 +7,19 @@ use mathlib.Core.List.{List}
 use native.Mathlib.Omega.{arith}
 use lib.Bits.{bitOr}
 use lib.Dec.{eqb, ltb}
-use lib.ListN.{length, getD, set, replicate, length-set, length-replicate, getD-replicate}
-use lib.Seq.{ext-getD, getD-set-same, getD-set-other}
+use lib.ListN.{length, getD, set, replicate, length-set, length-replicate}
+use lib.Seq.{ext-getD}
 use borrow.Author.Tests.{eqb-true, eqb-false, eq-eqb, ne-eqb, lt-ltb}
 use Rattle.model.specs.Lists.{maskBelow}
-use Rattle.model.proofs.ListLaws.{and-intro}
+use Rattle.model.specs.Pattern.{Pattern, patternParent}
+use Rattle.model.specs.Quick.{hangsFrom}
+use Rattle.model.proofs.ListLaws.{and-intro, length-map-upFrom}
 use Rattle.model.proofs.Masks.{mask-none}
 use Rattle.bits.specs.Sets.{insertIf}
 use Rattle.bits.proofs.MaskLaws.{mask-start, mask-step, mask-step-in, mask-step-out}
-use Rattle.model.proofs.ListLaws.{length-map-upFrom}
 use Rattle.format.proofs.RangeLaws.{getD-map-below}
-use Rattle.matching.specs.Masks.{hangsBy, kidMasks}
+use Rattle.matching.specs.Masks.{kidMasks}
+use Rattle.matching.proofs.TurnLaws.{set-here, set-else, zeros-at}
 
 -- ---- what passes a test
 
@@ -38,76 +40,55 @@ module _ {test : ℕ → Bool} {n : ℕ} where
 
 -- ---- the children of each node
 
-pub length-kidMasks : (parents : List ℕ) (m : ℕ) → length (kidMasks parents m) ≡ 16
+pub length-kidMasks : (P : Pattern) → length (kidMasks P) ≡ 16
 unfolding kidMasks
-length-kidMasks parents m = length-map-upFrom (λ p. maskBelow (hangsBy parents p) m) 0 16
+length-kidMasks P = length-map-upFrom (λ p. maskBelow (hangsFrom P p) (length P)) 0 16
 
-pub getD-kidMasks : (parents : List ℕ) (m p : ℕ) → p < 16 → getD (kidMasks parents m) p 0 ≡ maskBelow (hangsBy parents p) m
+pub getD-kidMasks : (P : Pattern) (p : ℕ) → p < 16 → getD (kidMasks P) p 0 ≡ maskBelow (hangsFrom P p) (length P)
 unfolding kidMasks
-getD-kidMasks parents m p h = getD-map-below (λ p. maskBelow (hangsBy parents p) m) 16 p 0 h
-
--- the root hangs from nothing
-kids-root : (parents : List ℕ) → replicate {A = ℕ} 16 0 ≡ kidMasks parents 1
-kids-root parents =
-    ext-getD 0 (replicate {A = ℕ} 16 0) (kidMasks parents 1) (length-replicate {A = ℕ} 16 0 ∙ sym (length-kidMasks parents 1))
-    (λ p h. (let l : p < 16 = subst (λ (x : ℕ). p < x) (length-replicate {A = ℕ} 16 0) h in
-    getD-replicate {A = ℕ} 16 p 0 0 l ∙ sym (getD-kidMasks parents 1 p l ∙ mask-none (hangsBy parents p) 1 (λ c k. none p c k))))
-  where
-    none : (p c : ℕ) → c < 1 → hangsBy parents p c ≡ false
-    none p c k = let z : c ≡ 0 = omega arith in ap (λ (x : ℕ). ltb 0 x && eqb (getD parents x 0) p) z
-
--- one child more
-kids-more : (parents : List ℕ) (c p : ℕ) → 0 < c → p ≡ getD parents c 0 → p < 16
-    → set (kidMasks parents c) p (bitOr (getD (kidMasks parents c) p 0) (2 ^ c)) ≡ kidMasks parents (c + 1)
-kids-more parents c p z e h =
-    ext-getD 0 new (kidMasks parents (c + 1)) (length-set (kidMasks parents c) p x ∙ length-kidMasks parents c ∙ sym (length-kidMasks parents (c + 1)))
-    (λ i k. (let l : i < 16 = subst (λ (y : ℕ). i < y) (length-set (kidMasks parents c) p x ∙ length-kidMasks parents c) k in
-    go i l (eqb i p) refl ∙ sym (getD-kidMasks parents (c + 1) i l)))
-  where
-    x : ℕ
-    x = bitOr (getD (kidMasks parents c) p 0) (2 ^ c)
-
-    new : List ℕ
-    new = set (kidMasks parents c) p x
-
-    hangs : hangsBy parents p c ≡ true
-    hangs = and-intro (lt-ltb 0 c z) (eq-eqb (getD parents c 0) p (sym e))
-
-    here : getD new p 0 ≡ maskBelow (hangsBy parents p) (c + 1)
-    here =
-        getD-set-same (kidMasks parents c) p x 0 (subst (λ (y : ℕ). p < y) (sym (length-kidMasks parents c)) h)
-        ∙ mask-step-in (hangsBy parents p) c (getD (kidMasks parents c) p 0) (getD-kidMasks parents c p h) hangs
-
-    other : (i : ℕ) → i < 16 → (i ≡ p → ⊥) → getD new i 0 ≡ maskBelow (hangsBy parents i) (c + 1)
-    other i l ne =
-        getD-set-other (kidMasks parents c) p i x 0 ne
-        ∙ mask-step-out (hangsBy parents i) c (getD (kidMasks parents c) i 0) (getD-kidMasks parents c i l)
-        (ap (λ (b : Bool). b && eqb (getD parents c 0) i) (lt-ltb 0 c z) ∙ ne-eqb (getD parents c 0) i (λ q. ne (sym (e ∙ q))))
-
-    go : (i : ℕ) → i < 16 → (b : Bool) → eqb i p ≡ b → getD new i 0 ≡ maskBelow (hangsBy parents i) (c + 1)
-    go i l true q = subst (λ (y : ℕ). getD new y 0 ≡ maskBelow (hangsBy parents y) (c + 1)) (sym (eqb-true i p q)) here
-    go i l false q = other i l (eqb-false i p q)
+getD-kidMasks P p h = getD-map-below (λ p. maskBelow (hangsFrom P p) (length P)) 16 p 0 h
 
 -- kids holds the children below c of each node
-pub record Gathering (parents : List ℕ) (m : ℕ) (kids : List ℕ) (c : ℕ) : Type 0 where
+pub record Gathering (P : Pattern) (kids : List ℕ) (c : ℕ) : Type 0 where
   pub low : 0 < c
-  pub turns : c ≤ m
+  pub turns : c ≤ length P
   pub size : length kids ≡ 16
-  pub masks : kids ≡ kidMasks parents c
+  pub masks : (p : ℕ) → p < 16 → getD kids p 0 ≡ maskBelow (hangsFrom P p) c
 
-module _ {parents : List ℕ} {m : ℕ} where
-  pub gathering-start : 0 < m → Gathering parents m (replicate {A = ℕ} 16 0) 1
-  gathering-start h = record { low = omega arith; turns = omega arith; size = length-replicate {A = ℕ} 16 0; masks = kids-root parents }
-
-  pub gathering-step : {kids : List ℕ} {c p x : ℕ} → Gathering parents m kids c → c < m → p ≡ getD parents c 0 → p < 16 → x ≡ bitOr (getD kids p 0) (2 ^ c)
-      → Gathering parents m (set kids p x) (c + 1)
-  gathering-step {kids} {c} {p} {x} g h e k q =
+module _ {P : Pattern} where
+  -- the root hangs from nothing
+  pub gathering-start : 0 < length P → Gathering P (replicate {A = ℕ} 16 0) 1
+  unfolding hangsFrom
+  gathering-start h =
       record {
         low = omega arith;
         turns = omega arith;
-        size = length-set kids p x ∙ g .size;
-        masks = ap (set kids p) q ∙ ap (λ (l : List ℕ). set l p (bitOr (getD l p 0) (2 ^ c))) (g .masks) ∙ kids-more parents c p (g .low) e k;
+        size = length-replicate {A = ℕ} 16 0;
+        masks = λ p l. zeros-at 16 p ∙ sym (mask-none (hangsFrom P p) 1 (λ c k. (let z : c ≡ 0 = omega arith in ap (hangsFrom P p) z)));
       }
 
-  pub gathering-end : {kids : List ℕ} {c : ℕ} → Gathering parents m kids c → m ≤ c → kids ≡ kidMasks parents m
-  gathering-end {kids} {c} g h = let e : c ≡ m = omega (arith, g .turns) in g .masks ∙ ap (kidMasks parents) e
+  -- c hangs from its parent alone
+  pub gathering-step : {kids : List ℕ} {c p x : ℕ} → Gathering P kids c → c < length P → p ≡ patternParent P c → p < 16 → x ≡ bitOr (getD kids p 0) (2 ^ c)
+      → Gathering P (set kids p x) (c + 1)
+  unfolding hangsFrom
+  gathering-step {kids} {c} {p} {x} g h e k q =
+      record { low = omega arith; turns = omega arith; size = length-set kids p x ∙ g .size; masks = λ i l. go i l (eqb i p) refl }
+    where
+      some : ltb 0 c ≡ true
+      some = lt-ltb 0 c (g .low)
+
+      go : (i : ℕ) → i < 16 → (b : Bool) → eqb i p ≡ b → getD (set kids p x) i 0 ≡ maskBelow (hangsFrom P i) (c + 1)
+      go i l true s =
+          subst (λ (y : ℕ). getD (set kids p x) y 0 ≡ maskBelow (hangsFrom P y) (c + 1)) (sym (eqb-true i p s))
+          (set-here kids p x (omega (arith, g .size)) ∙ q ∙ mask-step-in (hangsFrom P p) c (getD kids p 0) (g .masks p k) (and-intro some (eq-eqb (patternParent P c) p (sym e))))
+      go i l false s =
+          let ne : (i ≡ p) → ⊥ = eqb-false i p s in
+          set-else kids p x i ne
+          ∙ mask-step-out (hangsFrom P i) c (getD kids i 0) (g .masks i l)
+          (ap (λ (b : Bool). b && eqb (patternParent P c) i) some ∙ ne-eqb (patternParent P c) i (λ r. ne (sym (e ∙ r))))
+
+  pub gathering-end : {kids : List ℕ} {c : ℕ} → Gathering P kids c → length P ≤ c → kids ≡ kidMasks P
+  gathering-end {kids} {c} g h =
+      let e : c ≡ length P = omega (arith, g .turns) in
+      ext-getD 0 kids (kidMasks P) (g .size ∙ sym (length-kidMasks P))
+      (λ p l. (let k : p < 16 = omega (arith, g .size) in g .masks p k ∙ ap (maskBelow (hangsFrom P p)) e ∙ sym (getD-kidMasks P p k)))

@@ -1,23 +1,25 @@
--- The loops that read the tables off: an array filled from the front, the first node that passes a test, and the list of those that
--- pass. After i turns each has what it should of the numbers below i. Assumes nothing.
-use Prim.Native.Nat.{ℕ, suc, _+_, _-_, _≤_, _<_}
-use mathlib.Core.Path.{_≡_, refl, sym, ap, ap₂, _∙_, subst}
+-- The loops that read the tables off: an array filled from the front, and the list of the nodes that pass a test. After i
+-- turns each has what it should of the numbers below i. Assumes nothing.
+use Prim.Native.Nat.{ℕ, _+_, _/_, _≤_, _<_}
+use mathlib.Core.Path.{_≡_, refl, sym, ap, ap₂, _∙_}
 use mathlib.Core.Bool.{Bool, true, false}
 use mathlib.Core.List.{List, [], _∷_, _++_, map, append-nil}
 use native.Mathlib.Omega.{arith}
-use native.Mathlib.Numerals.{add-one}
 use native.Mathlib.Nat.{zero-add}
-use lib.ListN.{length, getD, set, length-set, length-map, length-append, drop-of-length-le}
+use lib.Dec.{ltb}
+use lib.ListN.{length, getD, set, replicate, length-set, length-append, length-replicate}
 use lib.Seq.{ext-getD}
-use borrow.Author.Tests.{eq-eqb, ne-eqb}
-use Rattle.model.specs.Lists.{upFrom, keep, firstOf}
-use Rattle.model.specs.Bytes.{writtenAtFront}
+use borrow.Author.Tests.{ltb-true, ltb-false}
+use Rattle.model.specs.Lists.{upFrom, keep}
+use Rattle.model.specs.Bytes.{field, listOf, writtenAtFront}
+use Rattle.model.proofs.ListLaws.{mem-at, length-map-upFrom}
 use Rattle.model.proofs.Bytes.{front-none}
-use Rattle.model.proofs.ListLaws.{getD-map}
-use Rattle.model.proofs.ListLaws.{length-map-upFrom}
+use Rattle.model.proofs.Questions.{ListFacts}
 use Rattle.format.proofs.RangeLaws.{upFrom-last, getD-map-below}
 use Rattle.format.proofs.FrontLaws.{fill-none, fill-more, front-set}
-use Rattle.matching.specs.Outcomes.{markAt, pushIf, countIf}
+use Rattle.matching.specs.Wanted.{SmallNumbers}
+use Rattle.matching.specs.Outcomes.{pushIf, countIf}
+use Rattle.matching.proofs.TurnLaws.{front-entry, front-after-entry, front-size, zeros-at}
 
 -- ---- an array filled from the front
 
@@ -42,57 +44,20 @@ module _ (f : ℕ → ℕ) {n : ℕ} {b : List ℕ} where
   pub filling-end : {t : List ℕ} {i : ℕ} → Filling f n b t i → n ≤ i → t ≡ writtenAtFront (map f (upFrom 0 n)) b
   filling-end {t} {i} s h = let e : i ≡ n = omega (arith, s .turns) in s .front ∙ ap (λ (k : ℕ). writtenAtFront (map f (upFrom 0 k)) b) e
 
--- an array filled whole
-pub front-all : (w b : List ℕ) → length b ≤ length w → writtenAtFront w b ≡ w
-unfolding writtenAtFront
-front-all w b h = ap (λ (l : List ℕ). w ++ l) (drop-of-length-le b h) ∙ append-nil w
-
--- each entry of a list, one after another
-pub map-entries : (f : ℕ → ℕ) (l : List ℕ) (n : ℕ) → length l ≡ n → map (λ k. f (getD l k 0)) (upFrom 0 n) ≡ map f l
-map-entries f l n e =
-    ext-getD 0 (map g (upFrom 0 n)) (map f l) (length-map-upFrom g 0 n ∙ sym (length-map l f ∙ e))
-    (λ i h. (let k : i < n = subst (λ (x : ℕ). i < x) (length-map-upFrom g 0 n) h in getD-map-below g n i 0 k ∙ sym (getD-map f l i 0 0 (omega arith))))
+-- an array of zeros filled as far as f is not 0
+pub filling-zeros : (f : ℕ → ℕ) (n k : ℕ) → n ≤ k → ((i : ℕ) → n ≤ i → i < k → f i ≡ 0) → writtenAtFront (map f (upFrom 0 n)) (replicate k 0) ≡ map f (upFrom 0 k)
+filling-zeros f n k h none =
+    ext-getD 0 t (map f (upFrom 0 k)) (size ∙ sym (length-map-upFrom f 0 k)) (λ i l. (let j : i < k = omega (arith, size) in entry i j (ltb i n) refl ∙ sym (getD-map-below f k i 0 j)))
   where
-    g : ℕ → ℕ
-    g k = f (getD l k 0)
+    t : List ℕ
+    t = writtenAtFront (map f (upFrom 0 n)) (replicate k 0)
 
--- an array filled with f of each entry
-pub filling-entries : (f : ℕ → ℕ) (l b : List ℕ) {n : ℕ} {t : List ℕ} → length l ≡ n → length b ≡ n → t ≡ writtenAtFront (map (λ k. f (getD l k 0)) (upFrom 0 n)) b → t ≡ map f l
-filling-entries f l b {n} e h s =
-    s ∙ front-all (map (λ k. f (getD l k 0)) (upFrom 0 n)) b (omega (arith, length-map-upFrom (λ k. f (getD l k 0)) 0 n)) ∙ map-entries f l n e
+    size : length t ≡ k
+    size = front-size f n (replicate k 0) {t = t} (omega (arith, length-replicate {A = ℕ} k 0)) refl ∙ length-replicate {A = ℕ} k 0
 
--- ---- the first that passes
-
--- none before i passes, so the first is the first from i on
-pub record Seeking (test : ℕ → Bool) (m i : ℕ) : Type 0 where
-  pub turns : i ≤ m
-  pub same : firstOf test m (upFrom i (m - i)) ≡ firstOf test m (upFrom 0 m)
-
-module _ (test : ℕ → Bool) (m : ℕ) where
-  first-next : (i : ℕ) → i < m → (b : Bool) → test i ≡ b
-      → firstOf test m (upFrom i (m - i)) ≡ (elim b as (λ _. ℕ) [ true ↦ i | false ↦ firstOf test m (upFrom (suc i) (m - suc i)) ])
-  unfolding firstOf upFrom
-  first-next i h b e =
-      let k : m - i ≡ suc (m - suc i) = omega arith in
-      ap (λ (n : ℕ). firstOf test m (upFrom i n)) k ∙ rw (e, firstOf)
-
-module _ {test : ℕ → Bool} {m : ℕ} where
-  pub seeking-start : Seeking test m 0
-  seeking-start = record { turns = omega arith; same = ap (λ (n : ℕ). firstOf test m (upFrom 0 n)) (omega arith) }
-
-  pub seeking-step : {i : ℕ} → Seeking test m i → i < m → test i ≡ false → Seeking test m (i + 1)
-  seeking-step {i} s h e =
-      record {
-        turns = omega arith;
-        same = ap (λ (k : ℕ). firstOf test m (upFrom k (m - k))) (add-one i) ∙ sym (first-next test m i h false e) ∙ s .same;
-      }
-
-  pub seeking-found : {i : ℕ} → Seeking test m i → i < m → test i ≡ true → i ≡ firstOf test m (upFrom 0 m)
-  seeking-found {i} s h e = sym (first-next test m i h true e) ∙ s .same
-
-  pub seeking-end : {i : ℕ} → Seeking test m i → m ≤ i → m ≡ firstOf test m (upFrom 0 m)
-  unfolding firstOf upFrom
-  seeking-end {i} s h = let k : m - i ≡ 0 = omega arith in sym (ap (λ (n : ℕ). firstOf test m (upFrom i n)) k) ∙ s .same
+    entry : (i : ℕ) → i < k → (b : Bool) → ltb i n ≡ b → getD t i 0 ≡ f i
+    entry i j true e = front-entry f n (replicate k 0) refl i (ltb-true i n e)
+    entry i j false e = front-after-entry f n (replicate k 0) refl i (ltb-false i n e) ∙ zeros-at k i ∙ sym (none i (ltb-false i n e) j)
 
 -- ---- those that pass, one after another
 
@@ -106,15 +71,6 @@ keep-last test (y ∷ ys) x = go (test y) refl (keep-last test ys x)
         ((elim b as (λ _. List ℕ) [ true ↦ y ∷ keep test ys | false ↦ keep test ys ]) ++ keep test (x ∷ []))
     go true e r = ap (λ (l : List ℕ). y ∷ l) r
     go false e r = r
-
-pub keep-short : (test : ℕ → Bool) (xs : List ℕ) → length (keep test xs) ≤ length xs
-unfolding keep
-keep-short test [] = omega arith
-keep-short test (x ∷ xs) = go (test x) (keep-short test xs)
-  where
-    go : (b : Bool) → length (keep test xs) ≤ length xs → length {A = ℕ} (elim b as (λ _. List ℕ) [ true ↦ x ∷ keep test xs | false ↦ keep test xs ]) ≤ suc (length xs)
-    go true h = omega arith
-    go false h = omega arith
 
 -- the numbers below v that pass stand at the front of l, which was b
 pub record Listing (test : ℕ → Bool) (n : ℕ) (b l : List ℕ) (count v : ℕ) : Type 0 where
@@ -174,12 +130,16 @@ module _ {test : ℕ → Bool} {n : ℕ} {b : List ℕ} where
       let e : v ≡ n = omega (arith, s .turns) in
       (s .number ∙ ap (λ (k : ℕ). length (keep test (upFrom 0 k))) e, s .front ∙ ap (λ (k : ℕ). writtenAtFront (keep test (upFrom 0 k)) b) e)
 
--- ---- marks
+-- ---- a list of bytes
 
-pub mark-none : (p : ℕ) (list : List ℕ) → p ≡ 0 → markAt p list ≡ 0
-unfolding markAt
-mark-none p list e = rw (eq-eqb p 0 e, markAt)
+pub list-count : (b : List ℕ) → length (listOf b) ≡ length b / 2
+unfolding listOf
+list-count b = length-map-upFrom (field b) 0 (length b / 2)
 
-pub mark-some : (p : ℕ) (list : List ℕ) → (p ≡ 0 → ⊥) → markAt p list ≡ getD list (p - 1) 0 + 1
-unfolding markAt
-mark-some p list e = rw (ne-eqb p 0 e, markAt)
+pub list-entry : (b : List ℕ) (i : ℕ) → i < length b / 2 → getD (listOf b) i 0 ≡ field b i
+unfolding listOf
+list-entry b i h = getD-map-below (field b) (length b / 2) i 0 h
+
+-- the numbers of a document's nodes are small
+pub list-small : {k n : ℕ} {l : List ℕ} → ListFacts k n l → n < 65536 → SmallNumbers l
+list-small {k} {n} {l} L h i j = let b : getD (listOf l) i 0 < n = L .below (getD (listOf l) i 0) (mem-at (listOf l) i 0 j) in omega arith

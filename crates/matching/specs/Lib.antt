@@ -1,4 +1,5 @@
 pub mod Masks
 pub mod Matching
+pub mod Wanted
 pub mod Tables
 pub mod Outcomes

@@ -1,7 +1,7 @@
 -- Where the nodes of a pattern (document 01: selection) stand in a tree, node by node. The tree is a document (document 01:
 -- volume) or a summary read as one. A pin says at which tree nodes a pattern node may stand. Sets of pattern nodes are functions
 -- to Bool. proofs/Parts.antt and proofs/Stands.antt show what the sets hold.
-use Prim.Native.Nat.{ℕ, zero, suc, _+_, _-_}
+use Prim.Native.Nat.{ℕ, zero, suc, _-_}
 use mathlib.Core.Bool.{Bool, true, false, _&&_, _||_, not}
 use mathlib.Core.List.{List}
 use lib.Dec.{eqb, ltb}
@@ -11,7 +11,6 @@ use Rattle.model.specs.Tree.{Document, parentOf, labelOf}
 use Rattle.model.specs.Pattern.{Pattern, patternParent, patternLabel, descends, position, labelFits}
 use Rattle.model.specs.Embeddings.{childTest}
 use Rattle.model.specs.Quick.{hangsFrom}
-use Rattle.matching.specs.Masks.{markFits}
 
 -- q hangs from its parent by a descendant edge; the root hangs from nothing
 unfoldable pub hangsDeep : Pattern → ℕ → Bool
@@ -68,14 +67,6 @@ module _ (Q : Pattern) (W : Document) (pin : ℕ → ℕ → Bool) where
 
 -- ---- pins
 
--- every node may stand anywhere
-abbrev pub noPin : ℕ → ℕ → Bool
-noPin p v = true
-
 -- a return node (document 01: a node with a position) stands at its own number in the list r
 unfoldable pub resultPin : Pattern → List ℕ → ℕ → ℕ → Bool
 resultPin Q r p v = eqb (position Q p) 0 || eqb v (getD r (position Q p - 1) 0)
-
--- pins as a list of marks, one a pattern node: 0 for none, else one more than the tree node
-unfoldable pub markPin : List ℕ → ℕ → ℕ → Bool
-markPin marks p v = markFits (getD marks p 0) (v + 1)

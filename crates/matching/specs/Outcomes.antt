@@ -1,27 +1,11 @@
 -- What is read off the matching tables: is a list a result, the nodes at a position, the paths of each node.
-use Prim.Native.Nat.{ℕ, _+_, _-_}
+use Prim.Native.Nat.{ℕ, _+_}
+use mathlib.Core.Path.{_≡_}
 use mathlib.Core.Bool.{Bool, true, false}
-use mathlib.Core.List.{List, map}
-use lib.Dec.{eqb, ltb}
-use lib.ListN.{length, getD, set, replicate}
-use Rattle.model.specs.Lists.{upFrom, firstOf, maskBelow}
-use Rattle.model.specs.Tree.{Document}
-use Rattle.model.specs.Pattern.{PatternRecord, Pattern}
+use mathlib.Core.List.{List}
+use lib.ListN.{length, getD, set}
 use Rattle.model.specs.Bytes.{writtenAtFront}
 use Rattle.model.proofs.Masks.{has}
-use Rattle.matching.specs.Matching.{standsAt, noPin}
-
--- the mark that pins a node with this position to its own number in the list
-unfoldable pub markAt : ℕ → List ℕ → ℕ
-markAt p list = elim (eqb p 0) [ true ↦ 0 | false ↦ getD list (p - 1) 0 + 1 ]
-
--- the marks of m nodes, and none after
-unfoldable pub marksFrom : List ℕ → ℕ → List ℕ → List ℕ
-marksFrom positions m list = writtenAtFront (map (λ q. markAt (getD positions q 0) list) (upFrom 0 m)) (replicate 16 0)
-
--- the first of m nodes that holds a position, or m where none does
-unfoldable pub holderOf : List ℕ → ℕ → ℕ → ℕ
-holderOf positions m p = firstOf (λ q. eqb (getD positions q 0) p) m (upFrom 0 m)
 
 -- pattern node q is in the mask of tree node v
 abbrev pub inMask : List ℕ → ℕ → ℕ → Bool
@@ -36,6 +20,6 @@ unfoldable pub countIf : Bool → ℕ → ℕ
 countIf true count = count + 1
 countIf false count = count
 
--- where q stands, as a mask of tree nodes; 0 for a number past the last node
-unfoldable pub standMask : Pattern → Document → ℕ → ℕ
-standMask Q W q = elim (ltb q (length Q)) [ true ↦ maskBelow (λ v. standsAt Q W noPin v q) (length W) | false ↦ 0 ]
+-- the list l stands at the front, the rest untouched, and r is its length
+abbrev pub Written : List ℕ → List ℕ → List ℕ → ℕ → Type 0
+Written l before after r = (r ≡ length l) × (after ≡ writtenAtFront l before)

@@ -1,63 +1,61 @@
 -- The matching tables: a mask of pattern nodes for each node of a tree.
-use Prim.Native.Nat.{ℕ, _≤_}
+use Prim.Native.Nat.{ℕ, _+_}
+use mathlib.Core.Path.{_≡_}
 use mathlib.Core.Bool.{Bool, true, false}
 use mathlib.Core.List.{List, map}
 use lib.Bits.{bitAnd, bitOr}
 use lib.Dec.{eqb}
 use lib.ListN.{length, getD, set}
 use Rattle.model.specs.Lists.{upFrom, maskBelow}
-use Rattle.model.specs.Tree.{Document, IsTree}
-use Rattle.model.specs.Pattern.{PatternRecord, Pattern, IsPatternTree}
-use Rattle.format.specs.Tables.{documentFrom}
-use Rattle.matching.specs.Matching.{partAt, leaves, leftTo, standsAt}
-
--- the i-th node of a pattern that stands in columns; no table asks for its position
-abbrev pub shapeNode : List ℕ → List ℕ → List ℕ → ℕ → PatternRecord
-shapeNode parents labels edges i = record { parent = getD parents i 0; label = getD labels i 0; edge = getD edges i 0; position = 0 }
-
--- the pattern of the first m of them
-unfoldable pub shapeFrom : List ℕ → List ℕ → List ℕ → ℕ → Pattern
-shapeFrom parents labels edges m = map (shapeNode parents labels edges) (upFrom 0 m)
+use Rattle.model.specs.Tree.{Document, parentOf, labelOf}
+use Rattle.model.specs.Pattern.{Pattern}
+use Rattle.model.specs.Bytes.{writtenAtFront}
+use Rattle.format.specs.Given.{treeOf, TreeGiven}
+use Rattle.matching.specs.Matching.{partAt, standsAt}
+use Rattle.matching.specs.Wanted.{deepIn, countIn, Wants, markPin, fitsBy, hangsBy}
 
 module _ (Q : Pattern) (W : Document) (pin : ℕ → ℕ → Bool) where
-  -- the mask of each tree node, of the sets that f gives
-  abbrev pub masksOf : (ℕ → ℕ → Bool) → List ℕ
-  masksOf f = map (λ v. maskBelow (f v) (length Q)) (upFrom 0 (length W))
-
   -- where the part of the pattern from a node down embeds
   unfoldable pub partTable : List ℕ
-  partTable = masksOf (partAt Q W pin)
+  partTable = map (λ v. maskBelow (partAt Q W pin v) (length Q)) (upFrom 0 (length W))
 
   -- where a node stands in a whole embedding
   unfoldable pub standTable : List ℕ
-  standTable = masksOf (standsAt Q W pin)
+  standTable = map (λ v. maskBelow (standsAt Q W pin v) (length Q)) (upFrom 0 (length W))
 
-  -- what each tree node leaves to its children
-  unfoldable pub leaveTable : List ℕ
-  leaveTable = masksOf (λ v. leaves Q W pin v (leftTo Q W pin v))
+-- ---- what is lent
 
--- what the columns of a tree of n nodes and of a pattern of m nodes, lent to a function, hold
-pub record Lent (parents labels : List ℕ) (n : ℕ) (qparents qlabels edges : List ℕ) (m : ℕ) : Type 0 where
-  pub tree : IsTree (documentFrom parents labels n)
-  pub pattern : IsPatternTree (shapeFrom qparents qlabels edges m)
-  pub parentRows : n ≤ length parents
-  pub labelRows : n ≤ length labels
-  pub patternParents : m ≤ length qparents
-  pub patternLabels : m ≤ length qlabels
-  pub patternEdges : m ≤ length edges
-  pub few : m ≤ 16
+-- a tree of any size
+abbrev pub TreeLent : ℕ → List ℕ → Type 0
+TreeLent width t = (most : ℕ) × TreeGiven width t most
 
--- ---- one turn of the passes over the tree, with t the table as it was
+-- a table of zeros
+abbrev pub Cleared : List ℕ → Type 0
+Cleared t = (v : ℕ) → getD t v 0 ≡ 0
+
+-- the table of the pattern whose block is w, over the tree in t, stands at the front, the rest untouched
+abbrev pub HoldsParts : ℕ → List ℕ → List ℕ → List ℕ → List ℕ → Type 0
+HoldsParts width t w before after = (Q : Pattern) → Wants Q w → after ≡ writtenAtFront (partTable Q (treeOf width t) (markPin w)) before
+
+abbrev pub HoldsStands : ℕ → List ℕ → List ℕ → List ℕ → List ℕ → Type 0
+HoldsStands width t w before after = (Q : Pattern) → Wants Q w → after ≡ writtenAtFront (standTable Q (treeOf width t) (markPin w)) before
+
+-- ---- one turn of the passes over the tree, with t the table as it was and u the parent of v
 
 -- what node v offers goes to its parent; the root has none
-unfoldable pub offerUp : List ℕ → ℕ → ℕ → List ℕ → List ℕ
-offerUp parents v offer t =
-    elim (eqb v 0) [ true ↦ t | false ↦ set t (getD parents v 0) (bitOr (getD t (getD parents v 0) 0) offer) ]
+unfoldable pub offerUp : ℕ → ℕ → ℕ → List ℕ → List ℕ
+offerUp u v offer t = elim (eqb v 0) [ true ↦ t | false ↦ set t u (bitOr (getD t u 0) offer) ]
 
 -- from the last node to the first: node v, where `fit` may stand, takes the place of what it was offered
-unfoldable pub settleAt : List ℕ → ℕ → ℕ → ℕ → List ℕ → List ℕ
-settleAt parents v fit deep t = offerUp parents v (bitOr fit (bitAnd deep (getD t v 0))) (set t v fit)
+unfoldable pub settleAt : Document → List ℕ → ℕ → List ℕ → List ℕ
+settleAt W w v t =
+    let fit : ℕ = maskBelow (fitsBy w (labelOf W v) (v + 1) (getD t v 0)) (countIn w) in
+    offerUp (parentOf W v) v (bitOr fit (bitAnd (deepIn w) (getD t v 0))) (set t v fit)
 
 -- from the root down: what is left to node v by the nodes above
-unfoldable pub leftAt : List ℕ → ℕ → List ℕ → ℕ
-leftAt parents v left = elim (eqb v 0) [ true ↦ 1 | false ↦ getD left (getD parents v 0) 0 ]
+unfoldable pub leftAt : ℕ → ℕ → List ℕ → ℕ
+leftAt u v left = elim (eqb v 0) [ true ↦ 1 | false ↦ getD left u 0 ]
+
+-- what a node to which `may` is left, and where `here` stands, leaves to its children
+abbrev pub leaveAt : List ℕ → ℕ → ℕ → ℕ
+leaveAt w may here = bitOr (maskBelow (hangsBy w here) (countIn w)) (bitAnd (deepIn w) may)

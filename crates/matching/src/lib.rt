@@ -2,4 +2,6 @@
 
 pub mod masks;
 pub mod outcomes;
-pub mod tables;
+mod sets;
+mod tables;
+mod wanted;

@@ -1,42 +1,36 @@
 -- `calls::paths::paths_call` meets its contract: a refusal is the definition's, and an accepted call answers each node's paths and the
 -- number of ones in each mask. Assumes nothing.
+-- what no question refused
+use mathlib.Core.Path.{sym, _∙_}
 use borrow.Author.Needs.{needs}
-use denote.Ref.{now}
+use Rattle.model.proofs.Questions.{PathsFacts, accepted-paths}
+use Rattle.format.proofs.GivenLaws.{given-summary}
+use Rattle.questions.proofs.PatternLaws.{selected-pattern}
+use Rattle.questions.proofs.AcceptedLaws.{accepted-whole}
 use Rattle.calls.proofs.PathLaws.{refused-fields, accepted-fields}
+use Rattle.calls.proofs.NumberedLaws.{given-numbered}
 use Rattle.calls.proofs.paths.paths_call.Statement.{statement}
 use Rattle.calls.proofs.paths.paths_call.Tie as tie
 
-paths-refusal-requires : tie.Need-paths-refusal-requires
-paths-refusal-requires c κs = search needs
-
 returns : tie.Need-returns
-returns c =
-    let a = c .before .before .before .args in
-    refused-fields (now (a .case)) (a .selection) (c .before .paths-refusal .ensures) (c .if1 .taken)
+returns c = let a = c .before .before .before .args in refused-fields (a .case .now) (a .number) (c .before .paths-refusal .ensures) (c .if1 .taken)
 
-accepted-masks-requires : tie.Need-accepted-masks-requires
-accepted-masks-requires c κs = search needs
+facts : (c : tie.Else1) → PathsFacts (c .before .before .before .args .case .now) (c .before .before .before .args .number)
+facts c = let a = c .before .before .before .args in accepted-paths (a .case .now) (a .number) (sym (c .before .paths-refusal .ensures) ∙ c .if1 .left)
 
-slice-aggregate-path-counts : tie.Need-slice-aggregate-path-counts
-slice-aggregate-path-counts c = search needs
+selected-at-requires : tie.Need-selected-at-requires
+selected-at-requires c κs = accepted-whole (facts c .case)
 
-path-counts-requires : tie.Need-path-counts-requires
-path-counts-requires c κs = search needs
+path-masks-requires : tie.Need-path-masks-requires
+path-masks-requires c κs = let F = facts (c .before) in (given-summary (F .case), given-numbered (F .case) (c .before .before .before .before .args .number) (c .selected-at .ensures))
 
 returns-2 : tie.Need-returns-2
 returns-2 c =
-    let found = c .before .before in
-    let e = found .before in
-    let a = e .before .before .before .args in
-    accepted-fields (now (a .case)) (a .selection) (e .before .paths-refusal .ensures) (e .if1 .left) (found .accepted-masks .ensures) (c .path-counts .ensures)
+    let picked = c .before .before .before in
+    let a = picked .before .before .before .before .args in
+    accepted-fields (a .case .now) (a .number) (picked .before .before .paths-refusal .ensures) (picked .before .if1 .left)
+    (selected-pattern (a .case .now) (a .number) _ (picked .selected-at .ensures)) (c .before .before .path-masks .ensures) (c .path-counts .ensures)
 
 pub paths-call-spec : {M : Type 1} → statement M
 paths-call-spec =
-    tie.close
-    (tie.spec
-    paths-refusal-requires
-    returns
-    accepted-masks-requires
-    slice-aggregate-path-counts
-    path-counts-requires
-    returns-2)
+    tie.close (tie.spec (λ c κs. search needs) returns selected-at-requires path-masks-requires (λ c κs. search needs) returns-2)

@@ -1,37 +1,64 @@
 -- `calls::result::result_call` meets its contract: the model's call goes by the same refusal, and its answer is the same test's. Assumes
 -- nothing.
+-- what no question refused
+-- the test's answer is the call's
+use Prim.Native.Nat.{ℕ}
+use mathlib.Core.Path.{_≡_, sym, ap, _∙_, subst}
+use mathlib.Core.Bool.{Bool, true, false}
+use lib.ListN.{length}
 use borrow.Author.Needs.{needs}
+use Rattle.model.specs.Pattern.{Pattern, arity}
+use Rattle.model.specs.Embeddings.{isResult}
+use Rattle.model.specs.Bytes.{documentOf, listOf}
+use Rattle.model.specs.Calls.{resultCall}
+use Rattle.model.proofs.Questions.{ListFacts, ResultFacts, accepted-result}
 use Rattle.model.proofs.Calls.{result-refused, result-accepted}
+use Rattle.format.proofs.GivenLaws.{given-document}
+use Rattle.questions.proofs.PatternLaws.{selected-pattern}
+use Rattle.questions.proofs.AcceptedLaws.{accepted-whole}
 use Rattle.calls.proofs.AnswerLaws.{answer-refused, answer-given}
+use Rattle.calls.proofs.NumberedLaws.{numbered-facts, given-numbered}
 use Rattle.calls.proofs.result.result_call.Statement.{statement}
 use Rattle.calls.proofs.result.result_call.Tie as tie
-
-result-refusal-requires : tie.Need-result-refusal-requires
-result-refusal-requires c κs = search needs
 
 returns : tie.Need-returns
 returns c =
     let a = c .before .before .before .before .before .args in
-    answer-refused _ _ (result-refused (a .case .now) (a .selection) (a .document .now) (a .list .now)) (c .before .result-refusal .ensures) (c .if1 .taken)
+    answer-refused _ _ (result-refused (a .case .now) (a .number) (a .document .now) (a .list .now)) (c .before .result-refusal .ensures) (c .if1 .taken)
 
-accepted-result-requires : tie.Need-accepted-result-requires
-accepted-result-requires c κs = search needs
+facts : (c : tie.Else1) → (let a = c .before .before .before .before .before .args in ResultFacts (a .case .now) (a .number) (a .document .now) (a .list .now))
+facts c =
+    let a = c .before .before .before .before .before .args in
+    accepted-result (a .case .now) (a .number) (a .document .now) (a .list .now) (sym (c .before .result-refusal .ensures) ∙ c .if1 .left)
+
+selected-at-requires : tie.Need-selected-at-requires
+selected-at-requires c κs = accepted-whole (facts c .case)
+
+is-result-requires : tie.Need-is-result-requires
+is-result-requires c κs =
+    let a = c .before .before .before .before .before .before .args in
+    let F = facts (c .before) in
+    let e = c .selected-at .ensures in (
+      (given-numbered (F .case) (a .number) e, numbered-facts (F .case) (a .number) e, given-document (F .document)),
+      subst (λ (P : Pattern). ListFacts (arity P) (length (documentOf (a .document .now))) (a .list .now)) (selected-pattern (a .case .now) (a .number) _ e) (F .list),
+    )
+
+told : (c : tie.After-is-result) {v : Bool} → c .is-result .result ≡ v
+    → (let a = c .before .before .before .before .before .before .before .args in let o = resultCall (a .case .now) (a .number) (a .document .now) (a .list .now) in
+    (0 ≡ o .refused) × ((elim v as (λ _. ℕ) [ true ↦ 1 | false ↦ 0 ]) ≡ o .holds))
+told c p =
+    let picked = c .before in
+    let a = picked .before .before .before .before .before .before .args in
+    answer-given _ _ _ (result-accepted (a .case .now) (a .number) (a .document .now) (a .list .now)) (picked .before .before .result-refusal .ensures) (picked .before .if1 .left)
+    (c .is-result .ensures
+    ∙ ap (λ (P : Pattern). isResult P (documentOf (a .document .now)) (listOf (a .list .now))) (sym (selected-pattern (a .case .now) (a .number) _ (picked .selected-at .ensures))))
+    p
 
 returns-2 : tie.Need-returns-2
-returns-2 c =
-    let asked = c .before .before in
-    let a = asked .before .before .before .before .before .args in
-    answer-given _ _ _ (result-accepted (a .case .now) (a .selection) (a .document .now) (a .list .now)) (asked .before .result-refusal .ensures) (asked .if1 .left)
-    (c .before .accepted-result .ensures) (c .if2 .taken)
+returns-2 c = told (c .before) (c .if2 .taken)
 
 returns-3 : tie.Need-returns-3
-returns-3 c =
-    let asked = c .before .before in
-    let a = asked .before .before .before .before .before .args in
-    answer-given _ _ _ (result-accepted (a .case .now) (a .selection) (a .document .now) (a .list .now)) (asked .before .result-refusal .ensures) (asked .if1 .left)
-    (c .before .accepted-result .ensures) (c .if2 .left)
+returns-3 c = told (c .before) (c .if2 .left)
 
 pub result-call-spec : {M : Type 1} → statement M
-result-call-spec =
-    tie.close
-    (tie.spec result-refusal-requires returns accepted-result-requires returns-2 returns-3)
+result-call-spec = tie.close (tie.spec (λ c κs. search needs) returns selected-at-requires is-result-requires returns-2 returns-3)

@@ -1,57 +1,28 @@
--- `matching::masks::deep_mask` meets its contract: after q turns r holds what hangs deep of the nodes below q. The measure is what is
--- left of m. Assumes nothing.
+-- `matching::masks::deep_mask` meets its contract: after q turns r holds what hangs deep of the nodes below q. The measure is what is left
+-- of the count. Assumes nothing.
 use Prim.Native.Nat.{_-_}
+use native.Mathlib.Omega.{arith}
+use lib.ListN.{length}
 use borrow.Author.Needs.{needs}
-use Rattle.matching.specs.Masks.{deepBy}
+use Rattle.format.specs.Given.{patternAt}
+use Rattle.matching.specs.Matching.{hangsDeep}
 use Rattle.matching.proofs.MaskLoops.{Inserting, inserting-start, inserting-step, inserting-end}
 use Rattle.matching.proofs.masks.deep_mask.Statement.{statement}
 use Rattle.matching.proofs.masks.deep_mask.Tie as tie
 
 abbrev Inv-loop : tie.InvT-loop
-Inv-loop edges m r₀ q₀ r q = Inserting (deepBy edges) m r q
+Inv-loop b at m r₀ q₀ r q = Inserting (hangsDeep (patternAt b at)) (length (patternAt b at)) r q
 
 abbrev μ-loop : tie.MeasureT-loop
-μ-loop edges m r₀ q₀ r q = m - q
-
-loop-holds : tie.Need-loop-holds Inv-loop μ-loop
-loop-holds c = inserting-start
-
-mul-hangs-deep : tie.Need-mul-hangs-deep Inv-loop μ-loop
-mul-hangs-deep c = search needs
-
-shared-slice-read-hangs-deep : tie.Need-shared-slice-read-hangs-deep Inv-loop μ-loop
-shared-slice-read-hangs-deep c = search needs
-
-hangs-deep-requires : tie.Need-hangs-deep-requires Inv-loop μ-loop
-hangs-deep-requires c κs = search needs
-
-insert-if16-requires : tie.Need-insert-if16-requires Inv-loop μ-loop
-insert-if16-requires c κs = search needs
-
-add-q : tie.Need-add-q Inv-loop μ-loop
-add-q c = search needs
-
-loop-less : tie.Need-loop-less Inv-loop μ-loop
-loop-less c = search needs
+μ-loop b at m r₀ q₀ r q = m - q
 
 loop-again : tie.Need-loop-again Inv-loop μ-loop
-loop-again c = inserting-step (c .before .hangs-deep .result) (c .before .before .before .before .loop .inv) (c .before .before .before .loop-test .taken) (c .before .hangs-deep .ensures) (c .insert-if16 .ensures)
+loop-again c = inserting-step (c .before .hangs-deep .result) (c .before .before .before .loop .inv) (omega arith) (c .before .hangs-deep .ensures) (c .insert-if16 .ensures)
 
 returns : tie.Need-returns Inv-loop μ-loop
-returns c = inserting-end (c .before .loop .inv) (c .loop-test .left)
+returns c = inserting-end (c .before .loop .inv) (omega arith)
 
 pub deep-mask-spec : {M : Type 1} → statement M
 deep-mask-spec =
-    tie.close
-    (tie.spec
-    Inv-loop
-    μ-loop
-    loop-holds
-    mul-hangs-deep
-    shared-slice-read-hangs-deep
-    hangs-deep-requires
-    insert-if16-requires
-    add-q
-    loop-less
-    loop-again
-    returns)
+    tie.close (tie.spec Inv-loop μ-loop (λ c κs. search needs) (λ c. inserting-start) (λ c κs. search needs) (λ c κs. search needs)
+    (λ c. search needs) (λ c. search needs) loop-again returns)

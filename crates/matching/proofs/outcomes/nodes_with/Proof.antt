@@ -23,14 +23,12 @@ in-mask-requires c κs = (omega arith, c .before .before .before .before .pre .3
 push-if-requires : tie.Need-push-if-requires Inv-loop μ-loop
 push-if-requires c κs = (omega arith, omega (arith, c .before .before .before .loop .inv .few, c .before .before .before .loop .inv .size))
 
-add-v : tie.Need-add-v Inv-loop μ-loop
-add-v c = search needs
-
-loop-less : tie.Need-loop-less Inv-loop μ-loop
-loop-less c = search needs
-
 loop-again : tie.Need-loop-again Inv-loop μ-loop
-loop-again c = listing-step (c .before .before .before .before .in-mask .result) (c .before .before .before .before .before .before .loop .inv) (c .before .before .before .before .before .before .before .before .before .pre .1) (c .before .before .before .before .before .loop-test .taken) (c .before .before .before .before .in-mask .ensures) (c .before .before .push-if .ensures .0) (c .before .before .push-if .ensures .1)
+loop-again c =
+    let asked = c .before .before .before .before in
+    let turn = asked .before .before in
+    listing-step (asked .in-mask .result) (turn .loop .inv) (turn .before .before .before .pre .1) (asked .before .loop-test .taken) (asked .in-mask .ensures) (c .before .before .push-if .ensures .0)
+    (c .before .before .push-if .ensures .1)
 
 same-length : tie.Need-same-length Inv-loop μ-loop
 same-length c = c .before .loop .inv .size
@@ -40,15 +38,5 @@ returns c = listing-end (c .before .loop .inv) (c .loop-test .left)
 
 pub nodes-with-spec : {M : Type 1} → statement M
 nodes-with-spec =
-    tie.close
-    (tie.spec
-    Inv-loop
-    μ-loop
-    loop-holds
-    in-mask-requires
-    push-if-requires
-    add-v
-    loop-less
-    loop-again
-    same-length
-    returns)
+    tie.close (tie.spec Inv-loop μ-loop loop-holds in-mask-requires push-if-requires (λ c. search needs) (λ c. search needs) loop-again
+    same-length returns)

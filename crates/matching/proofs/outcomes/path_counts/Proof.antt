@@ -1,10 +1,12 @@
 -- `matching::outcomes::path_counts` meets its contract: after q turns the first q counts stand. The measure is what is left of 16. Assumes
 -- nothing.
 use Prim.Native.Nat.{ℕ, _-_}
+use mathlib.Core.Path.{_∙_}
+use native.Mathlib.Omega.{arith}
 use lib.Count.{ones}
 use lib.ListN.{getD, replicate}
 use borrow.Author.Needs.{needs}
-use Rattle.matching.proofs.ReadLoops.{Filling, filling-start, filling-step, filling-end, filling-entries}
+use Rattle.matching.proofs.ReadLoops.{Filling, filling-start, filling-step, filling-end, filling-zeros}
 use Rattle.matching.proofs.outcomes.path_counts.Statement.{statement}
 use Rattle.matching.proofs.outcomes.path_counts.Tie as tie
 
@@ -15,50 +17,15 @@ abbrev μ-loop : tie.MeasureT-loop
 μ-loop masks r₀ q₀ r q = 16 - q
 
 loop-holds : tie.Need-loop-holds Inv-loop μ-loop
-loop-holds c = filling-start (λ (k : ℕ). ones (getD (c .before .args .masks .now) k 0))
-
-mul-count64 : tie.Need-mul-count64 Inv-loop μ-loop
-mul-count64 c = search needs
-
-shared-slice-read-count64 : tie.Need-shared-slice-read-count64 Inv-loop μ-loop
-shared-slice-read-count64 c = search needs
-
-count64-requires : tie.Need-count64-requires Inv-loop μ-loop
-count64-requires c κs = search needs
-
-mul-r : tie.Need-mul-r Inv-loop μ-loop
-mul-r c = search needs
-
-array-write-r : tie.Need-array-write-r Inv-loop μ-loop
-array-write-r c = search needs
-
-add-q : tie.Need-add-q Inv-loop μ-loop
-add-q c = search needs
-
-loop-less : tie.Need-loop-less Inv-loop μ-loop
-loop-less c = search needs
+loop-holds c = filling-start (λ (k : ℕ). ones (getD (c .args .masks .now) k 0))
 
 loop-again : tie.Need-loop-again Inv-loop μ-loop
-loop-again c = filling-step (λ (k : ℕ). ones (getD (c .before .before .before .before .before .args .masks .now) k 0)) (c .before .before .before .loop .inv) (search needs) (c .before .before .loop-test .taken) (c .count64 .ensures)
+loop-again c = filling-step _ (c .before .before .before .loop .inv) (search needs) (c .before .before .loop-test .taken) (c .count64 .ensures)
 
 returns : tie.Need-returns Inv-loop μ-loop
-returns c =
-    let l = c .before .before .before .args .masks .now in
-    filling-entries ones l (replicate 16 0) (c .before .before .before .pre) (search needs) (filling-end (λ (k : ℕ). ones (getD l k 0)) (c .before .loop .inv) (c .loop-test .left))
+returns c = filling-end _ (c .before .loop .inv) (c .loop-test .left) ∙ filling-zeros _ 16 16 (omega arith) (λ i h l. absurd (omega arith))
 
 pub path-counts-spec : {M : Type 1} → statement M
 path-counts-spec =
-    tie.close
-    (tie.spec
-    Inv-loop
-    μ-loop
-    loop-holds
-    mul-count64
-    shared-slice-read-count64
-    count64-requires
-    mul-r
-    array-write-r
-    add-q
-    loop-less
-    loop-again
-    returns)
+    tie.close (tie.spec Inv-loop μ-loop loop-holds (λ c. search needs) (λ c. search needs) (λ c κs. search needs) (λ c. search needs)
+    (λ c. search needs) (λ c. search needs) (λ c. search needs) loop-again returns)

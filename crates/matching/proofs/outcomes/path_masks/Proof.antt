@@ -1,78 +1,62 @@
 -- `matching::outcomes::path_masks` meets its contract: a node's paths are where it stands. After q turns the first q masks stand; the
--- measure is what is left of m. Assumes nothing.
-use Prim.Native.Nat.{ℕ, _-_}
-use mathlib.Core.Path.{refl}
+-- measure is what is left of the count. Assumes nothing.
+use Prim.Native.Nat.{_-_}
+use mathlib.Core.Path.{_∙_}
 use native.Mathlib.Omega.{arith}
-use lib.ListN.{replicate}
+use lib.ListN.{length, replicate}
 use borrow.Author.Needs.{needs}
-use Rattle.model.specs.Lists.{maskBelow}
-use Rattle.matching.specs.Outcomes.{inMask}
-use Rattle.matching.proofs.ReadLoops.{Filling, filling-start, filling-step, filling-end}
-use Rattle.matching.proofs.ColumnAnswers.{paths-read}
+use Rattle.model.specs.Limits.{maxSummary, summaryWidth}
+use Rattle.model.specs.Embeddings.{pathMask}
+use Rattle.model.proofs.Results.{path-mask-beyond}
+use Rattle.format.specs.Given.{summaryIn, patternAt}
+use Rattle.format.proofs.SectionLaws.{tree-summary}
+use Rattle.format.proofs.GivenLaws.{summary-as-tree}
+use Rattle.matching.proofs.Answers.{path-read}
+use Rattle.matching.proofs.ReadLoops.{Filling, filling-start, filling-step, filling-end, filling-zeros}
+use Rattle.matching.proofs.TurnLaws.{zeros-at}
 use Rattle.matching.proofs.outcomes.path_masks.Statement.{statement}
 use Rattle.matching.proofs.outcomes.path_masks.Tie as tie
 
 abbrev Inv-loop : tie.InvT-loop
-Inv-loop parents labels n qparents qlabels edges m table r₀ q₀ r q = Filling (λ (k : ℕ). maskBelow (inMask table k) n) m (replicate 16 0) r q
+Inv-loop case at table n m r₀ q₀ r q = Filling (pathMask (summaryIn case) (patternAt case at)) (length (patternAt case at)) (replicate 16 0) r q
 
 abbrev μ-loop : tie.MeasureT-loop
-μ-loop parents labels n qparents qlabels edges m table r₀ q₀ r q = m - q
-
-slice-aggregate-stands : tie.Need-slice-aggregate-stands Inv-loop μ-loop
-slice-aggregate-stands c = search needs
-
-slice-aggregate-stands-2 : tie.Need-slice-aggregate-stands-2 Inv-loop μ-loop
-slice-aggregate-stands-2 c = search needs
-
-slice-aggregate-stands-3 : tie.Need-slice-aggregate-stands-3 Inv-loop μ-loop
-slice-aggregate-stands-3 c = search needs
+μ-loop case at table n m r₀ q₀ r q = m - q
 
 stands-requires : tie.Need-stands-requires Inv-loop μ-loop
-stands-requires c κs = search needs
+stands-requires c κs =
+    let d = summary-as-tree (c .before .before .before .before .before .pre .0) in
+    (((maxSummary, d), (_, c .before .before .before .wanted-of .ensures .0), zeros-at 64), (d .few, d .few))
 
 loop-holds : tie.Need-loop-holds Inv-loop μ-loop
 loop-holds c = filling-start _
 
-slice-aggregate-stand-mask : tie.Need-slice-aggregate-stand-mask Inv-loop μ-loop
-slice-aggregate-stand-mask c = search needs
-
 stand-mask-requires : tie.Need-stand-mask-requires Inv-loop μ-loop
-stand-mask-requires c κs = search needs
-
-mul-r : tie.Need-mul-r Inv-loop μ-loop
-mul-r c = search needs
+stand-mask-requires c κs =
+    let counted = c .before .before .before .before in
+    let p = counted .before .before .before .before .before .before .before .before .before .pre in
+    let n = counted .summary-count .ensures .0 in
+    (omega (arith, n, p .0 .few), omega (arith, n, p .0 .few), omega (arith, c .before .before .before .pattern-count .ensures .0, p .1 .few))
 
 array-write-r : tie.Need-array-write-r Inv-loop μ-loop
-array-write-r c = search needs
-
-add-q : tie.Need-add-q Inv-loop μ-loop
-add-q c = search needs
-
-loop-less : tie.Need-loop-less Inv-loop μ-loop
-loop-less c = search needs
+array-write-r c = omega (arith, c .before .before .before .before .before .before .before .before .before .before .before .before .before .before .pre .1 .few)
 
 loop-again : tie.Need-loop-again Inv-loop μ-loop
-loop-again c = filling-step _ (c .before .before .before .loop .inv) (omega (arith, c .before .before .before .before .before .before .before .before .before .before .before .before .before .before .before .pre .0 .few)) (c .before .before .loop-test .taken) (c .stand-mask .ensures)
+loop-again c =
+    let counted = c .before .before .before .before .before in
+    let made = counted .before .before .before .before .before .before .before in
+    let s = made .before .before in
+    filling-step _ (c .before .before .before .loop .inv) (s .pre .1 .few) (omega arith)
+    (c .stand-mask .ensures ∙ path-read _ (made .wanted-of .ensures .0) summaryWidth (s .args .case .now) _ (made .wanted-of .ensures .1) (tree-summary (s .args .case .now))
+    (s .pre .0 .tree) (counted .before .before .before .stands .ensures) (counted .summary-count .ensures .0) (omega arith))
 
 returns : tie.Need-returns Inv-loop μ-loop
-returns c = paths-read (c .before .before .before .before .before .before .before .before .before .before .before .before .before .pre .0) _ _ refl (c .before .before .before .before .stands .ensures .0) refl (filling-end _ (c .before .loop .inv) (c .loop-test .left))
+returns c =
+    let s = c .before .before .before .before .before .before .before .before .before .before .before .before in
+    filling-end _ (c .before .loop .inv) (omega arith) ∙ filling-zeros _ _ 16 (s .pre .1 .few) (λ i h l. path-mask-beyond _ _ i h)
 
 pub path-masks-spec : {M : Type 1} → statement M
 path-masks-spec =
-    tie.close
-    (tie.spec
-    Inv-loop
-    μ-loop
-    slice-aggregate-stands
-    slice-aggregate-stands-2
-    slice-aggregate-stands-3
-    stands-requires
-    loop-holds
-    slice-aggregate-stand-mask
-    stand-mask-requires
-    mul-r
-    array-write-r
-    add-q
-    loop-less
-    loop-again
-    returns)
+    tie.close (tie.spec Inv-loop μ-loop (λ c κs. search needs) (λ c. search needs) (λ c. search needs) stands-requires
+    (λ c κs. search needs) (λ c κs. search needs) loop-holds (λ c. search needs) stand-mask-requires (λ c. search needs) array-write-r
+    (λ c. search needs) (λ c. search needs) loop-again returns)

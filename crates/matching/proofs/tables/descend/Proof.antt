@@ -1,55 +1,17 @@
--- `matching::tables::descend` meets its contract: what hangs from what v keeps is what `hanging` gives. Assumes nothing.
-use Prim.Native.Nat.{ℕ}
-use mathlib.Core.Path.{refl, ap}
-use lib.Bits.{bitAnd, bitOr}
+-- `matching::tables::descend` meets its contract: both tables are stored to as the definitions say. Assumes nothing.
+use mathlib.Core.Path.{refl}
 use lib.ListN.{set}
+use lib.Bits.{bitAnd, bitOr}
 use borrow.Author.Needs.{needs}
 use Rattle.matching.proofs.tables.descend.Statement.{statement}
 use Rattle.matching.proofs.tables.descend.Tie as tie
 
-mul-here : tie.Need-mul-here
-mul-here c = search needs
-
-slice-read-here : tie.Need-slice-read-here
-slice-read-here c = search needs
-
-mul-table : tie.Need-mul-table
-mul-table c = search needs
-
-slice-write-table : tie.Need-slice-write-table
-slice-write-table c = search needs
-
-hanging-requires : tie.Need-hanging-requires
-hanging-requires c κs = search needs
-
-mul-left : tie.Need-mul-left
-mul-left c = search needs
-
-slice-write-left : tie.Need-slice-write-left
-slice-write-left c = search needs
-
-same-length : tie.Need-same-length
-same-length c = search needs
-
-same-length-2 : tie.Need-same-length-2
-same-length-2 c = search needs
-
 returns : tie.Need-returns
 returns c =
     let s = c .before .before .before .before .before .args in
-    (refl, ap (λ (x : ℕ). set (s .left .now) (s .v) (bitOr x (bitAnd (s .deep) (s .may)))) (c .hanging .ensures))
+    (refl, λ i. set (s .left .now) (s .v) (bitOr (c .before .hanging .ensures i) (bitAnd (c .wanted-deep .ensures i) (s .may))))
 
 pub descend-spec : {M : Type 1} → statement M
 descend-spec =
-    tie.close
-    (tie.spec
-    mul-here
-    slice-read-here
-    mul-table
-    slice-write-table
-    hanging-requires
-    mul-left
-    slice-write-left
-    same-length
-    same-length-2
-    returns)
+    tie.close (tie.spec (λ c. search needs) (λ c. search needs) (λ c. search needs) (λ c. search needs) (λ c κs. search needs)
+    (λ c κs. search needs) (λ c. search needs) (λ c. search needs) (λ c. search needs) (λ c. search needs) returns)

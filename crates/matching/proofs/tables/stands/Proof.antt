@@ -1,71 +1,67 @@
 -- `matching::tables::stands` meets its contract: before turn v the nodes before v hold what stands there and what they leave to their
--- children. The measure is what is left of n. Assumes nothing.
-use borrow.Author.Needs.{needs}
-use Prim.Native.Nat.{_-_, _<_}
-use mathlib.Core.Path.{_≡_, _∙_}
+-- children. The measure is what is left of the nodes. Assumes nothing.
+use Prim.Native.Nat.{_-_}
+use mathlib.Core.Path.{_∙_}
 use native.Mathlib.Omega.{arith}
-use lib.ListN.{length}
-use Rattle.format.specs.Tables.{documentFrom}
-use Rattle.matching.specs.Matching.{markPin}
-use Rattle.matching.specs.Tables.{shapeFrom}
-use Rattle.matching.proofs.PartLoop.{lent-rooted, lent-earlier}
-use Rattle.matching.proofs.StandLoop.{Descending, descending-start, stands-step, stands-end}
+use borrow.Author.Needs.{needs}
+use Rattle.model.specs.Pattern.{Pattern}
+use Rattle.format.specs.Given.{treeOf}
+use Rattle.matching.specs.Wanted.{Wants, markPin}
+use Rattle.matching.proofs.StandLoop.{Descending, descending-start, descending-step, descending-end}
 use Rattle.matching.proofs.tables.stands.Statement.{statement}
 use Rattle.matching.proofs.tables.stands.Tie as tie
 
 abbrev Inv-loop : tie.InvT-loop
-Inv-loop parents labels n qparents qlabels edges marks m table₀ left₀ deep v₀ table left v = Descending (shapeFrom qparents qlabels edges m) (documentFrom parents labels n) (markPin marks) table₀ left₀ table left v
+Inv-loop t width wanted table₀ left₀ n v₀ table left v = (Q : Pattern) → Wants Q wanted → Descending Q (treeOf width t) (markPin wanted) table₀ left₀ table left v
 
 abbrev μ-loop : tie.MeasureT-loop
-μ-loop parents labels n qparents qlabels edges marks m table₀ left₀ deep v₀ table left v = n - v
-
-parts-requires : tie.Need-parts-requires Inv-loop μ-loop
-parts-requires c κs = search needs
-
-deep-mask-requires : tie.Need-deep-mask-requires Inv-loop μ-loop
-deep-mask-requires c κs = search needs
+μ-loop t width wanted table₀ left₀ n v₀ table left v = n - v
 
 loop-holds : tie.Need-loop-holds Inv-loop μ-loop
-loop-holds c = descending-start _ _ _ _ _
+loop-holds c = λ Q K. descending-start _ _ _ _ _
 
 left-at-requires : tie.Need-left-at-requires Inv-loop μ-loop
-left-at-requires c κs = let l = c .before .before .before .before .before .before .before .before .before .before .before .before .before .before .before .before .pre .0 in let h : c .before .before .loop .v < c .before .before .before .before .before .before .before .before .before .before .before .before .before .before .before .before .args .n = c .before .loop-test .taken in let size : length (c .before .before .loop .left) ≡ length (c .before .before .before .before .before .before .before .before .before .before .before .before .before .before .before .before .args .left .now) = c .before .before .loop .inv .leftSize in (omega (arith, l .parentRows), omega (arith, c .before .before .before .before .before .before .before .before .before .before .before .before .before .before .before .before .pre .1 .2), λ z. lent-earlier l (c .before .before .loop .v) z h)
+left-at-requires c κs =
+    let counted = c .before .before .before in
+    let s = counted .before .before .before .before .before .before .before .before in
+    let k = c .before .before .loop .inv (s .pre .0 .1 .0) (s .pre .0 .1 .1) in
+    let n = counted .tree-count .ensures .0 in
+    (s .pre .0 .0, omega (arith, n), omega (arith, n, k .leftSize, s .pre .1 .1))
 
 descend-requires : tie.Need-descend-requires Inv-loop μ-loop
-descend-requires c κs = let l = c .before .before .before .before .before .before .before .before .before .before .before .before .before .before .before .before .before .before .before .pre .0 in let h : c .before .before .before .before .before .loop .v < c .before .before .before .before .before .before .before .before .before .before .before .before .before .before .before .before .before .before .before .args .n = c .before .before .before .before .loop-test .taken in let size : length (c .before .before .before .before .before .loop .table) ≡ length (c .before .before .before .before .before .before .before .before .before .before .before .before .before .before .before .before .before .before .before .args .table .now) = c .before .before .before .before .before .loop .inv .size ∙ c .before .before .before .before .before .before .before .before .before .parts .kept .1 .1 .1 .1 .1 .1 .1 .1 .0 in let leftSize : length (c .before .before .before .before .before .loop .left) ≡ length (c .before .before .before .before .before .before .before .before .before .before .before .before .before .before .before .before .before .before .before .args .left .now) = c .before .before .before .before .before .loop .inv .leftSize in ((omega (arith, c .before .before .before .before .before .before .before .before .before .before .before .before .before .before .before .before .before .before .before .pre .1 .1), omega (arith, c .before .before .before .before .before .before .before .before .before .before .before .before .before .before .before .before .before .before .before .pre .1 .2)), (l .few, l .patternParents, lent-rooted l))
-
-add-v : tie.Need-add-v Inv-loop μ-loop
-add-v c = search needs
-
-loop-less : tie.Need-loop-less Inv-loop μ-loop
-loop-less c = search needs
+descend-requires c κs =
+    let counted = c .before .before .before .before .before .before in
+    let s = counted .before .before .before .before .before .before .before .before in
+    let k = c .before .before .before .before .before .loop .inv (s .pre .0 .1 .0) (s .pre .0 .1 .1) in
+    let n = counted .tree-count .ensures .0 in
+    (omega (arith, n, k .size, counted .before .before .before .parts .kept .1 .1 .1 .0, s .pre .1 .0), omega (arith, n, k .leftSize, s .pre .1 .1), s .pre .0 .1)
 
 loop-again : tie.Need-loop-again Inv-loop μ-loop
-loop-again c = stands-step (c .before .before .before .before .before .before .before .before .before .before .before .before .before .before .before .before .before .before .before .before .before .before .before .before .pre .0) (c .before .before .before .before .before .before .before .before .before .before .before .before .before .before .before .before .before .before .before .before .before .before .before .before .args .marks .now) (c .before .before .before .before .before .before .before .before .before .before .before .before .before .before .before .before .before .before .before .before .before .before .before .before .args .table .now) (c .before .before .before .before .before .before .before .before .before .before .before .before .before .before .before .before .before .before .before .before .before .before .before .before .pre .1 .1) (c .before .before .before .before .before .before .before .before .before .before .before .before .before .before .before .before .before .before .before .before .before .before .before .before .pre .1 .2) (c .before .before .before .before .before .before .before .before .before .before .before .before .before .before .parts .ensures) (c .before .before .before .before .before .before .before .before .before .before .loop .inv) (c .before .before .before .before .before .before .before .before .before .loop-test .taken) (c .before .before .before .before .before .before .before .before .before .before .before .deep-mask .ensures) (c .before .before .before .before .before .before .before .left-at .ensures) (c .before .before .before .before .descend .ensures .0) (c .before .before .before .before .descend .ensures .1)
+loop-again c =
+    let asked = c .before .before .before .before .before .before .before in
+    let counted = asked .before .before .before .before in
+    let s = counted .before .before .before .before .before .before .before .before in
+    λ Q K. descending-step (asked .left-at .result) (s .args .table .now) K (s .pre .0 .0 .1 .tree) (s .pre .1 .0) (s .pre .1 .1)
+    (counted .before .before .before .parts .ensures Q K) (asked .before .before .before .loop .inv Q K) (omega (arith, asked .before .before .loop-test .taken, counted .tree-count .ensures .0))
+    (asked .left-at .ensures) (c .before .before .before .before .descend .ensures .0) (c .before .before .before .before .descend .ensures .1)
 
 same-length : tie.Need-same-length Inv-loop μ-loop
-same-length c = c .before .loop .inv .size ∙ c .before .before .before .before .before .parts .kept .1 .1 .1 .1 .1 .1 .1 .1 .0
+same-length c =
+    let filled = c .before .before .before .before .before in
+    let k = filled .before .before .before .before .before .pre .0 .1 in
+    c .before .loop .inv (k .0) (k .1) .size ∙ filled .parts .kept .1 .1 .1 .0
 
 same-length-2 : tie.Need-same-length-2 Inv-loop μ-loop
-same-length-2 c = c .before .loop .inv .leftSize
+same-length-2 c = let k = c .before .before .before .before .before .before .before .before .before .before .pre .0 .1 in c .before .loop .inv (k .0) (k .1) .leftSize
 
 returns : tie.Need-returns Inv-loop μ-loop
-returns c = stands-end (c .before .before .before .before .before .before .before .before .before .before .before .before .before .before .before .pre .0) (c .before .before .before .before .before .before .before .before .before .before .before .before .before .before .before .args .marks .now) (c .before .before .before .before .before .before .before .before .before .before .before .before .before .before .before .args .table .now) (c .before .before .before .before .before .before .before .before .before .before .before .before .before .before .before .pre .1 .1) (c .before .before .before .before .before .before .before .before .before .before .before .before .before .before .before .pre .1 .2) (c .before .before .before .before .before .parts .ensures) (c .before .loop .inv) (c .loop-test .left)
+returns c =
+    let filled = c .before .before .before .before .before in
+    let s = filled .before .before .before .before .before in
+    λ Q K. descending-end (s .args .table .now) (c .before .loop .inv Q K) (omega (arith, c .loop-test .left, c .before .before .tree-count .ensures .0)) (s .pre .1 .0)
+    (filled .parts .ensures Q K)
 
 pub stands-spec : {M : Type 1} → statement M
 stands-spec =
-    tie.close
-    (tie.spec
-    Inv-loop
-    μ-loop
-    parts-requires
-    deep-mask-requires
-    loop-holds
-    left-at-requires
-    descend-requires
-    add-v
-    loop-less
-    loop-again
-    same-length
-    same-length-2
-    returns)
+    tie.close (tie.spec Inv-loop μ-loop (λ c κs. search needs) (λ c κs. search needs) loop-holds left-at-requires descend-requires
+    (λ c. search needs) (λ c. search needs) loop-again same-length same-length-2 returns)
