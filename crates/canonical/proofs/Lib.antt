@@ -1,5 +1,5 @@
-pub mod ColumnLaws
+pub mod DraftLaws
 pub mod ChainLaws
-pub mod LayingLaws
 pub mod FillLaws
 pub mod LayoutLaws
+pub mod ChainPhaseLaws

@@ -1,3 +1,2 @@
-pub mod Columns
+pub mod Draft
 pub mod Given
-pub mod LaidOut

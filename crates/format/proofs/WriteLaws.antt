@@ -114,7 +114,7 @@ module _ (parents labels : List ℕ) where
   unfolding encodeDocument sectionFields
   document-all n = ap (λ (k : ℕ). bytesOf (k ∷ flatMap documentFields (documentFrom parents labels n))) (sym (length-documentFrom parents labels n))
 
-document-fields : (W : Document) → length (flatMap documentFields W) ≡ 2 * length W
+pub document-fields : (W : Document) → length (flatMap documentFields W) ≡ 2 * length W
 unfolding flatMap
 document-fields [] = refl
 document-fields (r ∷ W) = let ih : length (flatMap documentFields W) ≡ 2 * length W = document-fields W in omega arith

@@ -1,28 +1,33 @@
--- The tables' fronts are the columns of the nodes so far: so of the root alone, and so again when one node is appended, because
--- only the masks of the new node and of its parent change. Assumes nothing.
-use Prim.Native.Nat.{ℕ, suc, _+_, _^_, _≤_, _<_}
+-- The draft's fronts hold the nodes so far: so of the root alone, and so again when one node is appended, because one record more is
+-- written after the others, and only the masks of the new node and of its parent change. Assumes nothing.
+use Prim.Native.Nat.{ℕ, suc, _+_, _*_, _^_, _≤_, _<_}
 use mathlib.Core.Path.{_≡_, refl, sym, ap, ap₂, _∙_, subst, subst₂}
 use mathlib.Core.Bool.{Bool, true, false, _&&_, _||_, or-false}
-use mathlib.Core.List.{List, [], _∷_, _++_, map, map-append, List·Memᴰ, List·Memᴰ·head, List·Memᴰ·tail}
+use mathlib.Core.List.{List, [], _∷_, _++_, map, flatMap, map-append, append-assoc, List·Memᴰ, List·Memᴰ·head, List·Memᴰ·tail}
 use native.Mathlib.Omega.{arith}
 use native.Mathlib.Nat.{zero-add}
 use native.Mathlib.Numerals.{add-one}
 use lib.Bits.{bitOr}
 use lib.Dec.{eqb, ltb}
 use lib.ListN.{length, getD, drop, set, length-set, length-map, List·getD-append}
-use lib.Seq.{getD-append-seam, getD-set-same, getD-set-other, set-append-left, ext-getD}
+use lib.Seq.{sets, getD-append-seam, getD-set-same, getD-set-other, set-append-left, ext-getD}
 use borrow.Author.Tests.{eqb-true, eqb-false, eq-eqb, ne-eqb, ltb-true, ltb-false, lt-ltb}
-use Rattle.model.specs.Limits.{minTable, maxSummary}
+use Rattle.model.specs.Limits.{minTable, maxSummary, maxCanonical}
 use Rattle.model.specs.Lists.{upFrom, anyOf}
-use Rattle.model.specs.Bytes.{writtenAtFront}
-use Rattle.model.specs.Canonical.{Spot, rootSpot, spotParent, spotAt, hasChildOn}
+use Rattle.model.specs.Tree.{Document}
+use Rattle.model.specs.Summary.{Summary, summaryLabel}
+use Rattle.model.specs.Bytes.{fieldBytes, bytesOf, documentFields, sectionFields, encodeDocument, writtenAtFront}
+use Rattle.model.specs.Canonical.{Spot, rootSpot, spotParent, spotAt, spotRecord, hasChildOn}
 use Rattle.model.proofs.ListLaws.{bool-ext, and-left, and-right, any-below, upFrom-mem, length-snoc, length-map-upFrom, getD-map}
+use Rattle.model.proofs.TreeLaws.{length-asDocument}
 use Rattle.model.proofs.Masks.{has, mask-none}
-use Rattle.model.proofs.Bytes.{front-length}
+use Rattle.model.proofs.Bytes.{length-bytes, front-length}
 use Rattle.bits.proofs.MaskLaws.{mask-has, mask-agree, mask-insert, any-cons, any-snoc}
 use Rattle.format.proofs.RangeLaws.{upFrom-last, map-last, getD-map-below}
 use Rattle.format.proofs.FrontLaws.{front-getD, front-set}
-use Rattle.canonical.specs.Columns.{Tables, Roomy, childMask, childMasks, Columns, rootTables, appended}
+use Rattle.format.proofs.WriteLaws.{flatMap-append, Written, written-none, written-put, document-fields}
+use Rattle.format.specs.Given.{summaryIn, SummaryGiven}
+use Rattle.canonical.specs.Draft.{Draft, Roomy, draft, draftFields, childMask, childMasks, Drafted, appended}
 
 -- ---- lists
 
@@ -135,7 +140,7 @@ none-past spots v t below = go (hasChildOn spots v t) refl
 mask-past-nodes : (spots : List Spot) (v : ℕ) → ((i : ℕ) → i < length spots → spotParent spots i < v) → childMask spots v ≡ 0
 mask-past-nodes spots v below = mask-none (hasChildOn spots v) maxSummary (λ t _. none-past spots v t below)
 
--- ---- the column of masks
+-- ---- the masks
 
 length-masks : (spots : List Spot) → length (childMasks spots) ≡ length spots
 unfolding childMasks
@@ -161,59 +166,87 @@ masks-snoc spots s some inside h k =
     (sym (other-mask spots s some n (λ p. omega arith) ∙ mask-past-nodes spots n inside))
     ∙ sym (map-last M n) ∙ ap (λ (k : ℕ). map M (upFrom 0 k)) (add-one n ∙ sym (length-snoc spots s))
 
--- ---- the columns
+-- ---- the bytes
 
--- equal tables have the same columns
-pub columns-by : {spots : List Spot} {base now later : Tables} {count n : ℕ} → later ≡ now → n ≡ count → Columns spots base now count → Columns spots base later n
-columns-by {spots} {base} e f c = subst₂ (λ (t : Tables) (k : ℕ). Columns spots base t k) (sym e) (sym f) c
+fields-length : (S : Summary) (spots : List Spot) → length (draftFields S spots) ≡ 1 + 2 * length spots
+fields-length S spots = let n = document-fields (map (spotRecord S) spots) in let m = length-map spots (spotRecord S) in omega arith
 
--- tables of the same lengths
-pub record SameLengths (t u : Tables) : Type 0 where
-  pub parent : length (t .parent) ≡ length (u .parent)
-  pub at : length (t .at) ≡ length (u .at)
+fields-snoc : (S : Summary) (spots : List Spot) (s : Spot)
+    → (draftFields S spots ++ s .parent ∷ []) ++ summaryLabel S (s .at) ∷ [] ≡ draftFields S (spots ++ s ∷ [])
+unfolding flatMap
+fields-snoc S spots s =
+    ap (λ (l : List ℕ). 0 ∷ l)
+    (append-assoc (flatMap documentFields (map (spotRecord S) spots)) (s .parent ∷ []) (summaryLabel S (s .at) ∷ [])
+    ∙ sym (flatMap-append documentFields (map (spotRecord S) spots) (spotRecord S s ∷ []))
+    ∙ ap (flatMap documentFields) (sym (map-append (spotRecord S) spots (s ∷ []))))
+
+-- the count is put in its place
+count-put : (n : ℕ) (fs b : List ℕ) → sets (writtenAtFront (bytesOf (0 ∷ fs)) b) 0 (fieldBytes n) ≡ writtenAtFront (bytesOf (n ∷ fs)) b
+unfolding writtenAtFront bytesOf flatMap fieldBytes
+count-put n fs b = refl
+
+-- ---- the draft
+
+-- equal drafts hold the same
+pub drafted-by : {S : Summary} {spots : List Spot} {base now later : Draft} {count n : ℕ} → later ≡ now → n ≡ count → Drafted S spots base now count → Drafted S spots base later n
+drafted-by {S} {spots} {base} e f c = subst₂ (λ (t : Draft) (k : ℕ). Drafted S spots base t k) (sym e) (sym f) c
+
+-- drafts of the same lengths
+pub record SameLengths (t u : Draft) : Type 0 where
+  pub bytes : length (t .bytes) ≡ length (u .bytes)
+  pub on : length (t .on) ≡ length (u .on)
   pub kids : length (t .kids) ≡ length (u .kids)
 
-pub roomy-same : {t u : Tables} → SameLengths u t → Roomy t → Roomy u
+pub roomy-same : {t u : Draft} → SameLengths u t → Roomy t → Roomy u
 roomy-same s r = omega arith
 
-module _ {spots : List Spot} {base now : Tables} {count : ℕ} (c : Columns spots base now count) where
+module _ {S : Summary} {spots : List Spot} {base now : Draft} {count : ℕ} (c : Drafted S spots base now count) where
+  written : Written (draftFields S spots) (base .bytes) (now .bytes) (1 + 2 * count)
+  written =
+      let n = fields-length S spots in
+      let l = length-bytes (draftFields S spots) in
+      let q = c .counted in
+      let f = c .fits in
+      let r = c .room .bytes in
+      record { count = omega arith; size = ap (λ (x : List ℕ). length x) (c .bytes) ∙ front-length (bytesOf (draftFields S spots)) (base .bytes) (omega arith); bytes = c .bytes }
+
   -- the tables keep their lengths
-  pub columns-lengths : SameLengths now base
-  columns-lengths =
+  pub drafted-lengths : SameLengths now base
+  drafted-lengths =
       record {
-        parent = same (map (λ (s : Spot). s .parent) spots) (base .parent) (c .parent) (length-map spots (λ s. s .parent)) (c .room .parent);
-        at = same (map (λ (s : Spot). s .at) spots) (base .at) (c .at) (length-map spots (λ s. s .at)) (c .room .at);
+        bytes = written .size;
+        on = same (map (λ (s : Spot). s .at) spots) (base .on) (c .on) (length-map spots (λ s. s .at)) (c .room .on);
         kids = same (childMasks spots) (base .kids) (c .kids) (length-masks spots) (c .room .kids);
       }
     where
       same : {l : List ℕ} (w b : List ℕ) → l ≡ writtenAtFront w b → length w ≡ length spots → minTable ≤ length b → length l ≡ length b
       same w b e n r = ap (λ (x : List ℕ). length x) e ∙ front-length w b (let f = c .fits in let q = c .counted in omega arith)
 
-  pub columns-roomy : Roomy now
-  columns-roomy = roomy-same columns-lengths (c .room)
+  pub drafted-roomy : Roomy now
+  drafted-roomy = roomy-same drafted-lengths (c .room)
 
   -- a node's summary node
-  pub columns-at : (v : ℕ) → v < count → getD (now .at) v 0 ≡ spotAt spots v
-  columns-at v h =
+  pub drafted-on : (v : ℕ) → v < count → getD (now .on) v 0 ≡ spotAt spots v
+  drafted-on v h =
       let l : v < length spots = (let q = c .counted in omega arith) in
       let n : length (map (λ (s : Spot). s .at) spots) ≡ length spots = length-map spots (λ s. s .at) in
-      ap (λ (x : List ℕ). getD x v 0) (c .at) ∙ front-getD (map (λ (s : Spot). s .at) spots) (base .at) v 0 (omega arith)
+      ap (λ (x : List ℕ). getD x v 0) (c .on) ∙ front-getD (map (λ (s : Spot). s .at) spots) (base .on) v 0 (omega arith)
       ∙ getD-map (λ (s : Spot). s .at) spots v rootSpot 0 l
 
-  columns-kids : (v : ℕ) → v < count → getD (now .kids) v 0 ≡ childMask spots v
-  columns-kids v h =
+  drafted-kids : (v : ℕ) → v < count → getD (now .kids) v 0 ≡ childMask spots v
+  drafted-kids v h =
       let l : v < length spots = (let q = c .counted in omega arith) in
       let n : length (childMasks spots) ≡ length spots = length-masks spots in
       ap (λ (x : List ℕ). getD x v 0) (c .kids) ∙ front-getD (childMasks spots) (base .kids) v 0 (omega arith) ∙ getD-masks spots v l
 
   -- whether a node has a child on a summary node
-  pub columns-child : (v t : ℕ) → v < count → t < maxSummary → has (getD (now .kids) v 0) t ≡ hasChildOn spots v t
-  columns-child v t h k = mask-has (hasChildOn spots v) maxSummary (getD (now .kids) v 0) (columns-kids v h) t k
+  pub drafted-child : (v t : ℕ) → v < count → t < maxSummary → has (getD (now .kids) v 0) t ≡ hasChildOn spots v t
+  drafted-child v t h k = mask-has (hasChildOn spots v) maxSummary (getD (now .kids) v 0) (drafted-kids v h) t k
 
   -- one node more
-  pub columns-append : (s : Spot) → s .parent < count → s .at < maxSummary → count < minTable
-      → Columns (spots ++ s ∷ []) base (appended now count (s .parent) (s .at)) (count + 1)
-  columns-append s h k r =
+  pub drafted-append : (s : Spot) → s .parent < count → s .at < length S → length S ≤ maxSummary → count < maxCanonical
+      → Drafted S (spots ++ s ∷ []) base (appended S now count (s .parent) (s .at)) (count + 1)
+  drafted-append s h k few r =
       let q : count ≡ length spots = c .counted in
       let z : 0 < count = c .some in
       let n : length (spots ++ s ∷ []) ≡ suc (length spots) = length-snoc spots s in
@@ -223,17 +256,28 @@ module _ {spots : List Spot} {base now : Tables} {count : ℕ} (c : Columns spot
         fits = omega arith;
         room = c .room;
         inside = inside-snoc;
-        parent = one (λ s. s .parent) (base .parent) (c .parent) (c .room .parent);
-        at = one (λ s. s .at) (base .at) (c .at) (c .room .at);
+        bytes = more .bytes ∙ ap (λ (fs : List ℕ). writtenAtFront (bytesOf fs) (base .bytes)) (fields-snoc S spots s);
+        on =
+            ap (λ (l : List ℕ). set l count (s .at)) (c .on) ∙ after (map (λ x. x .at) spots) (base .on) (s .at) (length-map spots (λ x. x .at)) (c .room .on)
+            ∙ ap (λ (w : List ℕ). writtenAtFront w (base .on)) (sym (map-append (λ x. x .at) spots (s ∷ [])));
         kids =
-            ap₂ (λ (l : List ℕ) (x : ℕ). set (set l (s .parent) (bitOr x (2 ^ (s .at)))) count 0) (c .kids) (columns-kids (s .parent) h)
+            ap₂ (λ (l : List ℕ) (x : ℕ). set (set l (s .parent) (bitOr x (2 ^ (s .at)))) count 0) (c .kids) (drafted-kids (s .parent) h)
             ∙ ap (λ (l : List ℕ). set l count 0) (front-put (childMasks spots) (base .kids) (s .parent) mask (let m = length-masks spots in omega arith))
             ∙ after (set (childMasks spots) (s .parent) mask) (base .kids) 0 (length-set (childMasks spots) (s .parent) mask ∙ length-masks spots) (c .room .kids)
-            ∙ ap (λ (w : List ℕ). writtenAtFront w (base .kids)) (masks-snoc spots s (omega arith) (c .inside) (omega arith) k);
+            ∙ ap (λ (w : List ℕ). writtenAtFront w (base .kids)) (masks-snoc spots s (omega arith) (λ i l. c .inside i l .0) (omega arith) (omega arith));
       }
     where
       mask : ℕ
       mask = bitOr (childMask spots (s .parent)) (2 ^ (s .at))
+
+      -- the record's two fields
+      more : Written ((draftFields S spots ++ s .parent ∷ []) ++ summaryLabel S (s .at) ∷ []) (base .bytes)
+          (sets (sets (now .bytes) (2 * (1 + 2 * count)) (fieldBytes (s .parent))) (2 * (2 + 2 * count)) (fieldBytes (summaryLabel S (s .at)))) (1 + 2 * count + 1 + 1)
+      more =
+          let room = c .room .bytes in
+          let two : 2 + 2 * count ≡ 1 + 2 * count + 1 = omega arith in
+          written-put (summaryLabel S (s .at)) (written-put (s .parent) written (omega arith) refl) (omega arith)
+          (ap (λ (k : ℕ). sets (sets (now .bytes) (2 * (1 + 2 * count)) (fieldBytes (s .parent))) (2 * k) (fieldBytes (summaryLabel S (s .at)))) two)
 
       -- a store right after the front
       after : (w b : List ℕ) (x : ℕ) → length w ≡ length spots → minTable ≤ length b → set (writtenAtFront w b) count x ≡ writtenAtFront (w ++ x ∷ []) b
@@ -241,54 +285,64 @@ module _ {spots : List Spot} {base now : Tables} {count : ℕ} (c : Columns spot
           let q : count ≡ length spots = c .counted in
           ap (λ (k : ℕ). set (writtenAtFront w b) k x) (q ∙ sym e) ∙ front-set w b x (omega arith)
 
-      one : (f : Spot → ℕ) {l : List ℕ} (b : List ℕ) → l ≡ writtenAtFront (map f spots) b → minTable ≤ length b → set l count (f s) ≡ writtenAtFront (map f (spots ++ s ∷ [])) b
-      one f b e m =
-          ap (λ (l : List ℕ). set l count (f s)) e ∙ after (map f spots) b (f s) (length-map spots f) m
-          ∙ ap (λ (w : List ℕ). writtenAtFront w b) (sym (map-append f spots (s ∷ [])))
-
-      inside-snoc : (i : ℕ) → i < length (spots ++ s ∷ []) → spotParent (spots ++ s ∷ []) i < length (spots ++ s ∷ [])
+      inside-snoc : (i : ℕ) → i < length (spots ++ s ∷ []) → (spotParent (spots ++ s ∷ []) i < length (spots ++ s ∷ [])) × (spotAt (spots ++ s ∷ []) i < length S)
       inside-snoc i l = go (ltb i (length spots)) refl
         where
           n : length (spots ++ s ∷ []) ≡ suc (length spots)
           n = length-snoc spots s
 
-          go : (b : Bool) → ltb i (length spots) ≡ b → spotParent (spots ++ s ∷ []) i < length (spots ++ s ∷ [])
+          go : (b : Bool) → ltb i (length spots) ≡ b → (spotParent (spots ++ s ∷ []) i < length (spots ++ s ∷ [])) × (spotAt (spots ++ s ∷ []) i < length S)
           go true e =
               let m : i < length spots = ltb-true i (length spots) e in
-              let p : spotParent (spots ++ s ∷ []) i ≡ spotParent spots i = ap (λ (k : Spot). k .parent) (List·getD-append spots (s ∷ []) rootSpot i m) in
-              let o : spotParent spots i < length spots = c .inside i m in
+              let p : getD (spots ++ s ∷ []) i rootSpot ≡ getD spots i rootSpot = List·getD-append spots (s ∷ []) rootSpot i m in
+              let o = c .inside i m in
               let n′ = n in
-              omega arith
+              subst (λ (x : Spot). (x .parent < length (spots ++ s ∷ [])) × (x .at < length S)) (sym p) (omega arith, o .1)
           go false e =
               let m : length spots ≤ i = ltb-false i (length spots) e in
               let n′ = n in
               let here : i ≡ length spots = omega arith in
-              let p : spotParent (spots ++ s ∷ []) i ≡ s .parent = ap (λ (k : ℕ). spotParent (spots ++ s ∷ []) k) here ∙ ap (λ (k : Spot). k .parent) (getD-append-seam spots s [] rootSpot) in
               let q : count ≡ length spots = c .counted in
-              omega arith
+              subst (λ (x : Spot). (x .parent < length (spots ++ s ∷ [])) × (x .at < length S))
+              (sym (ap (λ (k : ℕ). getD (spots ++ s ∷ []) k rootSpot) here ∙ getD-append-seam spots s [] rootSpot)) (omega arith, k)
+
+  -- the section is whole when its count is put
+  pub drafted-section : sets (now .bytes) 0 (fieldBytes count) ≡ writtenAtFront (encodeDocument (map (spotRecord S) spots)) (base .bytes)
+  unfolding encodeDocument sectionFields
+  drafted-section =
+      ap (λ (b : List ℕ). sets b 0 (fieldBytes count)) (c .bytes) ∙ count-put count (flatMap documentFields (map (spotRecord S) spots)) (base .bytes)
+      ∙ ap (λ (n : ℕ). writtenAtFront (bytesOf (n ∷ flatMap documentFields (map (spotRecord S) spots))) (base .bytes)) (c .counted ∙ sym (length-map spots (spotRecord S)))
 
 -- the first entry alone is written
-pub front-one : (b : List ℕ) (x : ℕ) → 0 < length b → set b 0 x ≡ writtenAtFront (x ∷ []) b
+front-one : (b : List ℕ) (x : ℕ) → 0 < length b → set b 0 x ≡ writtenAtFront (x ∷ []) b
 unfolding writtenAtFront
 front-one b x h = front-set [] b x h
 
--- two tables over one base
-pub columns-same : {spots later : List Spot} {base now then : Tables} {count n : ℕ} → Columns spots base now count → Columns later base then n → SameLengths then now
-columns-same c d = let a = columns-lengths c in let b = columns-lengths d in omega arith
+-- two drafts over one base
+pub drafted-same : {S : Summary} {spots later : List Spot} {base now then : Draft} {count n : ℕ} → Drafted S spots base now count → Drafted S later base then n → SameLengths then now
+drafted-same c d = let a = drafted-lengths c in let b = drafted-lengths d in omega arith
+
+pub summary-some : {b : List ℕ} → SummaryGiven b → 0 < length (summaryIn b)
+summary-some {b} g = subst (λ (n : ℕ). 0 < n) (length-asDocument (summaryIn b)) (g .tree .inhabited)
 
 -- the root alone
-pub columns-root : {base : Tables} → Roomy base → Columns (rootSpot ∷ []) base (rootTables base) 1
-columns-root {base} r =
+pub drafted-root : {S : Summary} {base : Draft} {b₁ b₂ b₃ : List ℕ} {label : ℕ} → Roomy base → 0 < length S → b₁ ≡ sets (base .bytes) 0 (fieldBytes 0) → b₂ ≡ sets b₁ 2 (fieldBytes 0)
+    → b₃ ≡ sets b₂ 4 (fieldBytes label) → label ≡ summaryLabel S 0 → Drafted S (rootSpot ∷ []) base (draft b₃ (set (base .on) 0 0) (set (base .kids) 0 0)) 1
+unfolding flatMap
+drafted-root {S} {base} {b₂ = b₂} r some e₁ e₂ e₃ e =
+    let room = r .bytes in
     record {
       counted = refl;
       some = omega arith;
       fits = omega arith;
       room = r;
-      inside = λ i h. first i h;
-      parent = front-one (base .parent) 0 (omega (arith, r .parent));
-      at = front-one (base .at) 0 (omega (arith, r .at));
+      inside = first;
+      bytes = written-put (summaryLabel S 0) (written-put 0 (written-put 0 written-none (omega arith) e₁) (omega arith) e₂) (omega arith)
+          (e₃ ∙ ap (λ (x : ℕ). sets b₂ 4 (fieldBytes x)) e) .bytes;
+      on = front-one (base .on) 0 (omega (arith, r .on));
       kids = front-one (base .kids) 0 (omega (arith, r .kids)) ∙ ap (λ (w : List ℕ). writtenAtFront w (base .kids)) (sym root-masks);
     }
   where
-    first : (i : ℕ) → i < 1 → spotParent (rootSpot ∷ []) i < 1
-    first i h = subst (λ (k : ℕ). spotParent (rootSpot ∷ []) k < 1) (let z : 0 ≡ i = omega arith in z) (omega arith)
+    first : (i : ℕ) → i < 1 → (spotParent (rootSpot ∷ []) i < 1) × (spotAt (rootSpot ∷ []) i < length S)
+    first i h =
+        subst (λ (k : ℕ). (spotParent (rootSpot ∷ []) k < 1) × (spotAt (rootSpot ∷ []) k < length S)) (let z : 0 ≡ i = omega arith in z) (omega arith, some)
