@@ -3,3 +3,4 @@ pub mod ChainLaws
 pub mod FillLaws
 pub mod LayoutLaws
 pub mod ChainPhaseLaws
+pub mod ShownLaws

@@ -12,6 +12,7 @@ ghost use Rattle.canonical.specs.Given.{embeddingIn, Embedded, WrittenOu
 mod chains;
 mod draft;
 mod fill;
+pub mod show;
 
 // How many nodes are laid out, and the own node of each pattern node, at the front.
 pub struct LaidOut {

@@ -1,7 +1,9 @@
 pub mod RangeLaws
 pub mod FrontLaws
+pub mod FrontLoops
 pub mod SectionLaws
 pub mod GivenLaws
+pub mod PositionLaws
 pub mod TableLaws
 pub mod ColumnLaws
 pub mod WriteLaws

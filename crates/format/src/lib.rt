@@ -8,6 +8,7 @@ pub mod labels;
 pub mod limits;
 pub mod nodes;
 pub mod pattern;
+pub mod positions;
 pub mod records;
 pub mod sections;
 pub mod summary;
