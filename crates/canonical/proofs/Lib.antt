@@ -4,3 +4,4 @@ pub mod FillLaws
 pub mod LayoutLaws
 pub mod ChainPhaseLaws
 pub mod ShownLaws
+pub mod ReadBackLaws

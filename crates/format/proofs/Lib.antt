@@ -7,4 +7,5 @@ pub mod PositionLaws
 pub mod TableLaws
 pub mod ColumnLaws
 pub mod WriteLaws
+pub mod WrittenLaws
 pub mod ReadLaws

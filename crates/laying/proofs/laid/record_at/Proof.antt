@@ -1,27 +1,29 @@
--- `laying::laid::record_at` meets its contract: it reads one entry of each column. Assumes nothing.
-use denote.Ref.{now}
 use borrow.Author.Needs.{needs}
-use Rattle.laying.specs.Table.{columns}
-use Rattle.laying.proofs.RecordLaws.{record-made}
 use Rattle.laying.proofs.laid.record_at.Statement.{statement}
 use Rattle.laying.proofs.laid.record_at.Tie as tie
+use Rattle.laying.proofs.laid.record_at.Reads as reads
+use Rattle.laying.proofs.laid.record_at.Lts as lts
+use Rattle.format.proofs.document.document_label.Reads as document-label-reads
+use Rattle.format.proofs.document.document_parent.Reads as document-parent-reads
+use Rattle.format.proofs.nodes.summary_of.Reads as summary-of-reads
 
-number-requires : tie.Need-number-requires
-number-requires c κs = search needs
+-- src/laid.rt:40:9
+document-parent-requires : tie.Need-document-parent-requires
+document-parent-requires c κs = search needs
 
+-- src/laid.rt:41:9
 summary-of-requires : tie.Need-summary-of-requires
 summary-of-requires c κs = search needs
 
-mul-t9 : tie.Need-mul-t9
-mul-t9 c = search needs
+-- src/laid.rt:42:9
+document-label-requires : tie.Need-document-label-requires
+document-label-requires c κs = search needs
 
-shared-slice-read-t11 : tie.Need-shared-slice-read-t11
-shared-slice-read-t11 c = search needs
-
+-- src/laid.rt:36:1
 returns : tie.Need-returns
-returns c =
-    let a = c .before .before .before .before .before .before .args in
-    record-made (columns (now (a .parent)) (now (a .at)) (now (a .label))) (a .i) (c .before .before .number .ensures) (c .before .summary-of .ensures)
+returns c = search needs
 
 pub record-at-spec : {M : Type 1} → statement M
-record-at-spec = tie.close (tie.spec number-requires summary-of-requires mul-t9 shared-slice-read-t11 returns)
+record-at-spec =
+    tie.close
+    (tie.spec document-parent-requires summary-of-requires document-label-requires returns)
