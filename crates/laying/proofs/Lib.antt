@@ -1,2 +1,2 @@
-pub mod ListLaws
 pub mod RecordLaws
+pub mod ListLaws

@@ -1,27 +1,23 @@
+-- `laying::laid::record_at` meets its contract: each field is what its reader promises. Assumes nothing.
+use denote.Ref.{now}
 use borrow.Author.Needs.{needs}
+use Rattle.laying.proofs.RecordLaws.{record-made}
 use Rattle.laying.proofs.laid.record_at.Statement.{statement}
 use Rattle.laying.proofs.laid.record_at.Tie as tie
-use Rattle.laying.proofs.laid.record_at.Reads as reads
-use Rattle.laying.proofs.laid.record_at.Lts as lts
-use Rattle.format.proofs.document.document_label.Reads as document-label-reads
-use Rattle.format.proofs.document.document_parent.Reads as document-parent-reads
-use Rattle.format.proofs.nodes.summary_of.Reads as summary-of-reads
 
--- src/laid.rt:40:9
 document-parent-requires : tie.Need-document-parent-requires
 document-parent-requires c κs = search needs
 
--- src/laid.rt:41:9
 summary-of-requires : tie.Need-summary-of-requires
 summary-of-requires c κs = search needs
 
--- src/laid.rt:42:9
 document-label-requires : tie.Need-document-label-requires
 document-label-requires c κs = search needs
 
--- src/laid.rt:36:1
 returns : tie.Need-returns
-returns c = search needs
+returns c =
+    let a = c .before .before .before .before .before .args in
+    record-made (now (a .w)) (now (a .on)) (a .i) (c .before .before .document-parent .ensures) (c .before .summary-of .ensures) (c .document-label .ensures)
 
 pub record-at-spec : {M : Type 1} → statement M
 record-at-spec =
