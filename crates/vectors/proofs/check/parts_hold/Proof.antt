@@ -1,19 +1,16 @@
--- `vectors::check::shown_holds` is safe: both parts lie within what is shown. Assumes nothing.
+-- `vectors::check::parts_hold` is safe: both parts lie within what is lent. Assumes nothing.
 use mathlib.Core.Path.{sym}
 use native.Mathlib.Omega.{arith}
 use lib.Seq.{length-take-le}
 use borrow.Author.Needs.{needs}
-use Rattle.vectors.proofs.check.shown_holds.Statement.{statement}
-use Rattle.vectors.proofs.check.shown_holds.Tie as tie
+use Rattle.vectors.proofs.check.parts_hold.Statement.{statement}
+use Rattle.vectors.proofs.check.parts_hold.Tie as tie
 
 mul-end : tie.Need-mul-end
 mul-end c = search needs
 
 add-end : tie.Need-add-end
 add-end c = search needs
-
-add-from : tie.Need-add-from
-add-from c = search needs
 
 mul-to : tie.Need-mul-to
 mul-to c = search needs
@@ -39,13 +36,12 @@ both-hold-requires c κs = search needs
 returns : tie.Need-returns
 returns c = search needs
 
-pub shown-holds-spec : {M : Type 1} → statement M
-shown-holds-spec =
+pub parts-hold-spec : {M : Type 1} → statement M
+parts-hold-spec =
     tie.close
     (tie.spec
     mul-end
     add-end
-    add-from
     mul-to
     add-to
     slice-aggregate-both-hold
