@@ -23,7 +23,7 @@ use Rattle.questions.proofs.AcceptedLaws.{selected-size, accepted-pattern}
 use Rattle.canonical.specs.Given.{embeddingIn, Embedded, WrittenOut}
 use Rattle.canonical.specs.declared.LaidOut.{LaidOut}
 use Rattle.canonical.proofs.ReadBackLaws.{back-document}
-use Rattle.laying.specs.Records.{recordsIn, laidNodes}
+use Rattle.laying.specs.Records.{laidIn, laidNodes}
 use Rattle.laying.proofs.RecordLaws.{records-laid}
 
 -- the pattern is the model's, and the images are the list
@@ -73,8 +73,8 @@ module _ {b : List ℕ} {s : ℕ} {l : List ℕ} {k : ℕ} (f : LayoutFacts b s 
       pub laid-count : r .count ≡ length (laidNodes b s l)
       laid-count = w .counted ∙ ap (λ (T : List Spot). length T) spots
 
-      pub laid-read : ((i : ℕ) → getD b i 0 < 256) → recordsIn bytes on (r .count) ≡ map (laidRecord (summaryIn b)) (laidNodes b s l)
+      pub laid-read : ((i : ℕ) → getD b i 0 < 256) → laidIn bytes on (r .count) ≡ map (laidRecord (summaryIn b)) (laidNodes b s l)
       laid-read small =
-          ap (recordsIn bytes on) (w .counted)
+          ap (laidIn bytes on) (w .counted)
           ∙ records-laid (summaryIn b) (patternAt b at) (embeddingIn b at images) bytes on on₀ (back-document list-embedded small w) (w .nodes)
           ∙ ap (map (laidRecord (summaryIn b))) spots

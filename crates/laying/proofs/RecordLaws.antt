@@ -30,7 +30,7 @@ use Rattle.format.specs.declared.nodes.DocumentNode.{DocumentNode}
 use Rattle.format.specs.declared.nodes.SummaryNode.{SummaryNode}
 use Rattle.laying.specs.declared.laid.NodeRecord.{NodeRecord}
 use Rattle.laying.specs.declared.laid.Laid.{Laid}
-use Rattle.laying.specs.Records.{nodeRecord, recordIn, recordsIn, blankNodes, atFront, laidNodes, laidFor, LaidBy}
+use Rattle.laying.specs.Records.{nodeRecord, laidAt, laidIn, blankNodes, atFront, laidNodes, laidFor, LaidBy}
 
 -- ---- records read off a document
 
@@ -39,24 +39,24 @@ abbrev noRecord : LaidRecord
 noRecord = record { parent = 0; summaryNode = 0; label = 0 }
 
 pub record-made : {p : DocumentNode} {a : SummaryNode} {l : ℕ} (w on : List ℕ) (i : ℕ) → p .0 ≡ parentOf (documentOf w) i → a .0 ≡ getD on i 0 → l ≡ labelOf (documentOf w) i
-    → _≡_ {A = NodeRecord} (record { parent = p; at = a; label = l }) (nodeRecord (recordIn w on i))
+    → _≡_ {A = NodeRecord} (record { parent = p; at = a; label = l }) (nodeRecord (laidAt w on i))
 record-made w on i p a l = λ k. record { parent = record { 0 = p k }; at = record { 0 = a k }; label = l k }
 
 pub length-blank : length blankNodes ≡ minTable
 unfolding blankNodes
 length-blank = length-replicate minTable (nodeRecord noRecord)
 
-pub at-front : (w on : List ℕ) (n : ℕ) → writtenAtFront (map (λ i. nodeRecord (recordIn w on i)) (upFrom 0 n)) blankNodes ≡ atFront (recordsIn w on n)
+pub at-front : (w on : List ℕ) (n : ℕ) → writtenAtFront (map (λ i. nodeRecord (laidAt w on i)) (upFrom 0 n)) blankNodes ≡ atFront (laidIn w on n)
 unfolding atFront
-at-front w on n = ap (λ (rs : List NodeRecord). writtenAtFront rs blankNodes) (sym (map-map nodeRecord (recordIn w on) (upFrom 0 n)))
+at-front w on n = ap (λ (rs : List NodeRecord). writtenAtFront rs blankNodes) (sym (map-map nodeRecord (laidAt w on) (upFrom 0 n)))
 
 -- of a canonical document and its nodes' summary nodes they are the model's
 pub records-laid : (S : Summary) (P : Pattern) (es w on on₀ : List ℕ) → documentOf w ≡ canonical S P es → on ≡ writtenAtFront (map (λ s. s .at) (canonicalSpots S P es)) on₀
-    → recordsIn w on (length (canonicalSpots S P es)) ≡ map (laidRecord S) (canonicalSpots S P es)
+    → laidIn w on (length (canonicalSpots S P es)) ≡ map (laidRecord S) (canonicalSpots S P es)
 unfolding canonical
 records-laid S P es w on on₀ d o =
-    ap (λ (k : ℕ). recordsIn w on k) (sym (length-map T (laidRecord S)))
-    ∙ map-range (recordIn w on) noRecord (map (laidRecord S) T) 0 (λ j k. each j (subst (λ (m : ℕ). j < m) (length-map T (laidRecord S)) k))
+    ap (λ (k : ℕ). laidIn w on k) (sym (length-map T (laidRecord S)))
+    ∙ map-range (laidAt w on) noRecord (map (laidRecord S) T) 0 (λ j k. each j (subst (λ (m : ℕ). j < m) (length-map T (laidRecord S)) k))
   where
     T : List Spot
     T = canonicalSpots S P es
@@ -66,12 +66,12 @@ records-laid S P es w on on₀ d o =
         let n : length (map (λ (s : Spot). s .at) T) ≡ length T = length-map T (λ s. s .at) in
         ap (λ (x : List ℕ). getD x j 0) o ∙ front-getD (map (λ (s : Spot). s .at) T) on₀ j 0 (omega arith) ∙ getD-map (λ (s : Spot). s .at) T j rootSpot 0 k
 
-    each : (j : ℕ) → j < length T → recordIn w on (0 + j) ≡ getD (map (laidRecord S) T) j noRecord
+    each : (j : ℕ) → j < length T → laidAt w on (0 + j) ≡ getD (map (laidRecord S) T) j noRecord
     each j k =
         let p = ap (λ (W : Document). parentOf W j) d ∙ spot-parent S T j k in
         let l = ap (λ (W : Document). labelOf W j) d ∙ spot-label S T j k in
         let a = on-node j k in
-        ap (recordIn w on) (zero-add j) ∙ (λ i. record { parent = p i; summaryNode = a i; label = l i }) ∙ sym (getD-map (laidRecord S) T j rootSpot noRecord k)
+        ap (laidAt w on) (zero-add j) ∙ (λ i. record { parent = p i; summaryNode = a i; label = l i }) ∙ sym (getD-map (laidRecord S) T j rootSpot noRecord k)
 
 -- ---- the layout
 

@@ -23,11 +23,11 @@ abbrev pub recordOf : NodeRecord → LaidRecord
 recordOf r = record { parent = r .parent .0; summaryNode = r .at .0; label = r .label }
 
 -- the record of node i of a document in wire form, whose nodes' summary nodes are in `on`; and those of the first n
-abbrev pub recordIn : List ℕ → List ℕ → ℕ → LaidRecord
-recordIn w on i = record { parent = parentOf (documentOf w) i; summaryNode = getD on i 0; label = labelOf (documentOf w) i }
+abbrev pub laidAt : List ℕ → List ℕ → ℕ → LaidRecord
+laidAt w on i = record { parent = parentOf (documentOf w) i; summaryNode = getD on i 0; label = labelOf (documentOf w) i }
 
-abbrev pub recordsIn : List ℕ → List ℕ → ℕ → List LaidRecord
-recordsIn w on n = map (recordIn w on) (upFrom 0 n)
+abbrev pub laidIn : List ℕ → List ℕ → ℕ → List LaidRecord
+laidIn w on n = map (laidAt w on) (upFrom 0 n)
 
 -- an array of 1,024 records in which nothing stands, and one with records at its front
 unfoldable pub blankNodes : List NodeRecord

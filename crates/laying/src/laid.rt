@@ -15,7 +15,7 @@ ghost use lib.ListN.{length};
 ghost use Rattle.model.specs.Limits.{minTable, documentWidth};
 ghost use Rattle.model.specs.Bytes.{documentOf, WholeSection};
 ghost use Rattle.model.specs.Questions.{layoutRefusal};
-ghost use Rattle.laying.specs.Records.{nodeRecord, recordIn, recordsIn, blankNodes, atFront, LaidBy};
+ghost use Rattle.laying.specs.Records.{nodeRecord, laidAt, laidIn, blankNodes, atFront, LaidBy};
 
 // A record of the lent table: its parent, its summary node (document 01: outline node) and its label.
 #[repr(C)]
@@ -35,7 +35,7 @@ pub struct Laid {
 // The record of node i of a document, whose nodes' summary nodes are in on.
 fn record_at(w: &[u8], on: &[u16], i: usize) -> NodeRecord
     requires { ⌜ WholeSection documentWidth (now w) 0 × (i < length (documentOf (now w))) × (i < length (now on)) ⌝ }
-    ensures { λ r. ⌜ r ≡ nodeRecord (recordIn (now (w .entry)) (now (on .entry)) i) ⌝ }
+    ensures { λ r. ⌜ r ≡ nodeRecord (laidAt (now (w .entry)) (now (on .entry)) i) ⌝ }
 {
     let parent = document_parent(w, DocumentNode(i));
     let at = summary_of(on, DocumentNode(i));
@@ -58,7 +58,7 @@ fn blank_nodes() -> [NodeRecord; 1024]
 // The records of the first nodes, as many as count says.
 fn records_of(w: &[u8], on: &[u16], count: usize) -> [NodeRecord; 1024]
     requires { ⌜ WholeSection documentWidth (now w) 0 × (count ≤ length (documentOf (now w))) × (count ≤ length (now on)) × (count ≤ minTable) ⌝ }
-    ensures { λ r. ⌜ r ≡ atFront (recordsIn (now (w .entry)) (now (on .entry)) count) ⌝ }
+    ensures { λ r. ⌜ r ≡ atFront (laidIn (now (w .entry)) (now (on .entry)) count) ⌝ }
 {
     let mut nodes = blank_nodes();
     let mut i = 0;

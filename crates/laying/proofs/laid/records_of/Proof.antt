@@ -5,13 +5,13 @@ use mathlib.Core.Path.{_∙_}
 use denote.Ref.{now}
 use borrow.Author.Needs.{needs}
 use Rattle.format.proofs.FrontLoops.{FilledUpTo, filled-start, filled-step, filled-end}
-use Rattle.laying.specs.Records.{nodeRecord, recordIn, blankNodes}
+use Rattle.laying.specs.Records.{nodeRecord, laidAt, blankNodes}
 use Rattle.laying.proofs.RecordLaws.{length-blank, at-front}
 use Rattle.laying.proofs.laid.records_of.Statement.{statement}
 use Rattle.laying.proofs.laid.records_of.Tie as tie
 
 abbrev Inv-loop : tie.InvT-loop
-Inv-loop w on count nodes₀ i₀ nodes i = FilledUpTo (λ (k : ℕ). nodeRecord (recordIn w on k)) count blankNodes nodes i
+Inv-loop w on count nodes₀ i₀ nodes i = FilledUpTo (λ (k : ℕ). nodeRecord (laidAt w on k)) count blankNodes nodes i
 
 abbrev μ-loop : tie.MeasureT-loop
 μ-loop w on count nodes₀ i₀ nodes i = count - i
