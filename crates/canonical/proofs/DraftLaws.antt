@@ -14,7 +14,6 @@ use lib.Seq.{sets, getD-append-seam, getD-set-same, getD-set-other, set-append-l
 use borrow.Author.Tests.{eqb-true, eqb-false, eq-eqb, ne-eqb, ltb-true, ltb-false, lt-ltb}
 use Rattle.model.specs.Limits.{minTable, maxSummary, maxCanonical}
 use Rattle.model.specs.Lists.{upFrom, anyOf}
-use Rattle.model.specs.Tree.{Document}
 use Rattle.model.specs.Summary.{Summary, summaryLabel}
 use Rattle.model.specs.Bytes.{fieldBytes, bytesOf, documentFields, sectionFields, encodeDocument, writtenAtFront}
 use Rattle.model.specs.Canonical.{Spot, rootSpot, spotParent, spotAt, spotRecord, hasChildOn}

@@ -1,7 +1,7 @@
 -- Filling up node by node: a visit goes through the summary's nodes in order, and each visit leaves the visits to come to reach the
 -- same end. No table on the way is longer than the last. Assumes nothing.
 use Prim.Native.Nat.{ℕ, zero, suc, _+_, _-_, _≤_, _<_}
-use mathlib.Core.Path.{_≡_, refl, sym, ap, ap₂, _∙_, subst, subst₂}
+use mathlib.Core.Path.{_≡_, refl, sym, ap, ap₂, _∙_, subst}
 use mathlib.Core.Bool.{Bool, true, false, _&&_}
 use mathlib.Core.List.{List, [], _∷_, _++_}
 use native.Mathlib.Omega.{arith}
@@ -12,7 +12,7 @@ use lib.ListN.{length, getD}
 use borrow.Author.Tests.{lt-ltb, le-ltb, eq-eqb, ne-eqb}
 use Rattle.model.specs.Limits.{maxSummary, maxCanonical}
 use Rattle.model.specs.Lists.{upFrom, keep}
-use Rattle.model.specs.Tree.{Document, IsTree, parentOf}
+use Rattle.model.specs.Tree.{IsTree}
 use Rattle.model.specs.Summary.{Summary, asDocument, noSummaryRecord, summaryParent}
 use Rattle.model.specs.Embeddings.{childTest}
 use Rattle.model.specs.Fitting.{strongChildren}

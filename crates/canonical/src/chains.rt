@@ -53,7 +53,15 @@ fn append_chain(
     }
     let above = summary_parent(case, b);
     let n = append_chain(case, from, above, count, answer, on, kids);
-    append(case, hangs_from(from.node, count, n), b, n, answer, on, kids)
+    append(
+        case,
+        hangs_from(from.node, count, n),
+        b,
+        n,
+        answer,
+        on,
+        kids,
+    )
 }
 
 // The root, then the chain of each further pattern node: the count, and own nodes by pattern node.

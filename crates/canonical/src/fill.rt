@@ -92,13 +92,7 @@ fn fill_node(
 }
 
 // Every node is visited, until there is no further. The result is the count.
-pub fn fill(
-    case: &[u8],
-    count: usize,
-    answer: &mut [u8],
-    on: &mut [u16],
-    kids: &mut [u64],
-) -> usize
+pub fn fill(case: &[u8], count: usize, answer: &mut [u8], on: &mut [u16], kids: &mut [u64]) -> usize
     requires { ⌜ SummaryGiven (now case) ⌝ }
     requires { ⌜ ((spots : List Spot) × (base : Draft) × (k : ℕ)
         × Fillable (summaryIn (now case)) spots base (draft (now answer) (now on) (now kids)) count k) ⌝ }

@@ -1,14 +1,14 @@
 -- A document's section that stands at the front of a buffer is read back as the document: every field that is read stands inside what
 -- was written. Assumes nothing.
-use Prim.Native.Nat.{ℕ, suc, zero, _+_, _*_, _≤_, _<_}
+use Prim.Native.Nat.{ℕ, suc, _+_, _*_, _≤_, _<_}
 use mathlib.Core.Path.{_≡_, sym, ap, ap₂, _∙_, subst}
-use mathlib.Core.List.{List, [], _∷_, map, flatMap, List·Memᴰ, List·Memᴰ·head, List·Memᴰ·tail}
+use mathlib.Core.List.{List, _∷_, map, flatMap, List·Memᴰ, List·Memᴰ·head, List·Memᴰ·tail}
 use native.Mathlib.Omega.{arith}
-use lib.ListN.{length, getD}
+use lib.ListN.{length}
 use Rattle.model.specs.Lists.{upFrom}
 use Rattle.model.specs.Limits.{documentWidth}
-use Rattle.model.specs.Tree.{DocumentRecord, noDocumentRecord, Document, parentOf, labelOf}
-use Rattle.model.specs.Bytes.{field, section, recordsAt, documentRecordAt, documentFields, sectionFields, sectionEnd, documentOf, encodeDocument, WholeSection, writtenAtFront}
+use Rattle.model.specs.Tree.{Document, parentOf, labelOf}
+use Rattle.model.specs.Bytes.{field, section, recordsAt, documentRecordAt, documentFields, sectionFields, documentOf, encodeDocument, WholeSection, writtenAtFront}
 use Rattle.model.proofs.Bytes.{FitFields, document-back, document-whole, front-length}
 use Rattle.format.proofs.FrontLaws.{front-getD}
 use Rattle.format.proofs.RangeLaws.{map-below-ext}

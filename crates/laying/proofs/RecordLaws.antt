@@ -1,7 +1,7 @@
 -- The layout by value: the records that are read off a document are the model's, a refusal lays out none, and what is laid out for a
 -- table of 1,024 records is what is laid out for any larger one, since its size is asked only to be large enough. Assumes nothing.
 use Prim.Native.Nat.{ℕ, _+_, _≤_, _<_}
-use mathlib.Core.Path.{_≡_, sym, ap, ap₂, _∙_, subst}
+use mathlib.Core.Path.{_≡_, sym, ap, _∙_, subst}
 use mathlib.Core.Bool.{Bool, true, false}
 use mathlib.Core.List.{List, [], _∷_, _++_, map, map-map}
 use native.Mathlib.Omega.{arith}

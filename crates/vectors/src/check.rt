@@ -110,14 +110,7 @@ fn write_nodes(parent: &[u16], label: &[u16], n: usize, document: &mut [u8])
 }
 
 // The same of the section of n nodes at the front of document, and the list of k after the count of result.
-fn parts_hold(
-    case: &[u8],
-    number: u64,
-    document: &[u8],
-    n: usize,
-    result: &[u8],
-    k: usize,
-) -> bool
+fn parts_hold(case: &[u8], number: u64, document: &[u8], n: usize, result: &[u8], k: usize) -> bool
     requires { ⌜ (2 + 4 * n ≤ length (now document)) × (2 + 2 * k ≤ length (now result)) ⌝ }
 {
     let end = 2 + 4 * n;

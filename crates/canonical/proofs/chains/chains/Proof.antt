@@ -5,7 +5,7 @@ use mathlib.Core.Path.{_≡_, sym}
 use mathlib.Core.List.{List}
 use native.Mathlib.Omega.{arith}
 use denote.Ref.{now}
-use lib.ListN.{length, set, replicate}
+use lib.ListN.{length, set}
 use borrow.Author.Needs.{needs}
 use Rattle.model.specs.Limits.{maxPattern, maxCanonical}
 use Rattle.format.specs.Given.{summaryIn, patternAt}

@@ -1,9 +1,9 @@
 -- `laying::laid::accepted_layout` meets its contract: an accepted call's list is an embedding, and what is laid out reads back as the
 -- model's nodes. Assumes nothing.
-use Prim.Native.Nat.{ℕ, _/_, _≤_, _<_}
+use Prim.Native.Nat.{ℕ, _<_}
 use native.Mathlib.Omega.{arith}
 use denote.Ref.{now}
-use lib.ListN.{length, getD, replicate}
+use lib.ListN.{getD, replicate}
 use borrow.Author.Needs.{needs}
 use Rattle.model.proofs.Questions.{LayoutFacts, accepted-layout}
 use Rattle.model.specs.Limits.{minTable}
