@@ -2,15 +2,12 @@
 -- pattern leads to the whole layout. Assumes nothing.
 use Prim.Native.Nat.{ℕ, suc, _+_, _-_, _≤_, _<_}
 use mathlib.Core.Path.{_≡_, refl, sym, ap, ap₂, _∙_, subst}
-use mathlib.Core.Bool.{Bool, true, false}
 use mathlib.Core.Logic.{inr}
 use mathlib.Core.List.{List, [], _∷_, _++_}
 use native.Mathlib.Omega.{arith}
 use native.Mathlib.Numerals.{add-one}
-use lib.Dec.{ltb}
-use lib.ListN.{length, getD, drop, set, replicate, drop-of-length-le, List·getD-append}
-use lib.Seq.{drop-cons, getD-append-seam, getD-take}
-use borrow.Author.Tests.{ltb-true, ltb-false}
+use lib.ListN.{length, getD, drop, set, replicate, drop-of-length-le}
+use lib.Seq.{drop-cons, getD-take}
 use Rattle.model.specs.Limits.{maxPattern, maxCanonical}
 use Rattle.model.specs.Summary.{Summary, asDocument}
 use Rattle.model.specs.Pattern.{Pattern, PatternRecord, noPatternRecord, patternParent, descends}
@@ -25,6 +22,7 @@ use Rattle.format.specs.Given.{summaryIn, patternAt}
 use Rattle.format.proofs.FrontLaws.{front-getD, front-set}
 use Rattle.canonical.specs.Draft.{Draft, Drafted}
 use Rattle.canonical.specs.Given.{embeddingIn, Embedded, Hanging, Hung}
+use Rattle.canonical.proofs.DraftLaws.{each-snoc}
 use Rattle.canonical.proofs.ChainLaws.{append-length}
 use Rattle.canonical.proofs.LayoutLaws.{chains-few}
 
@@ -198,26 +196,12 @@ module _ {case : List ℕ} {at : ℕ} {images : List ℕ} (given : Embedded case
             longer = let k = u .counted in omega arith
 
             own-inside : (k : ℕ) → k < q + 1 → imageIn (nextLayout .own) k < n
-            own-inside k h′ = subst (λ (o : List ℕ). imageIn o k < n) (sym own-next) (go (ltb k q) refl)
-              where
-                e : length (l .layout .own) ≡ q
-                e = l .ownLength
-
-                go : (t : Bool) → ltb k q ≡ t → imageIn (l .layout .own ++ (n - 1) ∷ []) k < n
-                go true x =
-                    let k-lt : k < q = ltb-true k q x in
-                    let e′ = e in
-                    let i : imageIn (l .layout .own) k < count = l .ownInside k k-lt in
-                    let s : imageIn (l .layout .own ++ (n - 1) ∷ []) k ≡ imageIn (l .layout .own) k = List·getD-append (l .layout .own) ((n - 1) ∷ []) 0 k (omega arith) in
-                    let g = longer in
-                    omega arith
-                go false x =
-                    let k-ge : q ≤ k = ltb-false k q x in
-                    let e′ = e in
-                    let here : k ≡ length (l .layout .own) = omega arith in
-                    let s : imageIn (l .layout .own ++ (n - 1) ∷ []) k ≡ n - 1 = ap (imageIn (l .layout .own ++ (n - 1) ∷ [])) here ∙ getD-append-seam (l .layout .own) (n - 1) [] 0 in
-                    let o = grown .some in
-                    omega arith
+            own-inside k h′ =
+                let e = l .ownLength in
+                let g = longer in
+                let o = grown .some in
+                subst (λ (own : List ℕ). imageIn own k < n) (sym own-next)
+                (each-snoc (λ (x : ℕ). x < n) (l .layout .own) (n - 1) 0 (λ i m. let j = l .ownInside i (omega arith) in omega arith) (omega arith) k (omega arith))
 
 -- ---- the loop over the pattern's nodes, from what is laid out where it begins
 

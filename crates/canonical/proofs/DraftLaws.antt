@@ -3,7 +3,7 @@
 use Prim.Native.Nat.{ℕ, suc, _+_, _*_, _^_, _≤_, _<_}
 use mathlib.Core.Path.{_≡_, refl, sym, ap, ap₂, _∙_, subst, subst₂}
 use mathlib.Core.Bool.{Bool, true, false, _&&_, _||_, or-false}
-use mathlib.Core.List.{List, [], _∷_, _++_, map, flatMap, map-append, append-assoc, List·Memᴰ, List·Memᴰ·head, List·Memᴰ·tail}
+use mathlib.Core.List.{List, [], _∷_, _++_, map, flatMap, map-append, append-assoc, List·Memᴰ}
 use native.Mathlib.Omega.{arith}
 use native.Mathlib.Nat.{zero-add}
 use native.Mathlib.Numerals.{add-one}
@@ -17,11 +17,11 @@ use Rattle.model.specs.Lists.{upFrom, anyOf}
 use Rattle.model.specs.Summary.{Summary, summaryLabel}
 use Rattle.model.specs.Bytes.{fieldBytes, bytesOf, documentFields, sectionFields, encodeDocument, writtenAtFront}
 use Rattle.model.specs.Canonical.{Spot, rootSpot, spotParent, spotAt, spotRecord, hasChildOn}
-use Rattle.model.proofs.ListLaws.{bool-ext, and-left, and-right, any-below, upFrom-mem, length-snoc, length-map-upFrom, getD-map}
+use Rattle.model.proofs.ListLaws.{bool-ext, and-left, and-right, any-agree, any-below, upFrom-mem, length-snoc, length-map-upFrom, getD-map}
 use Rattle.model.proofs.TreeLaws.{length-asDocument}
 use Rattle.model.proofs.Masks.{has, mask-none}
 use Rattle.model.proofs.Bytes.{length-bytes, front-length}
-use Rattle.bits.proofs.MaskLaws.{mask-has, mask-agree, mask-insert, any-cons, any-snoc}
+use Rattle.bits.proofs.MaskLaws.{mask-has, mask-agree, mask-insert, any-snoc}
 use Rattle.format.proofs.RangeLaws.{upFrom-last, map-last, getD-map-below}
 use Rattle.format.proofs.FrontLaws.{front-getD, front-set}
 use Rattle.format.proofs.WriteLaws.{flatMap-append, Written, written-none, written-put, document-fields}
@@ -30,13 +30,16 @@ use Rattle.canonical.specs.Draft.{Draft, Roomy, draft, draftFields, chil
 
 -- ---- lists
 
--- tests that agree on a list's members
-any-agree : (f g : ℕ → Bool) (xs : List ℕ) → ((x : ℕ) → List·Memᴰ x xs → f x ≡ g x) → anyOf f xs ≡ anyOf g xs
-unfolding anyOf
-any-agree f g [] h = refl
-any-agree f g (x ∷ xs) h =
-    any-cons f x xs ∙ ap₂ (λ (a b : Bool). a || b) (h x (List·Memᴰ·head refl)) (any-agree f g xs (λ y m. h y (List·Memᴰ·tail m)))
-    ∙ sym (any-cons g x xs)
+-- what holds of each element of a list and of one more
+pub each-snoc : {A : Type 0} (Q : A → Type 0) (xs : List A) (x d : A) → ((i : ℕ) → i < length xs → Q (getD xs i d)) → Q x
+    → (i : ℕ) → i < suc (length xs) → Q (getD (xs ++ x ∷ []) i d)
+each-snoc Q xs x d old new i h = go (ltb i (length xs)) refl
+  where
+    go : (b : Bool) → ltb i (length xs) ≡ b → Q (getD (xs ++ x ∷ []) i d)
+    go true e = let l : i < length xs = ltb-true i (length xs) e in subst Q (sym (List·getD-append xs (x ∷ []) d i l)) (old i l)
+    go false e =
+        let here : i ≡ length xs = (let l : length xs ≤ i = ltb-false i (length xs) e in omega arith) in
+        subst Q (sym (ap (λ (k : ℕ). getD (xs ++ x ∷ []) k d) here ∙ getD-append-seam xs x [] d)) new
 
 -- a table that differs in one place
 map-put : (f g : ℕ → ℕ) (n v x : ℕ) → v < n → g v ≡ x → ((i : ℕ) → (i ≡ v → ⊥) → g i ≡ f i) → set (map f (upFrom 0 n)) v x ≡ map g (upFrom 0 n)
@@ -285,25 +288,11 @@ module _ {S : Summary} {spots : List Spot} {base now : Draft} {count : ℕ} (c :
           ap (λ (k : ℕ). set (writtenAtFront w b) k x) (q ∙ sym e) ∙ front-set w b x (omega arith)
 
       inside-snoc : (i : ℕ) → i < length (spots ++ s ∷ []) → (spotParent (spots ++ s ∷ []) i < length (spots ++ s ∷ [])) × (spotAt (spots ++ s ∷ []) i < length S)
-      inside-snoc i l = go (ltb i (length spots)) refl
-        where
-          n : length (spots ++ s ∷ []) ≡ suc (length spots)
-          n = length-snoc spots s
-
-          go : (b : Bool) → ltb i (length spots) ≡ b → (spotParent (spots ++ s ∷ []) i < length (spots ++ s ∷ [])) × (spotAt (spots ++ s ∷ []) i < length S)
-          go true e =
-              let m : i < length spots = ltb-true i (length spots) e in
-              let p : getD (spots ++ s ∷ []) i rootSpot ≡ getD spots i rootSpot = List·getD-append spots (s ∷ []) rootSpot i m in
-              let o = c .inside i m in
-              let n′ = n in
-              subst (λ (x : Spot). (x .parent < length (spots ++ s ∷ [])) × (x .at < length S)) (sym p) (omega arith, o .1)
-          go false e =
-              let m : length spots ≤ i = ltb-false i (length spots) e in
-              let n′ = n in
-              let here : i ≡ length spots = omega arith in
-              let q : count ≡ length spots = c .counted in
-              subst (λ (x : Spot). (x .parent < length (spots ++ s ∷ [])) × (x .at < length S))
-              (sym (ap (λ (k : ℕ). getD (spots ++ s ∷ []) k rootSpot) here ∙ getD-append-seam spots s [] rootSpot)) (omega arith, k)
+      inside-snoc i l =
+          let n = length-snoc spots s in
+          let q = c .counted in
+          each-snoc (λ (x : Spot). (x .parent < length (spots ++ s ∷ [])) × (x .at < length S)) spots s rootSpot
+          (λ j m. let o = c .inside j m in (omega arith, o .1)) (omega arith, k) i (omega arith)
 
   -- the section is whole when its count is put
   pub drafted-section : sets (now .bytes) 0 (fieldBytes count) ≡ writtenAtFront (encodeDocument (map (spotRecord S) spots)) (base .bytes)

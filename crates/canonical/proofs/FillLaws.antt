@@ -38,13 +38,6 @@ keep-append test (x ∷ xs) ys = go (test x) (keep-append test xs ys)
     go true e = ap (λ (l : List ℕ). x ∷ l) e
     go false e = e
 
-upFrom-split : (a t k : ℕ) → upFrom a (t + k) ≡ upFrom a t ++ upFrom (a + t) k
-unfolding upFrom
-upFrom-split a zero k = ap₂ upFrom (let e : a ≡ a + 0 = omega arith in e) (zero-add k)
-upFrom-split a (suc t) k =
-    ap (upFrom a) (let e : suc t + k ≡ suc (t + k) = omega arith in e)
-    ∙ ap (λ (l : List ℕ). a ∷ l) (upFrom-split (suc a) t k ∙ ap (λ (b : ℕ). upFrom (suc a) t ++ upFrom b k) (omega arith))
-
 -- ---- missing children
 
 add-append : (spots : List Spot) (v : ℕ) (xs ys : List ℕ) → addAll spots v (xs ++ ys) ≡ addAll (addAll spots v xs) v ys
@@ -179,19 +172,19 @@ module _ (S : Summary) (s : ℕ) where
   strong-none tree (suc t) h =
       ap strongBelow (sym (add-one t)) ∙ strong-next t ∙ ap₂ (λ (xs ys : List ℕ). xs ++ ys) (strong-none tree t (omega arith)) (rw (strong-after tree t (omega arith), keep))
 
-  -- no draft on the way is longer than that after the visit
-  strong-grows : (spots : List Spot) (v t n : ℕ) → t ≤ n → length (addAll spots v (strongBelow t)) ≤ length (addAll spots v (strongBelow n))
-  strong-grows spots v t n h =
-      let f : ℕ → Bool = strongTest S s in
-      let xs : List ℕ = keep f (upFrom 0 t) in
-      let ys : List ℕ = keep f (upFrom (0 + t) (n - t)) in
-      let e : keep f (upFrom 0 n) ≡ xs ++ ys =
-      ap (λ (k : ℕ). keep f (upFrom 0 k)) (let z : n ≡ t + (n - t) = omega arith in z) ∙ ap (keep f) (upFrom-split 0 t (n - t)) ∙ keep-append f (upFrom 0 t) (upFrom (0 + t) (n - t)) in
-      let g : length (addAll spots v xs) ≤ length (addAll (addAll spots v xs) v ys) = add-grows (addAll spots v xs) v ys in
-      subst (λ (l : List Spot). length (addAll spots v xs) ≤ length l) (sym (ap (addAll spots v) e ∙ add-append spots v xs ys)) g
-
   add-next : (spots : List Spot) (v t : ℕ) → addAll spots v (strongBelow (t + 1)) ≡ addAll (addAll spots v (strongBelow t)) v (keep (strongTest S s) (t ∷ []))
   add-next spots v t = ap (addAll spots v) (strong-next t) ∙ add-append spots v (strongBelow t) (keep (strongTest S s) (t ∷ []))
+
+  -- no draft on the way is longer than that after the visit
+  strong-grows : (spots : List Spot) (v t k : ℕ) → length (addAll spots v (strongBelow t)) ≤ length (addAll spots v (strongBelow (t + k)))
+  strong-grows spots v t zero =
+      subst (λ (n : ℕ). length (addAll spots v (strongBelow t)) ≤ length (addAll spots v (strongBelow n))) (let z : t ≡ t + 0 = omega arith in z) (omega arith)
+  strong-grows spots v t (suc k) =
+      let a = strong-grows spots v t k in
+      let b = add-grows (addAll spots v (strongBelow (t + k))) v (keep (strongTest S s) ((t + k) ∷ [])) in
+      let e = ap (λ (x : List Spot). length x) (add-next spots v (t + k)) in
+      let z : t + suc k ≡ t + k + 1 = omega arith in
+      subst (λ (n : ℕ). length (addAll spots v (strongBelow t)) ≤ length (addAll spots v (strongBelow n))) (sym z) (omega arith)
 
 -- the summary node of a node that is visited
 pub visitable-on : {S : Summary} {spots : List Spot} {base now : Draft} {v count : ℕ} → Visitable S spots base now v count → (s : ℕ) → s ≡ getD (now .on) v 0 → s < length S
@@ -227,7 +220,9 @@ module _ {S : Summary} {v count : ℕ} {before : Draft} {s : ℕ} where
         let r : length (addAll spots v (strongBelow S s (length S))) ≤ maxCanonical =
         subst (λ (ts : List ℕ). length (addAll spots v ts) ≤ maxCanonical) (ap (strongChildren S) same ∙ strong-all S s) (m .room) in
         let a : length spots ≤ length (addAll spots v (strongBelow S s t)) = add-grows spots v (strongBelow S s t) in
-        let b : length (addAll spots v (strongBelow S s (t + 1))) ≤ length (addAll spots v (strongBelow S s (length S))) = strong-grows S s spots v (t + 1) (length S) (omega arith) in
+        let b : length (addAll spots v (strongBelow S s (t + 1))) ≤ length (addAll spots v (strongBelow S s (length S))) =
+        subst (λ (n : ℕ). length (addAll spots v (strongBelow S s (t + 1))) ≤ length (addAll spots v (strongBelow S s n)))
+        (let z : t + 1 + (length S - (t + 1)) ≡ length S = omega arith in z) (strong-grows S s spots v (t + 1) (length S - (t + 1))) in
         let n : length (addAll spots v (strongBelow S s (t + 1))) ≡ length (addAll (addAll spots v (strongBelow S s t)) v (keep (strongTest S s) (t ∷ []))) =
         ap (λ (x : List Spot). length x) (add-next S s spots v t) in
         let i = m .inside in
