@@ -1,4 +1,4 @@
--- `canonical::show::own_result` meets its contract: before turn i the front has the own nodes at positions 1 to i. The measure is how
+-- `canonical::own_result` meets its contract: before turn i the front has the own nodes at positions 1 to i. The measure is how
 -- many are left. Assumes nothing.
 use Prim.Native.Nat.{ℕ, _+_, _-_}
 use mathlib.Core.Path.{refl, ap, _∙_}
@@ -9,8 +9,8 @@ use Rattle.model.specs.Embeddings.{imageIn}
 use Rattle.format.specs.Given.{patternAt}
 use Rattle.format.proofs.FrontLoops.{FilledUpTo, filled-start, filled-step, filled-end}
 use borrow.Author.Needs.{needs}
-use Rattle.canonical.proofs.show.own_result.Statement.{statement}
-use Rattle.canonical.proofs.show.own_result.Tie as tie
+use Rattle.canonical.proofs.own_result.Statement.{statement}
+use Rattle.canonical.proofs.own_result.Tie as tie
 
 abbrev Inv-loop : tie.InvT-loop
 Inv-loop case at own k result₀ i₀ result i = FilledUpTo (λ (j : ℕ). imageIn own (nodeAt (patternAt case at) (j + 1))) k (replicate 8 0) result i

@@ -1,4 +1,4 @@
--- `canonical::show::show` meets its contract: the section ends where the lent part begins, so what the two write stands one after the
+-- `canonical::show` meets its contract: the section ends where the lent part begins, so what the two write stands one after the
 -- other. Assumes nothing.
 use Prim.Native.Nat.{_≤_}
 use native.Mathlib.Omega.{arith}
@@ -7,8 +7,8 @@ use borrow.Author.Needs.{needs}
 use Rattle.model.specs.Limits.{maxCanonical}
 use Rattle.format.proofs.FrontLaws.{front-part}
 use Rattle.canonical.proofs.ShownLaws.{held, own-length, shown-result, shown-end, shown-small}
-use Rattle.canonical.proofs.show.show.Statement.{statement}
-use Rattle.canonical.proofs.show.show.Tie as tie
+use Rattle.canonical.proofs.show.Statement.{statement}
+use Rattle.canonical.proofs.show.Tie as tie
 
 abbrev start : tie.After-lay-out → tie.Start
 start c = c .before .before .before .before .before .before
