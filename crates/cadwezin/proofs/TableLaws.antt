@@ -15,8 +15,8 @@ use Rattle.model.proofs.Bytes.{front-length, front-written, front-none}
 use Rattle.model.proofs.Calls.{by-number, layout-refused, layout-accepted}
 use Rattle.format.proofs.FrontLaws.{front-set}
 use Rattle.laying.specs.declared.laid.NodeRecord.{NodeRecord}
-use Rattle.laying.specs.declared.laid.LaidOut.{LaidOut}
-use Rattle.laying.specs.Table.{laidNodes}
+use Rattle.laying.specs.declared.laid.Laid.{Laid}
+use Rattle.laying.specs.Records.{laidNodes}
 use Rattle.laying.specs.Records.{nodeRecord, recordOf, blankNodes, atFront, laidFor, LaidBy}
 use Rattle.laying.proofs.RecordLaws.{laid-nothing, laid-records, laid-fits}
 use Rattle.cadwezin.specs.Table.{recordsIn, LayoutAnswered}
@@ -72,7 +72,7 @@ records-front rs ys =
     ∙ ap₂ (λ (v w : List LaidRecord). v ++ w) (map-map recordOf nodeRecord rs ∙ map-id rs)
     (map-drop recordOf (length (map nodeRecord rs)) ys ∙ ap (λ (n : ℕ). drop n (recordsIn ys)) (length-map rs nodeRecord))
 
-module _ {b : List ℕ} {s : ℕ} {l : List ℕ} (ys : List NodeRecord) {r : LaidOut} (g : LaidBy b s l (length ys) r) where
+module _ {b : List ℕ} {s : ℕ} {l : List ℕ} (ys : List NodeRecord) {r : Laid} (g : LaidBy b s l (length ys) r) where
   pub laid-filling : length (r .nodes) ≡ minTable → Filling (r .nodes) ys (r .count)
   laid-filling n = let f = laid-fits b s l (length ys) g in record { inNodes = omega (arith, f .0); inTable = f .1; few = f .0 }
 

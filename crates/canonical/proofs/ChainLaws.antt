@@ -6,9 +6,9 @@ use mathlib.Core.Logic.{_⊎_, inl, inr}
 use mathlib.Core.List.{List, [], _∷_, _++_}
 use native.Mathlib.Omega.{arith}
 use lib.Dec.{eqb}
-use lib.ListN.{length, getD}
+use lib.ListN.{length}
 use borrow.Author.Tests.{eqb-true, eqb-false}
-use Rattle.model.specs.Limits.{minTable, maxSummary}
+use Rattle.model.specs.Limits.{maxSummary, maxCanonical}
 use Rattle.model.specs.Tree.{Document, IsTree, Child, Below, parentOf}
 use Rattle.model.specs.Summary.{Summary, asDocument, summaryParent}
 use Rattle.model.specs.Canonical.{Spot, chain, appendChain}
@@ -16,9 +16,9 @@ use Rattle.model.proofs.ListLaws.{length-snoc}
 use Rattle.model.proofs.TreeLaws.{below-cases, child-lt, length-asDocument}
 use Rattle.model.proofs.Chains.{AtOrBelow, end, step, way-append, at-or-below-way, chain-way}
 use Rattle.model.proofs.Segment.{chainSpot, append-chain}
-use Rattle.canonical.specs.Columns.{Tables, Columns, appended}
+use Rattle.canonical.specs.Draft.{Draft, Drafted, appended}
 use Rattle.canonical.specs.Given.{Hanging, HangsFrom, Hung}
-use Rattle.canonical.proofs.ColumnLaws.{columns-by, columns-append}
+use Rattle.canonical.proofs.DraftLaws.{drafted-by, drafted-append}
 
 -- ---- a chain from its lower end
 
@@ -69,106 +69,83 @@ append-snoc q spots v x h (y ∷ ys) f =
 
 -- ---- the function that appends a chain
 
-module _ {S : Summary} {parents : List ℕ} {a b v count : ℕ} (h : Hanging S parents a b v count) where
+module _ {S : Summary} (tree : IsTree (asDocument S)) {a b v count : ℕ} (h : Hanging S a b v count) where
   -- at the top nothing is to be done
-  pub hung-none : a ≡ b → (t : Tables) → Hung S a b v count t t count
+  pub hung-none : a ≡ b → (t : Draft) → Hung S a b v count t t count
   unfolding appendChain
   hung-none p t =
-      let e : chain S a b ≡ [] = chain-way S (h .tree) (end p) in
+      let e : chain S a b ≡ [] = chain-way S tree (end p) in
       record {
         counted = let z : length (chain S a b) ≡ 0 = ap (λ (l : List ℕ). length l) e in omega arith;
-        columns = λ q spots base c. subst (λ (l : List ℕ). Columns (appendChain q spots v l) base t count) (sym e) c;
+        grown = λ q spots base c. subst (λ (l : List ℕ). Drafted S (appendChain q spots v l) base t count) (sym e) c;
       }
 
   module _ (ne : a ≡ b → ⊥) where
-    up : ℕ
-    up = summaryParent S b
-
-    above : AtOrBelow (asDocument S) a up × Child (asDocument S) up b
-    unfolding up
+    above : AtOrBelow (asDocument S) a (summaryParent S b) × Child (asDocument S) (summaryParent S b) b
     above = climb (h .reach) ne
-
-    longer : chain S a b ≡ chain S a up ++ b ∷ []
-    longer = chain-snoc S a up b (h .tree) (above .0) (above .1)
 
     pub node-inside : b < length S
     node-inside = subst (λ (n : ℕ). b < n) (length-asDocument S) (above .1 .inside)
 
-    -- the parent is in its column, and below b
-    pub parent-within : b < length parents
-    parent-within = let k = node-inside in let w = h .column .within in omega arith
+    -- from here on, with the parent that is read
+    module _ {up : ℕ} (e : up ≡ summaryParent S b) where
+      pub parent-less : up < b
+      parent-less = subst (λ (k : ℕ). k < b) (sym e) (child-lt tree (above .1))
 
-    parent-same : up ≡ getD parents b 0
-    unfolding up
-    parent-same = h .column .same b node-inside
+      longer : chain S a b ≡ chain S a up ++ b ∷ []
+      longer = subst (λ (k : ℕ). chain S a b ≡ chain S a k ++ b ∷ []) (sym e) (chain-snoc S a (summaryParent S b) b tree (above .0) (above .1))
 
-    pub parent-less : getD parents b 0 < b
-    parent-less = subst (λ (k : ℕ). k < b) parent-same (child-lt (h .tree) (above .1))
+      longer-length : length (chain S a b) ≡ suc (length (chain S a up))
+      longer-length = ap (λ (l : List ℕ). length l) longer ∙ length-snoc (chain S a up) b
 
-    longer-length : length (chain S a b) ≡ suc (length (chain S a up))
-    longer-length = ap (λ (l : List ℕ). length l) longer ∙ length-snoc (chain S a up) b
+      -- the chain down to the parent is to be hung first
+      pub hanging-up : Hanging S a up v count
+      hanging-up =
+          record {
+            reach = subst (λ (k : ℕ). AtOrBelow (asDocument S) a k) (sym e) (above .0);
+            hangs = h .hangs;
+            room = let n = longer-length in let r = h .room in omega arith;
+          }
 
-    -- the chain down to the parent is to be hung first
-    pub hanging-up : {x : ℕ} → x ≡ getD parents b 0 → Hanging S parents a x v count
-    hanging-up e =
-        subst (λ (k : ℕ). Hanging S parents a k v count) (parent-same ∙ sym e)
-        (record {
-          tree = h .tree;
-          small = h .small;
-          column = h .column;
-          reach = above .0;
-          hangs = h .hangs;
-          room = let n = longer-length in let r = h .room in omega arith;
-        })
+      -- and then b, hung from node k
+      module _ {before mid : Draft} {n : ℕ} (u : Hung S a up v count before mid n) where
+        pub hung-longer : count ≤ n
+        hung-longer = let s = u .counted in omega arith
 
-    pub node-small : b < maxSummary
-    node-small = let i = node-inside in let s = h .small in omega arith
+        pub hung-room : n < maxCanonical
+        hung-room = let s = u .counted in let l = longer-length in let r = h .room in omega arith
 
-    -- and then b, hung from node k
-    module _ {x : ℕ} (e : x ≡ getD parents b 0) {before mid : Tables} {n : ℕ} (u : Hung S a x v count before mid n) where
-      u′ : Hung S a up v count before mid n
-      u′ = subst (λ (k : ℕ). Hung S a k v count before mid n) (e ∙ sym parent-same) u
+        module _ {k : ℕ} (f : HangsFrom v count n k) where
+          pub hung-inside : k < n
+          hung-inside = go (eqb n count) refl
+            where
+              go : (t : Bool) → eqb n count ≡ t → k < n
+              go true e =
+                  let p : n ≡ count = eqb-true n count e in
+                  let q : k ≡ v = f .first p in
+                  let r = h .hangs in
+                  omega arith
+              go false e =
+                  let ne′ : n ≡ count → ⊥ = eqb-false n count e in
+                  let q : k ≡ n - 1 = f .next ne′ in
+                  let r = h .hangs in
+                  let s = u .counted in
+                  omega arith
 
-      size : n ≡ count + length (chain S a up)
-      size = u′ .counted
-
-      pub hung-longer : count ≤ n
-      hung-longer = let s = size in omega arith
-
-      pub hung-room : n < minTable
-      hung-room = let s = size in let l = longer-length in let r = h .room in omega arith
-
-      module _ {k : ℕ} (f : HangsFrom v count n k) where
-        pub hung-inside : k < n
-        hung-inside = go (eqb n count) refl
-          where
-            go : (t : Bool) → eqb n count ≡ t → k < n
-            go true e =
-                let p : n ≡ count = eqb-true n count e in
-                let q : k ≡ v = f .first p in
-                let r = h .hangs in
-                omega arith
-            go false e =
-                let ne′ : n ≡ count → ⊥ = eqb-false n count e in
-                let q : k ≡ n - 1 = f .next ne′ in
-                let r = h .hangs in
-                let s = size in
-                omega arith
-
-        pub hung-next : {after : Tables} {m : ℕ} → m ≡ n + 1 → after ≡ appended mid n k b → Hung S a b v count before after m
-        hung-next {after} {m} em et =
-            record {
-              counted = let s = size in let l = longer-length in omega arith;
-              columns = λ q spots base c. columns-by et em (grown q spots base c (u′ .columns q spots base c));
-            }
-          where
-            grown : (q : ℕ) (spots : List Spot) (base : Tables) → Columns spots base before count → Columns (appendChain q spots v (chain S a up)) base mid n
-                → Columns (appendChain q spots v (chain S a b)) base (appended mid n k b) (n + 1)
-            grown q spots base c d =
-                let z : n ≡ length spots + length (chain S a up) = size ∙ ap (λ (x : ℕ). x + length (chain S a up)) (c .counted) in
-                let g : HangsFrom v (length spots) (length spots + length (chain S a up)) k =
-                record { first = λ p. f .first (z ∙ p ∙ sym (c .counted)); next = λ ne′. f .next (λ p. ne′ (sym z ∙ p ∙ c .counted)) ∙ ap (λ (x : ℕ). x - 1) z } in
-                let e : appendChain q spots v (chain S a b) ≡ appendChain q spots v (chain S a up) ++ chainSpot q k b ∷ [] =
-                ap (appendChain q spots v) longer ∙ append-snoc q spots v b k (chain S a up) g in
-                subst (λ (T : List Spot). Columns T base (appended mid n k b) (n + 1)) (sym e)
-                (columns-append d (chainSpot q k b) hung-inside node-small hung-room)
+          pub hung-next : length S ≤ maxSummary → {after : Draft} {m : ℕ} → m ≡ n + 1 → after ≡ appended S mid n k b → Hung S a b v count before after m
+          hung-next few {after} {m} em et =
+              record {
+                counted = let s = u .counted in let l = longer-length in omega arith;
+                grown = λ q spots base c. drafted-by et em (more q spots base c (u .grown q spots base c));
+              }
+            where
+              more : (q : ℕ) (spots : List Spot) (base : Draft) → Drafted S spots base before count → Drafted S (appendChain q spots v (chain S a up)) base mid n
+                  → Drafted S (appendChain q spots v (chain S a b)) base (appended S mid n k b) (n + 1)
+              more q spots base c d =
+                  let z : n ≡ length spots + length (chain S a up) = u .counted ∙ ap (λ (x : ℕ). x + length (chain S a up)) (c .counted) in
+                  let g : HangsFrom v (length spots) (length spots + length (chain S a up)) k =
+                  record { first = λ p. f .first (z ∙ p ∙ sym (c .counted)); next = λ ne′. f .next (λ p. ne′ (sym z ∙ p ∙ c .counted)) ∙ ap (λ (x : ℕ). x - 1) z } in
+                  let e : appendChain q spots v (chain S a b) ≡ appendChain q spots v (chain S a up) ++ chainSpot q k b ∷ [] =
+                  ap (appendChain q spots v) longer ∙ append-snoc q spots v b k (chain S a up) g in
+                  subst (λ (T : List Spot). Drafted S T base (appended S mid n k b) (n + 1)) (sym e)
+                  (drafted-append d (chainSpot q k b) hung-inside node-inside few hung-room)

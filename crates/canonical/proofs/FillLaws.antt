@@ -1,7 +1,7 @@
 -- Filling up node by node: a visit goes through the summary's nodes in order, and each visit leaves the visits to come to reach the
 -- same end. No table on the way is longer than the last. Assumes nothing.
 use Prim.Native.Nat.{ℕ, zero, suc, _+_, _-_, _≤_, _<_}
-use mathlib.Core.Path.{_≡_, refl, sym, ap, ap₂, _∙_, subst, subst₂}
+use mathlib.Core.Path.{_≡_, refl, sym, ap, ap₂, _∙_, subst}
 use mathlib.Core.Bool.{Bool, true, false, _&&_}
 use mathlib.Core.List.{List, [], _∷_, _++_}
 use native.Mathlib.Omega.{arith}
@@ -10,17 +10,20 @@ use native.Mathlib.Numerals.{add-one}
 use lib.Dec.{eqb, ltb}
 use lib.ListN.{length, getD}
 use borrow.Author.Tests.{lt-ltb, le-ltb, eq-eqb, ne-eqb}
-use Rattle.model.specs.Limits.{minTable, maxSummary}
+use Rattle.model.specs.Limits.{maxSummary, maxCanonical}
 use Rattle.model.specs.Lists.{upFrom, keep}
-use Rattle.model.specs.Summary.{Summary}
+use Rattle.model.specs.Tree.{IsTree}
+use Rattle.model.specs.Summary.{Summary, asDocument, noSummaryRecord, summaryParent}
+use Rattle.model.specs.Embeddings.{childTest}
 use Rattle.model.specs.Fitting.{strongChildren}
 use Rattle.model.specs.Canonical.{Spot, rootSpot, spotAt, hasChildOn, addMissing, addAll, fillNode, fillFrom}
 use Rattle.model.proofs.ListLaws.{by-bool, length-snoc}
+use Rattle.model.proofs.TreeLaws.{length-asDocument, test-child-and, child-lt}
 use Rattle.model.proofs.Masks.{has}
 use Rattle.format.proofs.RangeLaws.{upFrom-last}
-use Rattle.canonical.specs.Columns.{Tables, Columns, appended}
-use Rattle.canonical.specs.Given.{strongChild, strongBelow, Missing, Fillable}
-use Rattle.canonical.proofs.ColumnLaws.{columns-at, columns-child, columns-append}
+use Rattle.canonical.specs.Draft.{Draft, Drafted, appended}
+use Rattle.canonical.specs.Given.{strongTest, Missing, Visitable, Fillable}
+use Rattle.canonical.proofs.DraftLaws.{drafted-on, drafted-child, drafted-append}
 
 -- ---- lists
 
@@ -34,13 +37,6 @@ keep-append test (x ∷ xs) ys = go (test x) (keep-append test xs ys)
         ≡ (elim t as (λ _. List ℕ) [ true ↦ x ∷ keep test xs | false ↦ keep test xs ]) ++ keep test ys
     go true e = ap (λ (l : List ℕ). x ∷ l) e
     go false e = e
-
-upFrom-split : (a t k : ℕ) → upFrom a (t + k) ≡ upFrom a t ++ upFrom (a + t) k
-unfolding upFrom
-upFrom-split a zero k = ap₂ upFrom (let e : a ≡ a + 0 = omega arith in e) (zero-add k)
-upFrom-split a (suc t) k =
-    ap (upFrom a) (let e : suc t + k ≡ suc (t + k) = omega arith in e)
-    ∙ ap (λ (l : List ℕ). a ∷ l) (upFrom-split (suc a) t k ∙ ap (λ (b : ℕ). upFrom (suc a) t ++ upFrom b k) (omega arith))
 
 -- ---- missing children
 
@@ -103,139 +99,169 @@ module _ (spots : List Spot) (v t : ℕ) (test : ℕ → Bool) where
   unfolding keep addAll addMissing
   add-new e h = rw (e, keep, h, addMissing)
 
-module _ {spots : List Spot} {base now : Tables} {count : ℕ} (c : Columns spots base now count) (v t : ℕ) (test : ℕ → Bool) (inside : v < count) (small : t < maxSummary) where
-  pub unasked-columns : test t ≡ false → Columns (addAll spots v (keep test (t ∷ []))) base now count
-  unasked-columns e = subst (λ (x : List Spot). Columns x base now count) (sym (add-unasked spots v t test e)) c
+module _ {S : Summary} (few : length S ≤ maxSummary) {spots : List Spot} {base now : Draft} {count : ℕ} (c : Drafted S spots base now count) (v t : ℕ) (test : ℕ → Bool)
+    (inside : v < count) (small : t < length S) where
+  pub unasked-drafted : test t ≡ false → Drafted S (addAll spots v (keep test (t ∷ []))) base now count
+  unasked-drafted e = subst (λ (x : List Spot). Drafted S x base now count) (sym (add-unasked spots v t test e)) c
 
-  pub there-columns : test t ≡ true → has (getD (now .kids) v 0) t ≡ true → Columns (addAll spots v (keep test (t ∷ []))) base now count
-  there-columns e h =
-      subst (λ (x : List Spot). Columns x base now count) (sym (add-there spots v t test e (sym (columns-child c v t inside small) ∙ h))) c
+  there : {b : Bool} → has (getD (now .kids) v 0) t ≡ b → hasChildOn spots v t ≡ b
+  there h = sym (drafted-child c v t inside (omega arith)) ∙ h
 
-  pub new-room : test t ≡ true → has (getD (now .kids) v 0) t ≡ false → length (addAll spots v (keep test (t ∷ []))) ≤ minTable → count < minTable
+  pub there-drafted : test t ≡ true → has (getD (now .kids) v 0) t ≡ true → Drafted S (addAll spots v (keep test (t ∷ []))) base now count
+  there-drafted e h = subst (λ (x : List Spot). Drafted S x base now count) (sym (add-there spots v t test e (there h))) c
+
+  pub new-room : test t ≡ true → has (getD (now .kids) v 0) t ≡ false → length (addAll spots v (keep test (t ∷ []))) ≤ maxCanonical → count < maxCanonical
   new-room e h r =
       let s : Spot = record { parent = v; at = t; owner = getD spots v rootSpot .owner; filled = true } in
-      let n : length (addAll spots v (keep test (t ∷ []))) ≡ length (spots ++ s ∷ []) =
-      ap (λ (x : List Spot). length x) (add-new spots v t test e (sym (columns-child c v t inside small) ∙ h)) in
+      let n : length (addAll spots v (keep test (t ∷ []))) ≡ length (spots ++ s ∷ []) = ap (λ (x : List Spot). length x) (add-new spots v t test e (there h)) in
       let m : length (spots ++ s ∷ []) ≡ suc (length spots) = length-snoc spots s in
       let q = c .counted in
       omega arith
 
-  pub new-columns : test t ≡ true → has (getD (now .kids) v 0) t ≡ false → count < minTable
-      → Columns (addAll spots v (keep test (t ∷ []))) base (appended now count v t) (count + 1)
-  new-columns e h r =
+  pub new-drafted : test t ≡ true → has (getD (now .kids) v 0) t ≡ false → count < maxCanonical
+      → Drafted S (addAll spots v (keep test (t ∷ []))) base (appended S now count v t) (count + 1)
+  new-drafted e h r =
       let s : Spot = record { parent = v; at = t; owner = getD spots v rootSpot .owner; filled = true } in
-      subst (λ (x : List Spot). Columns x base (appended now count v t) (count + 1)) (sym (add-new spots v t test e (sym (columns-child c v t inside small) ∙ h)))
-      (columns-append c s inside small r)
+      subst (λ (x : List Spot). Drafted S x base (appended S now count v t) (count + 1)) (sym (add-new spots v t test e (there h)))
+      (drafted-append c s inside small few r)
 
 -- ---- one visit
 
 -- the test of a strong child, case by case
-module _ (parents strongs : List ℕ) (s t : ℕ) where
-  pub strong-root : t ≡ 0 → false ≡ strongChild parents strongs s t
-  unfolding strongChild
-  strong-root e = rw e
+module _ (S : Summary) (s t : ℕ) where
+  pub strong-elsewhere : (summaryParent S t ≡ s → ⊥) → false ≡ strongTest S s t
+  unfolding strongTest childTest
+  strong-elsewhere ne =
+      by-bool (λ (b : Bool). false ≡ (b && eqb (summaryParent S t) s && eqb (getD S t noSummaryRecord .strong) 1)) (ltb 0 t && ltb t (length (asDocument S)))
+      (rw (ne-eqb (summaryParent S t) s ne)) refl
 
-  pub strong-elsewhere : (getD parents t 0 ≡ s → ⊥) → false ≡ strongChild parents strongs s t
-  unfolding strongChild
-  strong-elsewhere ne = by-bool (λ (b : Bool). false ≡ (b && eqb (getD parents t 0) s && eqb (getD strongs t 0) 1)) (ltb 0 t) (rw (ne-eqb (getD parents t 0) s ne)) refl
+  pub strong-by-edge : 0 < t → t < length S → summaryParent S t ≡ s → eqb (getD S t noSummaryRecord .strong) 1 ≡ strongTest S s t
+  unfolding strongTest childTest
+  strong-by-edge z h e =
+      let l : t < length (asDocument S) = (let n = length-asDocument S in omega arith) in
+      rw (lt-ltb 0 t z, lt-ltb t (length (asDocument S)) l, eq-eqb (summaryParent S t) s e)
 
-  pub strong-by-edge : (t ≡ 0 → ⊥) → getD parents t 0 ≡ s → eqb (getD strongs t 0) 1 ≡ strongChild parents strongs s t
-  unfolding strongChild
-  strong-by-edge ne e = rw (lt-ltb 0 t (omega arith), eq-eqb (getD parents t 0) s e)
+module _ (S : Summary) (s : ℕ) where
+  -- the strong children of s below t
+  abbrev strongBelow : ℕ → List ℕ
+  strongBelow t = keep (strongTest S s) (upFrom 0 t)
 
-module _ (parents strongs : List ℕ) (s : ℕ) where
-  strong-none : strongBelow parents strongs s 0 ≡ []
-  unfolding strongBelow upFrom keep
-  strong-none = refl
+  strong-all : strongChildren S s ≡ strongBelow (length S)
+  unfolding strongChildren strongTest
+  strong-all = refl
 
-  strong-next : (t : ℕ) → strongBelow parents strongs s (t + 1) ≡ strongBelow parents strongs s t ++ keep (strongChild parents strongs s) (t ∷ [])
-  unfolding strongBelow
+  strong-next : (t : ℕ) → strongBelow (t + 1) ≡ strongBelow t ++ keep (strongTest S s) (t ∷ [])
   strong-next t =
-      let f : ℕ → Bool = strongChild parents strongs s in
+      let f : ℕ → Bool = strongTest S s in
       ap (keep f) (upFrom-last 0 t) ∙ keep-append f (upFrom 0 t) ((0 + t) ∷ []) ∙ ap (λ (x : ℕ). keep f (upFrom 0 t) ++ keep f (x ∷ [])) (zero-add t)
 
-  -- no table on the way is longer than that after the visit
-  strong-grows : (spots : List Spot) (v t n : ℕ) → t ≤ n
-      → length (addAll spots v (strongBelow parents strongs s t)) ≤ length (addAll spots v (strongBelow parents strongs s n))
-  unfolding strongBelow
-  strong-grows spots v t n h =
-      let f : ℕ → Bool = strongChild parents strongs s in
-      let xs : List ℕ = keep f (upFrom 0 t) in
-      let ys : List ℕ = keep f (upFrom (0 + t) (n - t)) in
-      let e : keep f (upFrom 0 n) ≡ xs ++ ys =
-      ap (λ (k : ℕ). keep f (upFrom 0 k)) (let z : n ≡ t + (n - t) = omega arith in z) ∙ ap (keep f) (upFrom-split 0 t (n - t)) ∙ keep-append f (upFrom 0 t) (upFrom (0 + t) (n - t)) in
-      let g : length (addAll spots v xs) ≤ length (addAll (addAll spots v xs) v ys) = add-grows (addAll spots v xs) v ys in
-      subst (λ (l : List Spot). length (addAll spots v xs) ≤ length l) (sym (ap (addAll spots v) e ∙ add-append spots v xs ys)) g
+  -- no node up to s is its child, since parents come first
+  strong-after : IsTree (asDocument S) → (t : ℕ) → t ≤ s → strongTest S s t ≡ false
+  unfolding strongTest
+  strong-after tree t h = go (strongTest S s t) refl
+    where
+      go : (b : Bool) → strongTest S s t ≡ b → strongTest S s t ≡ false
+      go true e =
+          let l : s < t = child-lt tree (test-child-and (asDocument S) s t (getD S t noSummaryRecord .strong) 1 e .0) in
+          absurd (omega arith)
+      go false e = e
 
-  module _ (spots : List Spot) (v t : ℕ) where
-    add-next : addAll spots v (strongBelow parents strongs s (t + 1)) ≡ addAll (addAll spots v (strongBelow parents strongs s t)) v (keep (strongChild parents strongs s) (t ∷ []))
-    add-next = ap (addAll spots v) (strong-next t) ∙ add-append spots v (strongBelow parents strongs s t) (keep (strongChild parents strongs s) (t ∷ []))
+  strong-none : IsTree (asDocument S) → (t : ℕ) → t ≤ s + 1 → strongBelow t ≡ []
+  unfolding keep upFrom
+  strong-none tree zero h = refl
+  strong-none tree (suc t) h =
+      ap strongBelow (sym (add-one t)) ∙ strong-next t ∙ ap₂ (λ (xs ys : List ℕ). xs ++ ys) (strong-none tree t (omega arith)) (rw (strong-after tree t (omega arith), keep))
 
-    -- where a turn begins and ends
-    visit-start : {base now : Tables} {count : ℕ} → Columns spots base now count → Columns (addAll spots v (strongBelow parents strongs s 0)) base now count
-    unfolding addAll
-    visit-start {base} {now} {count} c = subst (λ (ts : List ℕ). Columns (addAll spots v ts) base now count) (sym strong-none) c
+  add-next : (spots : List Spot) (v t : ℕ) → addAll spots v (strongBelow (t + 1)) ≡ addAll (addAll spots v (strongBelow t)) v (keep (strongTest S s) (t ∷ []))
+  add-next spots v t = ap (addAll spots v) (strong-next t) ∙ add-append spots v (strongBelow t) (keep (strongTest S s) (t ∷ []))
 
-    visit-missing : {base now : Tables} {count n : ℕ} → Columns (addAll spots v (strongBelow parents strongs s t)) base now count → v < count → t < n
-        → length (addAll spots v (strongBelow parents strongs s n)) ≤ minTable
-        → Missing (addAll spots v (strongBelow parents strongs s t)) base now (keep (strongChild parents strongs s) (t ∷ [])) v count
-    visit-missing {n = n} c h l r =
-        let g : length (addAll spots v (strongBelow parents strongs s (t + 1))) ≤ length (addAll spots v (strongBelow parents strongs s n)) = strong-grows spots v (t + 1) n (omega arith) in
-        let e : length (addAll spots v (strongBelow parents strongs s (t + 1))) ≡ length (addAll (addAll spots v (strongBelow parents strongs s t)) v (keep (strongChild parents strongs s) (t ∷ []))) =
-        ap (λ (x : List Spot). length x) add-next in
-        record { columns = c; inside = h; room = omega arith }
+  -- no draft on the way is longer than that after the visit
+  strong-grows : (spots : List Spot) (v t k : ℕ) → length (addAll spots v (strongBelow t)) ≤ length (addAll spots v (strongBelow (t + k)))
+  strong-grows spots v t zero =
+      subst (λ (n : ℕ). length (addAll spots v (strongBelow t)) ≤ length (addAll spots v (strongBelow n))) (let z : t ≡ t + 0 = omega arith in z) (omega arith)
+  strong-grows spots v t (suc k) =
+      let a = strong-grows spots v t k in
+      let b = add-grows (addAll spots v (strongBelow (t + k))) v (keep (strongTest S s) ((t + k) ∷ [])) in
+      let e = ap (λ (x : List Spot). length x) (add-next spots v (t + k)) in
+      let z : t + suc k ≡ t + k + 1 = omega arith in
+      subst (λ (n : ℕ). length (addAll spots v (strongBelow t)) ≤ length (addAll spots v (strongBelow n))) (sym z) (omega arith)
 
-    visit-next : {base after : Tables} {n : ℕ} → Columns (addAll (addAll spots v (strongBelow parents strongs s t)) v (keep (strongChild parents strongs s) (t ∷ []))) base after n
-        → Columns (addAll spots v (strongBelow parents strongs s (t + 1))) base after n
-    visit-next {base} {after} {n} c = subst (λ (x : List Spot). Columns x base after n) (sym add-next) c
+-- the summary node of a node that is visited
+pub visitable-on : {S : Summary} {spots : List Spot} {base now : Draft} {v count : ℕ} → Visitable S spots base now v count → (s : ℕ) → s ≡ getD (now .on) v 0 → s < length S
+visitable-on {S} {spots} {v = v} m s e =
+    let q = m .drafted .counted in
+    let i = m .inside in
+    subst (λ (x : ℕ). x < length S) (sym (e ∙ drafted-on (m .drafted) v i)) (m .drafted .inside v (omega arith) .1)
 
--- the children of v on the summary nodes before t are there
-pub record Visiting (parents strongs : List ℕ) (n v count : ℕ) (before : Tables) (s : ℕ) (now : Tables) (total t : ℕ) : Type 0 where
-  pub turns : t ≤ n
-  pub columns : (spots : List Spot) (base : Tables) → Columns spots base before count → Columns (addAll spots v (strongBelow parents strongs s t)) base now total
+-- the children of v, which is on s, are there on the summary nodes before t
+pub record Visiting (S : Summary) (v count : ℕ) (before : Draft) (s : ℕ) (now : Draft) (total t : ℕ) : Type 0 where
+  pub positive : 0 < t
+  pub turns : t ≤ length S
+  pub drafted : (spots : List Spot) (base : Draft) → Drafted S spots base before count → Drafted S (addAll spots v (strongBelow S s t)) base now total
 
-pub visiting-start : (parents strongs : List ℕ) (n v count : ℕ) (before : Tables) (s : ℕ) → Visiting parents strongs n v count before s before count 0
-visiting-start parents strongs n v count before s = record { turns = omega arith; columns = λ spots base c. visit-start parents strongs s spots v 0 c }
-
-module _ {parents strongs : List ℕ} {n v count : ℕ} {before : Tables} {s : ℕ} {now : Tables} {total t : ℕ} (g : Visiting parents strongs n v count before s now total t) where
-  -- what is asked for next is asked of a table with room
-  pub visiting-missing : {spots : List Spot} {base : Tables} (x : ℕ) → s ≡ x → Missing spots base before (strongBelow parents strongs x n) v count → t < n
-      → Missing (addAll spots v (strongBelow parents strongs s t)) base now (keep (strongChild parents strongs s) (t ∷ [])) v total
-  visiting-missing {spots} {base} x e m h =
-      let d : Columns (addAll spots v (strongBelow parents strongs s t)) base now total = g .columns spots base (m .columns) in
-      let a : length spots ≤ length (addAll spots v (strongBelow parents strongs s t)) = add-grows spots v (strongBelow parents strongs s t) in
-      let i = m .inside in
-      let p = m .columns .counted in
-      let q = d .counted in
-      visit-missing parents strongs s spots v t d (omega arith) h (subst (λ (k : ℕ). length (addAll spots v (strongBelow parents strongs k n)) ≤ minTable) (sym e) (m .room))
-
-  pub visiting-next : {after : Tables} {m : ℕ} → t < n
-      → ((spots : List Spot) (base : Tables) → Columns spots base now total → Columns (addAll spots v (keep (strongChild parents strongs s) (t ∷ []))) base after m)
-      → Visiting parents strongs n v count before s after m (t + 1)
-  visiting-next h f =
+module _ {S : Summary} {v count : ℕ} {before : Draft} {s : ℕ} where
+  pub visiting-start : {t : ℕ} → IsTree (asDocument S) → s < length S → t ≡ s + 1 → Visiting S v count before s before count t
+  unfolding addAll
+  visiting-start {t} tree h e =
       record {
+        positive = omega arith;
         turns = omega arith;
-        columns = λ spots base c. visit-next parents strongs s spots v t (f (addAll spots v (strongBelow parents strongs s t)) base (g .columns spots base c));
+        drafted = λ spots base c. subst (λ (ts : List ℕ). Drafted S (addAll spots v ts) base before count) (sym (strong-none S s tree t (omega arith))) c;
       }
 
-  pub visiting-end : (x : ℕ) → s ≡ x → n ≤ t → (spots : List Spot) (base : Tables) → Columns spots base before count → Columns (addAll spots v (strongBelow parents strongs x n)) base now total
-  visiting-end x e h spots base c =
-      let l = g .turns in
-      let i : t ≡ n = omega arith in
-      subst₂ (λ (k j : ℕ). Columns (addAll spots v (strongBelow parents strongs k j)) base now total) e i (g .columns spots base c)
+  module _ {now : Draft} {total t : ℕ} (g : Visiting S v count before s now total t) where
+    -- what is asked for next is asked of a draft with room
+    pub visiting-missing : {spots : List Spot} {base : Draft} → Visitable S spots base before v count → s ≡ getD (before .on) v 0 → t < length S
+        → Missing S (addAll spots v (strongBelow S s t)) base now (keep (strongTest S s) (t ∷ [])) v total
+    unfolding fillNode
+    visiting-missing {spots} {base} m e h =
+        let d : Drafted S (addAll spots v (strongBelow S s t)) base now total = g .drafted spots base (m .drafted) in
+        let same : spotAt spots v ≡ s = sym (e ∙ drafted-on (m .drafted) v (m .inside)) in
+        let r : length (addAll spots v (strongBelow S s (length S))) ≤ maxCanonical =
+        subst (λ (ts : List ℕ). length (addAll spots v ts) ≤ maxCanonical) (ap (strongChildren S) same ∙ strong-all S s) (m .room) in
+        let a : length spots ≤ length (addAll spots v (strongBelow S s t)) = add-grows spots v (strongBelow S s t) in
+        let b : length (addAll spots v (strongBelow S s (t + 1))) ≤ length (addAll spots v (strongBelow S s (length S))) =
+        subst (λ (n : ℕ). length (addAll spots v (strongBelow S s (t + 1))) ≤ length (addAll spots v (strongBelow S s n)))
+        (let z : t + 1 + (length S - (t + 1)) ≡ length S = omega arith in z) (strong-grows S s spots v (t + 1) (length S - (t + 1))) in
+        let n : length (addAll spots v (strongBelow S s (t + 1))) ≡ length (addAll (addAll spots v (strongBelow S s t)) v (keep (strongTest S s) (t ∷ []))) =
+        ap (λ (x : List Spot). length x) (add-next S s spots v t) in
+        let i = m .inside in
+        let p = m .drafted .counted in
+        let q = d .counted in
+        record { drafted = d; inside = omega arith; room = omega arith }
+
+    pub visiting-next : {after : Draft} {m : ℕ} → t < length S
+        → ((spots : List Spot) (base : Draft) → Drafted S spots base now total → Drafted S (addAll spots v (keep (strongTest S s) (t ∷ []))) base after m)
+        → Visiting S v count before s after m (t + 1)
+    visiting-next {after} {m} h f =
+        record {
+          positive = omega arith;
+          turns = omega arith;
+          drafted = λ spots base c.
+              subst (λ (x : List Spot). Drafted S x base after m) (sym (add-next S s spots v t)) (f (addAll spots v (strongBelow S s t)) base (g .drafted spots base c));
+        }
+
+    pub visiting-end : s ≡ getD (before .on) v 0 → v < count → length S ≤ t → (spots : List Spot) (base : Draft) → Drafted S spots base before count
+        → Drafted S (fillNode S spots v) base now total
+    unfolding fillNode
+    visiting-end e inside h spots base c =
+        let l = g .turns in
+        let same : s ≡ spotAt spots v = e ∙ drafted-on c v inside in
+        subst (λ (ts : List ℕ). Drafted S (addAll spots v ts) base now total)
+        (ap (strongBelow S s) (let z : t ≡ length S = omega arith in z) ∙ sym (strong-all S s) ∙ ap (strongChildren S) same) (g .drafted spots base c)
 
 -- ---- all visits
 
 -- nodes below v are visited; the visits to come reach the end
-pub record Filling (S : Summary) (spots₀ : List Spot) (base now : Tables) (k v count : ℕ) : Type 0 where
+pub record Filling (S : Summary) (spots₀ : List Spot) (base now : Draft) (k v count : ℕ) : Type 0 where
   pub spots : List Spot
-  pub columns : Columns spots base now count
+  pub drafted : Drafted S spots base now count
   pub visited : v ≤ count
   pub rest : fillFrom (k - v) S spots v ≡ fillFrom k S spots₀ 0
 
-pub filling-start : (S : Summary) {spots : List Spot} {base now : Tables} {count : ℕ} (k : ℕ) → Columns spots base now count → Filling S spots base now k 0 count
+pub filling-start : (S : Summary) {spots : List Spot} {base now : Draft} {count : ℕ} (k : ℕ) → Drafted S spots base now count → Filling S spots base now k 0 count
 filling-start S {spots} k c =
-    record { spots = spots; columns = c; visited = omega arith; rest = ap (λ (j : ℕ). fillFrom j S spots 0) (let z : k - 0 ≡ k = omega arith in z) }
+    record { spots = spots; drafted = c; visited = omega arith; rest = ap (λ (j : ℕ). fillFrom j S spots 0) (let z : k - 0 ≡ k = omega arith in z) }
 
 fill-visit : (k : ℕ) (S : Summary) (spots : List Spot) (v : ℕ) → v < length spots → fillFrom (suc k) S spots v ≡ fillFrom k S (fillNode S spots v) (suc v)
 unfolding fillFrom
@@ -246,49 +272,41 @@ unfolding fillFrom
 fill-over zero S spots v h = refl
 fill-over (suc k) S spots v h = rw (le-ltb v (length spots) h, fillFrom)
 
-module _ {S : Summary} {spots₀ : List Spot} {base before now : Tables} {parents strongs : List ℕ} {n count₀ k v count : ℕ}
-    (given : Fillable S spots₀ base before parents strongs n count₀ k) (f : Filling S spots₀ base now k v count) where
-  pub filling-end : count ≤ v → Columns (fillFrom k S spots₀ 0) base now count
+module _ {S : Summary} {spots₀ : List Spot} {base before now : Draft} {count₀ k v count : ℕ}
+    (given : Fillable S spots₀ base before count₀ k) (f : Filling S spots₀ base now k v count) where
+  pub filling-end : count ≤ v → Drafted S (fillFrom k S spots₀ 0) base now count
   filling-end h =
-      subst (λ (x : List Spot). Columns x base now count) (sym (fill-over (k - v) S (f .spots) v (let q = f .columns .counted in omega arith)) ∙ f .rest) (f .columns)
+      subst (λ (x : List Spot). Drafted S x base now count) (sym (fill-over (k - v) S (f .spots) v (let q = f .drafted .counted in omega arith)) ∙ f .rest) (f .drafted)
 
   module _ (inside : v < count) where
-    abbrev asked : List ℕ
-    asked = strongBelow parents strongs (getD (now .at) v 0) n
-
-    node-same : fillNode S (f .spots) v ≡ addAll (f .spots) v asked
-    unfolding fillNode
-    node-same =
-        ap (addAll (f .spots) v) (given .strong .same (spotAt (f .spots) v) ∙ ap (λ (s : ℕ). strongBelow parents strongs s n) (sym (columns-at (f .columns) v inside)))
-
     not-last : v < k
     not-last =
         let a : length (f .spots) ≤ length (fillFrom (k - v) S (f .spots) v) = fill-grows (k - v) S (f .spots) v in
         let b : length (fillFrom (k - v) S (f .spots) v) ≡ length (fillFrom k S spots₀ 0) = ap (λ (x : List Spot). length x) (f .rest) in
         let c = given .ends in
-        let q = f .columns .counted in
+        let q = f .drafted .counted in
         omega arith
 
-    next-rest : fillFrom (k - (v + 1)) S (addAll (f .spots) v asked) (v + 1) ≡ fillFrom k S spots₀ 0
+    next-rest : fillFrom (k - (v + 1)) S (fillNode S (f .spots) v) (v + 1) ≡ fillFrom k S spots₀ 0
     next-rest =
         let h = not-last in
-        let q = f .columns .counted in
+        let q = f .drafted .counted in
         let one : suc (k - (v + 1)) ≡ k - v = omega arith in
-        ap₂ (λ (x : List Spot) (j : ℕ). fillFrom (k - (v + 1)) S x j) (sym node-same) (add-one v)
+        ap (λ (j : ℕ). fillFrom (k - (v + 1)) S (fillNode S (f .spots) v) j) (add-one v)
         ∙ sym (fill-visit (k - (v + 1)) S (f .spots) v (omega arith)) ∙ ap (λ (j : ℕ). fillFrom j S (f .spots) v) one ∙ f .rest
 
     -- the next visit
-    pub filling-missing : Missing (f .spots) base now asked v count
-    filling-missing =
-        let a : length (addAll (f .spots) v asked) ≤ length (fillFrom (k - (v + 1)) S (addAll (f .spots) v asked) (v + 1)) =
-        fill-grows (k - (v + 1)) S (addAll (f .spots) v asked) (v + 1) in
-        let b : length (fillFrom (k - (v + 1)) S (addAll (f .spots) v asked) (v + 1)) ≡ length (fillFrom k S spots₀ 0) = ap (λ (x : List Spot). length x) next-rest in
+    pub filling-visitable : Visitable S (f .spots) base now v count
+    filling-visitable =
+        let a : length (fillNode S (f .spots) v) ≤ length (fillFrom (k - (v + 1)) S (fillNode S (f .spots) v) (v + 1)) =
+        fill-grows (k - (v + 1)) S (fillNode S (f .spots) v) (v + 1) in
+        let b : length (fillFrom (k - (v + 1)) S (fillNode S (f .spots) v) (v + 1)) ≡ length (fillFrom k S spots₀ 0) = ap (λ (x : List Spot). length x) next-rest in
         let r = given .room in
-        record { columns = f .columns; inside = inside; room = omega arith }
+        record { drafted = f .drafted; inside = inside; room = omega arith }
 
-    pub filling-next : {after : Tables} {m : ℕ} → Columns (addAll (f .spots) v asked) base after m → Filling S spots₀ base after k (v + 1) m
+    pub filling-next : {after : Draft} {m : ℕ} → Drafted S (fillNode S (f .spots) v) base after m → Filling S spots₀ base after k (v + 1) m
     filling-next c =
-        let g : length (f .spots) ≤ length (addAll (f .spots) v asked) = add-grows (f .spots) v asked in
-        let p = f .columns .counted in
+        let g : length (f .spots) ≤ length (fillNode S (f .spots) v) = fill-node-grows S (f .spots) v in
+        let p = f .drafted .counted in
         let q = c .counted in
-        record { spots = addAll (f .spots) v asked; columns = c; visited = omega arith; rest = next-rest }
+        record { spots = fillNode S (f .spots) v; drafted = c; visited = omega arith; rest = next-rest }

@@ -1,5 +1,7 @@
-pub mod ColumnLaws
+pub mod DraftLaws
 pub mod ChainLaws
-pub mod LayingLaws
 pub mod FillLaws
 pub mod LayoutLaws
+pub mod ChainPhaseLaws
+pub mod ShownLaws
+pub mod ReadBackLaws

@@ -1,44 +1,48 @@
--- What each phase of the layout is given: which summary, pattern and embedding the lent columns are of, and that the result fits.
+-- What the layout and each of its phases are given, and what they leave.
 use Prim.Native.Nat.{ℕ, _+_, _-_, _≤_, _<_}
 use mathlib.Core.Path.{_≡_}
 use mathlib.Core.Bool.{Bool, _&&_}
-use mathlib.Core.List.{List}
-use lib.Dec.{eqb, ltb}
-use lib.ListN.{length, getD}
-use Rattle.model.specs.Limits.{minTable, maxSummary, maxPattern}
-use Rattle.model.specs.Lists.{upFrom, keep}
-use Rattle.model.specs.Tree.{IsTree}
-use Rattle.model.specs.Summary.{Summary, asDocument, summaryParent}
-use Rattle.model.specs.Pattern.{Pattern, IsPatternTree, patternParent, Placement}
-use Rattle.model.specs.Embeddings.{imageIn}
-use Rattle.model.specs.Fitting.{strongChildren}
-use Rattle.model.specs.Canonical.{Spot, chain, appendChain, chains, addAll, fillFrom}
+use mathlib.Core.List.{List, map}
+use lib.Dec.{eqb}
+use lib.ListN.{length, getD, take, replicate}
+use Rattle.model.specs.Limits.{maxCanonical}
+use Rattle.model.specs.Summary.{Summary, asDocument, noSummaryRecord}
+use Rattle.model.specs.Pattern.{Pattern, Placement}
+use Rattle.model.specs.Embeddings.{imageIn, childTest}
+use Rattle.model.specs.Bytes.{encodeDocument, writtenAtFront}
+use Rattle.model.specs.Canonical.{Spot, chain, appendChain, addAll, fillNode, fillFrom, canonicalSpots, canonical, ownNodes}
 use Rattle.model.proofs.Chains.{AtOrBelow}
-use Rattle.canonical.specs.Columns.{Tables, Columns}
+use Rattle.format.specs.Given.{summaryIn, patternAt, SummaryGiven, PatternGiven}
+use Rattle.canonical.specs.Draft.{Draft, Drafted}
+use Rattle.canonical.specs.declared.LaidOut.{LaidOut}
 
--- the first n numbers of xs are those of f
-pub record Column (n : ℕ) (f : ℕ → ℕ) (xs : List ℕ) : Type 0 where
-  pub within : n ≤ length xs
-  pub same : (i : ℕ) → i < n → f i ≡ getD xs i 0
+-- ---- the whole layout
 
--- a placement, in sizes that an accepted case has
-pub record Placed (S : Summary) (P : Pattern) (es : List ℕ) : Type 0 where
-  pub summary : IsTree (asDocument S)
-  pub pattern : IsPatternTree P
-  pub embedding : Placement S P (imageIn es)
-  pub summarySize : length S ≤ maxSummary
-  pub patternSize : length P ≤ maxPattern
+-- the images of the pattern's nodes, in a table that may be longer
+abbrev pub embeddingIn : List ℕ → ℕ → List ℕ → List ℕ
+embeddingIn case at images = take (length (patternAt case at)) images
+
+-- they are an embedding of the pattern into the summary (document 01: a placement)
+pub record Embedded (case : List ℕ) (at : ℕ) (images : List ℕ) : Type 0 where
+  pub summary : SummaryGiven case
+  pub pattern : PatternGiven case at
+  pub enough : length (patternAt case at) ≤ length images
+  pub embedding : Placement (summaryIn case) (patternAt case at) (imageIn (embeddingIn case at images))
+
+-- the canonical document's section at the front of a buffer, each node's summary node at that of a table, the rest of both untouched
+pub record WrittenOut (S : Summary) (P : Pattern) (es bytes₀ bytes on₀ on : List ℕ) (r : LaidOut) : Type 0 where
+  pub counted : r .count ≡ length (canonicalSpots S P es)
+  pub own : r .own ≡ writtenAtFront (ownNodes S P es) (replicate 16 0)
+  pub section : bytes ≡ writtenAtFront (encodeDocument (canonical S P es)) bytes₀
+  pub nodes : on ≡ writtenAtFront (map (λ s. s .at) (canonicalSpots S P es)) on₀
 
 -- ---- the chains
 
--- a chain from below a down to b, to be hung from document node v, in a table of count nodes
-pub record Hanging (S : Summary) (parents : List ℕ) (a b v count : ℕ) : Type 0 where
-  pub tree : IsTree (asDocument S)
-  pub small : length S ≤ maxSummary
-  pub column : Column (length S) (summaryParent S) parents
+-- a chain from below a down to b, to be hung from document node v, in a draft of count nodes
+pub record Hanging (S : Summary) (a b v count : ℕ) : Type 0 where
   pub reach : AtOrBelow (asDocument S) a b
   pub hangs : v < count
-  pub room : count + length (chain S a b) ≤ minTable
+  pub room : count + length (chain S a b) ≤ maxCanonical
 
 -- where n nodes are laid out and the chain began at number count, its next node hangs from h: from v, or from the last node
 pub record HangsFrom (v count n h : ℕ) : Type 0 where
@@ -46,45 +50,31 @@ pub record HangsFrom (v count n h : ℕ) : Type 0 where
   pub next : (n ≡ count → ⊥) → h ≡ n - 1
 
 -- what appending it leaves: n nodes, the chain's among them
-pub record Hung (S : Summary) (a b v count : ℕ) (before after : Tables) (n : ℕ) : Type 0 where
+pub record Hung (S : Summary) (a b v count : ℕ) (before after : Draft) (n : ℕ) : Type 0 where
   pub counted : n ≡ count + length (chain S a b)
-  pub columns : (q : ℕ) (spots : List Spot) (base : Tables) → Columns spots base before count → Columns (appendChain q spots v (chain S a b)) base after n
-
--- the chains of m pattern nodes
-pub record Chained (S : Summary) (P : Pattern) (es parents patternParents images : List ℕ) (m : ℕ) : Type 0 where
-  pub placed : Placed S P es
-  pub column : Column (length S) (summaryParent S) parents
-  pub size : length P ≡ m
-  pub patternColumn : Column m (patternParent P) patternParents
-  pub imageColumn : Column m (imageIn es) images
-  pub room : length (chains S P es .spots) ≤ minTable
+  pub grown : (q : ℕ) (spots : List Spot) (base : Draft) → Drafted S spots base before count
+      → Drafted S (appendChain q spots v (chain S a b)) base after n
 
 -- ---- filling up
 
--- t is a strong child of s, by the summary's columns
-unfoldable pub strongChild : List ℕ → List ℕ → ℕ → ℕ → Bool
-strongChild parents strongs s t = ltb 0 t && eqb (getD parents t 0) s && eqb (getD strongs t 0) 1
+-- t is a strong child of s
+unfoldable pub strongTest : Summary → ℕ → ℕ → Bool
+strongTest S s t = childTest (asDocument S) s t && eqb (getD S t noSummaryRecord .strong) 1
 
--- those below n, ascending
-unfoldable pub strongBelow : List ℕ → List ℕ → ℕ → ℕ → List ℕ
-strongBelow parents strongs s n = keep (strongChild parents strongs s) (upFrom 0 n)
-
--- node v gets its missing children on the paths of ts
-pub record Missing (spots : List Spot) (base now : Tables) (ts : List ℕ) (v count : ℕ) : Type 0 where
-  pub columns : Columns spots base now count
+-- node v gets its missing children on the summary nodes ts
+pub record Missing (S : Summary) (spots : List Spot) (base now : Draft) (ts : List ℕ) (v count : ℕ) : Type 0 where
+  pub drafted : Drafted S spots base now count
   pub inside : v < count
-  pub room : length (addAll spots v ts) ≤ minTable
+  pub room : length (addAll spots v ts) ≤ maxCanonical
 
--- the strong children of a summary of n nodes, by its columns
-pub record Strong (S : Summary) (parents strongs : List ℕ) (n : ℕ) : Type 0 where
-  pub small : n ≤ maxSummary
-  pub withinParents : n ≤ length parents
-  pub withinStrongs : n ≤ length strongs
-  pub same : (s : ℕ) → strongChildren S s ≡ strongBelow parents strongs s n
+-- node v is visited
+pub record Visitable (S : Summary) (spots : List Spot) (base now : Draft) (v count : ℕ) : Type 0 where
+  pub drafted : Drafted S spots base now count
+  pub inside : v < count
+  pub room : length (fillNode S spots v) ≤ maxCanonical
 
--- a table of count nodes is filled up; k visits are enough
-pub record Fillable (S : Summary) (spots : List Spot) (base now : Tables) (parents strongs : List ℕ) (n count k : ℕ) : Type 0 where
-  pub columns : Columns spots base now count
-  pub strong : Strong S parents strongs n
+-- a draft of count nodes is filled up; k visits are enough
+pub record Fillable (S : Summary) (spots : List Spot) (base now : Draft) (count k : ℕ) : Type 0 where
+  pub drafted : Drafted S spots base now count
   pub ends : length (fillFrom k S spots 0) ≤ k
-  pub room : length (fillFrom k S spots 0) ≤ minTable
+  pub room : length (fillFrom k S spots 0) ≤ maxCanonical

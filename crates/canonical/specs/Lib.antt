@@ -1,3 +1,3 @@
-pub mod Columns
+pub mod Draft
 pub mod Given
-pub mod LaidOut
+pub mod Shown

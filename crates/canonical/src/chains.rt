@@ -1,24 +1,25 @@
 // The chains: for each further pattern node in table order, new document nodes from its parent's own node down to its image.
 
-use crate::table::append;
-use crate::table::root;
+use crate::LaidOut;
+use crate::draft::Hook;
+use crate::draft::append;
+use crate::draft::root;
 use format::nodes::DocumentNode;
 use format::nodes::PatternNode;
 use format::nodes::SummaryNode;
 use format::nodes::image_of;
 use format::nodes::own_of;
-use format::nodes::pattern_parent;
-use format::nodes::summary_parent;
+use format::pattern::pattern_count;
+use format::pattern::pattern_parent;
+use format::summary::summary_parent;
 ghost use mathlib.Core.Path.{_≡_};
-ghost use mathlib.Core.List.{List};
-ghost use Prim.Native.Nat.{ℕ, _≤_};
-ghost use lib.ListN.{length};
-ghost use Rattle.model.specs.Summary.{Summary};
-ghost use Rattle.model.specs.Pattern.{Pattern};
+ghost use Prim.Native.Nat.{_≤_};
+ghost use lib.ListN.{replicate};
 ghost use Rattle.model.specs.Bytes.{writtenAtFront};
 ghost use Rattle.model.specs.Canonical.{chains as chainsOf};
-ghost use Rattle.canonical.specs.Columns.{tables, Roomy, Columns};
-ghost use Rattle.canonical.specs.Given.{Hanging, HangsFrom, Hung, Chained};
+ghost use Rattle.format.specs.Given.{summaryIn, patternAt, SummaryGiven};
+ghost use Rattle.canonical.specs.Draft.{draft, Roomy, Drafted};
+ghost use Rattle.canonical.specs.Given.{embeddingIn, Embedded, Hanging, HangsFrom, Hung};
 
 // Where n nodes are laid out, the node that a chain's next one hangs from: v where the chain is to begin at number count, else the
 // last node.
@@ -29,58 +30,69 @@ fn hangs_from(v: DocumentNode, count: usize, n: usize) -> DocumentNode
     if n == count { v } else { DocumentNode(n - 1) }
 }
 
-// The summary nodes from below a down to b, top first, each as a new node; the first hangs from v. The result is the new count.
+// The summary nodes from below the hook's down to b, top first, each as a new node; the first hangs from the hook's node. The result
+// is the new count.
 fn append_chain(
-    parents: &[u16],
-    a: SummaryNode,
+    case: &[u8],
+    from: Hook,
     b: SummaryNode,
-    v: DocumentNode,
     count: usize,
-    parent: &mut [u16],
-    at: &mut [u16],
+    answer: &mut [u8],
+    on: &mut [u16],
     kids: &mut [u64],
 ) -> usize
-    requires { ⌜ ((S : Summary) × Hanging S (now parents) (a .0) (b .0) (v .0) count) ⌝ }
-    requires { ⌜ Roomy (tables (now parent) (now at) (now kids)) ⌝ }
-    ensures { λ r. ⌜ ((S : Summary) → Hanging S (now (parents .entry)) (a .0) (b .0) (v .0) count
-        → Hung S (a .0) (b .0) (v .0) count (tables (now (parent .entry)) (now (at .entry)) (now (kids .entry))) (tables (now (parent .exit)) (now (at .exit)) (now (kids .exit))) r) ⌝ }
+    requires { ⌜ SummaryGiven (now case) × Roomy (draft (now answer) (now on) (now kids)) ⌝ }
+    requires { ⌜ Hanging (summaryIn (now case)) (from .on .0) (b .0) (from .node .0) count ⌝ }
+    ensures { λ r. ⌜ Hung (summaryIn (now (case .entry))) (from .on .0) (b .0) (from .node .0) count
+        (draft (now (answer .entry)) (now (on .entry)) (now (kids .entry))) (draft (now (answer .exit)) (now (on .exit)) (now (kids .exit))) r ⌝ }
 {
-    let top = a.0;
+    let top = from.on.0;
     let end = b.0;
     if top == end {
         return count;
     }
-    let above = summary_parent(parents, b);
-    let n = append_chain(parents, a, above, v, count, parent, at, kids);
-    append(hangs_from(v, count, n), b, n, parent, at, kids)
+    let above = summary_parent(case, b);
+    let n = append_chain(case, from, above, count, answer, on, kids);
+    append(
+        case,
+        hangs_from(from.node, count, n),
+        b,
+        n,
+        answer,
+        on,
+        kids,
+    )
 }
 
-// The root, then the chain of each further pattern node; own nodes by pattern node go to own. The result is the count.
+// The root, then the chain of each further pattern node: the count, and own nodes by pattern node.
 pub fn chains(
-    parents: &[u16],
-    pattern_parents: &[u16],
+    case: &[u8],
+    at: usize,
     images: &[u16],
-    m: usize,
-    parent: &mut [u16],
-    at: &mut [u16],
-    own: &mut [u16],
+    answer: &mut [u8],
+    on: &mut [u16],
     kids: &mut [u64],
-) -> usize
-    requires { ⌜ ((S : Summary) × (P : Pattern) × (es : List ℕ) × Chained S P es (now parents) (now «pattern_parents») (now images) m) ⌝ }
-    requires { ⌜ Roomy (tables (now parent) (now at) (now kids)) × (m ≤ length (now own)) ⌝ }
-    ensures { λ r. ⌜ ((S : Summary) (P : Pattern) (es : List ℕ) → Chained S P es (now (parents .entry)) (now («pattern_parents» .entry)) (now (images .entry)) m
-        → Columns (chainsOf S P es .spots) (tables (now (parent .entry)) (now (at .entry)) (now (kids .entry))) (tables (now (parent .exit)) (now (at .exit)) (now (kids .exit))) r
-        × (now (own .exit) ≡ writtenAtFront (chainsOf S P es .own) (now (own .entry)))) ⌝ }
+) -> LaidOut
+    requires { ⌜ Embedded (now case) at (now images) × Roomy (draft (now answer) (now on) (now kids)) ⌝ }
+    ensures nodes { λ r. ⌜ Drafted (summaryIn (now (case .entry)))
+        (chainsOf (summaryIn (now (case .entry))) (patternAt (now (case .entry)) at) (embeddingIn (now (case .entry)) at (now (images .entry))) .spots)
+        (draft (now (answer .entry)) (now (on .entry)) (now (kids .entry))) (draft (now (answer .exit)) (now (on .exit)) (now (kids .exit))) (r .count) ⌝ }
+    ensures own { λ r. ⌜ r .own ≡ writtenAtFront
+        (chainsOf (summaryIn (now (case .entry))) (patternAt (now (case .entry)) at) (embeddingIn (now (case .entry)) at (now (images .entry))) .own)
+        (replicate 16 0) ⌝ }
 {
-    let mut count = root(parent, at, kids);
-    own[0] = 0;
+    let mut own = [0u16; 16];
+    let mut count = root(case, answer, on, kids);
+    let m = pattern_count(case, at);
     for q in 1..m {
-        let p = pattern_parent(pattern_parents, PatternNode(q));
-        let a = image_of(images, p);
+        let p = pattern_parent(case, at, PatternNode(q));
+        let from = Hook {
+            node: own_of(&own, p),
+            on: image_of(images, p),
+        };
         let b = image_of(images, PatternNode(q));
-        let v = own_of(own, p);
-        count = append_chain(parents, a, b, v, count, parent, at, kids);
+        count = append_chain(case, from, b, count, answer, on, kids);
         own[q] = (count - 1) as u16;
     }
-    count
+    LaidOut { count, own }
 }

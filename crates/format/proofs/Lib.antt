@@ -1,10 +1,12 @@
 pub mod RangeLaws
 pub mod FrontLaws
+pub mod FrontLoops
 pub mod SectionLaws
 pub mod ListLaws
 pub mod GivenLaws
+pub mod PositionLaws
 pub mod TableLaws
 pub mod ColumnLaws
 pub mod WriteLaws
+pub mod WrittenLaws
 pub mod ReadLaws
-pub mod FirstLaws

@@ -2,19 +2,15 @@
 -- more field adds its two bytes; so the loops write what the encodings say. Assumes nothing.
 use Prim.Native.Nat.{ℕ, _+_, _*_, _≤_, _<_}
 use mathlib.Core.Path.{_≡_, refl, sym, ap, ap₂, _∙_, subst}
-use mathlib.Core.List.{List, [], _∷_, _++_, map, flatMap, append-assoc}
+use mathlib.Core.List.{List, [], _∷_, _++_, flatMap, append-assoc}
 use native.Mathlib.Omega.{arith}
 use native.Mathlib.Numerals.{add-one}
 use lib.ListN.{length, getD, take, length-append}
 use lib.Seq.{sets, length-sets, take-suc, length-take-le}
-use Rattle.model.specs.Lists.{upFrom}
 use Rattle.model.specs.Tree.{Document}
 use Rattle.model.specs.Bytes.{fieldBytes, bytesOf, documentFields, sectionFields, encodeDocument, encodeCounted, writtenAtFront}
 use Rattle.model.proofs.Bytes.{length-bytes, front-none}
-use Rattle.format.specs.Tables.{recordFrom, documentFrom}
-use Rattle.format.proofs.RangeLaws.{map-last}
 use Rattle.format.proofs.FrontLaws.{front-sets, front-over}
-use Rattle.format.proofs.TableLaws.{length-documentFrom}
 
 -- ---- lists
 
@@ -92,29 +88,7 @@ written-out {fs} {b₀} {b} {at} w v e =
 
 -- ---- a document
 
--- the fields after i records: the count, and those records
-abbrev pub documentSoFar : List ℕ → List ℕ → ℕ → ℕ → List ℕ
-documentSoFar parents labels n i = n ∷ flatMap documentFields (documentFrom parents labels i)
-
-module _ (parents labels : List ℕ) where
-  document-none : (n : ℕ) → n ∷ [] ≡ documentSoFar parents labels n 0
-  unfolding documentFrom upFrom flatMap
-  document-none n = refl
-
-  document-more : (n i : ℕ) → documentSoFar parents labels n i ++ (getD parents i 0 ∷ []) ++ (getD labels i 0 ∷ []) ≡ documentSoFar parents labels n (i + 1)
-  unfolding documentFrom flatMap
-  document-more n i =
-      let before : Document = map (recordFrom parents labels) (upFrom 0 i) in
-      ap (λ (l : List ℕ). n ∷ l)
-      (append-assoc (flatMap documentFields before) (getD parents i 0 ∷ []) (getD labels i 0 ∷ [])
-      ∙ sym (flatMap-append documentFields before (recordFrom parents labels i ∷ []))
-      ∙ ap (flatMap documentFields) (sym (map-last (recordFrom parents labels) i)))
-
-  document-all : (n : ℕ) → bytesOf (documentSoFar parents labels n n) ≡ encodeDocument (documentFrom parents labels n)
-  unfolding encodeDocument sectionFields
-  document-all n = ap (λ (k : ℕ). bytesOf (k ∷ flatMap documentFields (documentFrom parents labels n))) (sym (length-documentFrom parents labels n))
-
-document-fields : (W : Document) → length (flatMap documentFields W) ≡ 2 * length W
+pub document-fields : (W : Document) → length (flatMap documentFields W) ≡ 2 * length W
 unfolding flatMap
 document-fields [] = refl
 document-fields (r ∷ W) = let ih : length (flatMap documentFields W) ≡ 2 * length W = document-fields W in omega arith
@@ -125,44 +99,6 @@ unfolding encodeDocument sectionFields
 document-size W =
     let f : length (flatMap documentFields W) ≡ 2 * length W = document-fields W in
     length-bytes (length W ∷ flatMap documentFields W) ∙ omega arith
-
--- the loop that writes a document: i records are written after the count, and `at` is the number of the next field
-pub record WritingDocument (parents labels : List ℕ) (n : ℕ) (b₀ b : List ℕ) (at i : ℕ) : Type 0 where
-  pub turns : i ≤ n
-  pub place : at ≡ 1 + 2 * i
-  pub written : Written (documentSoFar parents labels n i) b₀ b at
-
-module _ {parents labels : List ℕ} {n : ℕ} where
-  pub document-start : {b₀ b : List ℕ} → Written (n ∷ []) b₀ b 1 → WritingDocument parents labels n b b 1 0
-  document-start {b₀} {b} w =
-      record {
-        turns = omega arith;
-        place = refl;
-        written = subst (λ (fs : List ℕ). Written fs b b 1) (document-none parents labels n) (written-again w);
-      }
-
-  pub document-step : {b₀ b b′ b″ : List ℕ} {at i : ℕ} → WritingDocument parents labels n b₀ b at i → i < n → 2 + 4 * n ≤ length b₀
-      → b′ ≡ sets b (2 * at) (fieldBytes (getD parents i 0)) → b″ ≡ sets b′ (2 * (at + 1)) (fieldBytes (getD labels i 0))
-      → WritingDocument parents labels n b₀ b″ (at + 2) (i + 1)
-  document-step {b₀} {b} {b′} {b″} {at} {i} w h room e e′ =
-      let p : 1 + 2 * i ≡ at = sym (w .place) in
-      let both : at + 1 + 1 ≡ at + 2 = omega arith in
-      record {
-        turns = omega arith;
-        place = omega arith;
-        written =
-            subst (λ (k : ℕ). Written (documentSoFar parents labels n (i + 1)) b₀ b″ k) both
-            (subst (λ (fs : List ℕ). Written fs b₀ b″ (at + 1 + 1)) (document-more parents labels n i)
-            (written-put (getD labels i 0) (written-put (getD parents i 0) (w .written) (omega arith) e) (omega arith) e′));
-      }
-
-  pub document-end : {b₀ b b′ : List ℕ} {at i : ℕ} → Written (n ∷ []) b₀ b 1 → WritingDocument parents labels n b b′ at i → n ≤ i
-      → Out (encodeDocument (documentFrom parents labels n)) b₀ b′ (2 * at)
-  document-end {b₀} {b} {b′} {at} {i} count w h =
-      let done : i ≡ n = omega arith in
-      let p : at ≡ 1 + 2 * i = w .place in
-      written-out (written-over count (w .written) (omega arith)) (encodeDocument (documentFrom parents labels n))
-      (ap (λ (k : ℕ). bytesOf (documentSoFar parents labels n k)) done ∙ document-all parents labels n)
 
 -- ---- a count and its numbers
 

@@ -1,4 +1,4 @@
-// Positions of a pattern.
+// Positions of a pattern: which node holds one.
 
 use crate::nodes::PatternNode;
 use crate::pattern::pattern_count;

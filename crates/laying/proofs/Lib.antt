@@ -1,4 +1,2 @@
-pub mod CallLaws
-pub mod LaidLaws
 pub mod RecordLaws
-pub mod TableLaws
+pub mod ListLaws

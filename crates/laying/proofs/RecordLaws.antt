@@ -1,71 +1,77 @@
--- The layout by value: the records that are gathered from the columns are the model's, a refusal lays out none, and what is laid out
--- for a table of 1,024 records is what is laid out for any larger one, since its size is asked only to be large enough.
--- Assumes nothing.
-use Prim.Native.Nat.{ℕ, min, _+_, _≤_, _<_}
-use mathlib.Core.Path.{_≡_, sym, ap, ap₂, _∙_, subst}
+-- The layout by value: the records that are read off a document are the model's, a refusal lays out none, and what is laid out for a
+-- table of 1,024 records is what is laid out for any larger one, since its size is asked only to be large enough. Assumes nothing.
+use Prim.Native.Nat.{ℕ, _+_, _≤_, _<_}
+use mathlib.Core.Path.{_≡_, sym, ap, _∙_, subst}
 use mathlib.Core.Bool.{Bool, true, false}
 use mathlib.Core.List.{List, [], _∷_, _++_, map, map-map}
 use native.Mathlib.Omega.{arith}
-use lib.ListN.{length, getD, set, length-map, length-replicate}
+use native.Mathlib.Nat.{zero-add}
+use lib.ListN.{length, getD, length-map, length-replicate}
 use borrow.Author.Tests.{eq-eqb, ne-eqb, le-leb}
 use Rattle.model.specs.Lists.{upFrom}
 use Rattle.model.specs.Limits.{minTable, maxCanonical}
-use Rattle.model.specs.Canonical.{canonical}
-use Rattle.model.specs.Bytes.{caseOf, listOf, writtenAtFront}
+use Rattle.model.specs.Tree.{Document, parentOf, labelOf}
+use Rattle.model.specs.Summary.{Summary}
+use Rattle.model.specs.Pattern.{Pattern}
+use Rattle.model.specs.Canonical.{Spot, rootSpot, spotAt, canonicalSpots, canonical}
+use Rattle.model.specs.Bytes.{caseOf, documentOf, listOf, writtenAtFront}
 use Rattle.model.specs.Questions.{selected, tableLargeEnough, patternGiven, isPlacement, ask, refusal, caseQuestions, layoutRefusal}
 use Rattle.model.specs.Calls.{LaidRecord, laidRecord}
-use Rattle.model.proofs.Bytes.{front-none}
+use Rattle.model.proofs.ListLaws.{getD-map}
+use Rattle.model.proofs.Bytes.{map-range, front-none}
 use Rattle.model.proofs.Calls.{by-number}
+use Rattle.model.proofs.SpotLaws.{spot-parent, spot-label}
 use Rattle.model.proofs.Canonical.{canonical-small}
-use Rattle.model.proofs.Questions.{accepted-layout}
-use Rattle.format.proofs.FrontLaws.{fill-none, fill-more}
+use Rattle.model.proofs.Questions.{accepted-layout, selected-facts}
+use Rattle.model.proofs.Embeddings.{embeddings-sound}
+use Rattle.format.proofs.FrontLaws.{front-getD}
+use Rattle.questions.proofs.AcceptedLaws.{selected-size}
+use Rattle.format.specs.declared.nodes.DocumentNode.{DocumentNode}
 use Rattle.format.specs.declared.nodes.SummaryNode.{SummaryNode}
 use Rattle.laying.specs.declared.laid.NodeRecord.{NodeRecord}
-use Rattle.laying.specs.declared.laid.LaidOut.{LaidOut}
-use Rattle.laying.specs.Table.{Columns, recordsOf, recordAt, laidFrom, laidNodes, laidColumns}
-use Rattle.laying.specs.Records.{nodeRecord, blankNodes, atFront, laidFor, LaidBy}
-use Rattle.laying.proofs.LaidLaws.{list-placed}
-use Rattle.laying.proofs.TableLaws.{noRecord, front-laid}
+use Rattle.laying.specs.declared.laid.Laid.{Laid}
+use Rattle.laying.specs.Records.{nodeRecord, laidAt, laidIn, blankNodes, atFront, laidNodes, laidFor, LaidBy}
 
--- ---- records gathered from the columns
+-- ---- records read off a document
 
-pub record-made : {p : ℕ} {a : SummaryNode} (t : Columns) (i : ℕ) → p ≡ getD (t .parent) i 0 → a .0 ≡ getD (t .at) i 0
-    → _≡_ {A = NodeRecord} (record { parent = record { 0 = p }; at = a; label = getD (t .label) i 0 }) (nodeRecord (recordAt t i))
-record-made t i p a = λ k. record { parent = record { 0 = p k }; at = record { 0 = a k }; label = getD (t .label) i 0 }
+-- what a number past the last record reads as
+abbrev noRecord : LaidRecord
+noRecord = record { parent = 0; summaryNode = 0; label = 0 }
+
+pub record-made : {p : DocumentNode} {a : SummaryNode} {l : ℕ} (w on : List ℕ) (i : ℕ) → p .0 ≡ parentOf (documentOf w) i → a .0 ≡ getD on i 0 → l ≡ labelOf (documentOf w) i
+    → _≡_ {A = NodeRecord} (record { parent = p; at = a; label = l }) (nodeRecord (laidAt w on i))
+record-made w on i p a l = λ k. record { parent = record { 0 = p k }; at = record { 0 = a k }; label = l k }
 
 pub length-blank : length blankNodes ≡ minTable
 unfolding blankNodes
 length-blank = length-replicate minTable (nodeRecord noRecord)
 
--- the first i records stand at the front
-pub record Gathering (t : Columns) (count : ℕ) (nodes : List NodeRecord) (i : ℕ) : Type 0 where
-  pub turns : i ≤ count
-  pub front : nodes ≡ writtenAtFront (map (λ k. nodeRecord (recordAt t k)) (upFrom 0 i)) blankNodes
+pub at-front : (w on : List ℕ) (n : ℕ) → writtenAtFront (map (λ i. nodeRecord (laidAt w on i)) (upFrom 0 n)) blankNodes ≡ atFront (laidIn w on n)
+unfolding atFront
+at-front w on n = ap (λ (rs : List NodeRecord). writtenAtFront rs blankNodes) (sym (map-map nodeRecord (laidAt w on) (upFrom 0 n)))
 
-module _ {t : Columns} {count : ℕ} {nodes : List NodeRecord} where
-  pub gather-start : nodes ≡ blankNodes → Gathering t count nodes 0
-  gather-start e = record { turns = omega arith; front = e ∙ sym (fill-none (λ k. nodeRecord (recordAt t k)) blankNodes) }
+-- of a canonical document and its nodes' summary nodes they are the model's
+pub records-laid : (S : Summary) (P : Pattern) (es w on on₀ : List ℕ) → documentOf w ≡ canonical S P es → on ≡ writtenAtFront (map (λ s. s .at) (canonicalSpots S P es)) on₀
+    → laidIn w on (length (canonicalSpots S P es)) ≡ map (laidRecord S) (canonicalSpots S P es)
+unfolding canonical
+records-laid S P es w on on₀ d o =
+    ap (λ (k : ℕ). laidIn w on k) (sym (length-map T (laidRecord S)))
+    ∙ map-range (laidAt w on) noRecord (map (laidRecord S) T) 0 (λ j k. each j (subst (λ (m : ℕ). j < m) (length-map T (laidRecord S)) k))
+  where
+    T : List Spot
+    T = canonicalSpots S P es
 
-  pub gather-step : {i : ℕ} {x : NodeRecord} → Gathering t count nodes i → count ≤ minTable → i < count → x ≡ nodeRecord (recordAt t i) → Gathering t count (set nodes i x) (i + 1)
-  gather-step {i} g room h e =
-      let n = length-blank in
-      record {
-        turns = omega arith;
-        front = ap₂ (λ (l : List NodeRecord) (y : NodeRecord). set l i y) (g .front) e ∙ fill-more (λ k. nodeRecord (recordAt t k)) blankNodes i (omega arith);
-      }
+    on-node : (j : ℕ) → j < length T → getD on j 0 ≡ spotAt T j
+    on-node j k =
+        let n : length (map (λ (s : Spot). s .at) T) ≡ length T = length-map T (λ s. s .at) in
+        ap (λ (x : List ℕ). getD x j 0) o ∙ front-getD (map (λ (s : Spot). s .at) T) on₀ j 0 (omega arith) ∙ getD-map (λ (s : Spot). s .at) T j rootSpot 0 k
 
-  pub gather-end : {i : ℕ} → Gathering t count nodes i → count ≤ i → nodes ≡ atFront (laidFrom t count)
-  unfolding atFront laidFrom
-  gather-end {i} g h =
-      let e : i ≡ count = omega (arith, g .turns) in
-      g .front ∙ ap (λ (n : ℕ). writtenAtFront (map (λ k. nodeRecord (recordAt t k)) (upFrom 0 n)) blankNodes) e
-      ∙ ap (λ (rs : List NodeRecord). writtenAtFront rs blankNodes) (sym (map-map nodeRecord (recordAt t) (upFrom 0 count)))
-
--- ---- the call's columns
-
-pub records-equal : (t : Columns) {n : ℕ} → length (t .parent) ≡ n → length (t .at) ≡ n → length (t .label) ≡ n → recordsOf t ≡ n
-unfolding recordsOf
-records-equal t p a l = (λ i. min (p i) (min (a i) (l i))) ∙ omega arith
+    each : (j : ℕ) → j < length T → laidAt w on (0 + j) ≡ getD (map (laidRecord S) T) j noRecord
+    each j k =
+        let p = ap (λ (W : Document). parentOf W j) d ∙ spot-parent S T j k in
+        let l = ap (λ (W : Document). labelOf W j) d ∙ spot-label S T j k in
+        let a = on-node j k in
+        ap (laidAt w on) (zero-add j) ∙ (λ i. record { parent = p i; summaryNode = a i; label = l i }) ∙ sym (getD-map (laidRecord S) T j rootSpot noRecord k)
 
 -- ---- the layout
 
@@ -100,9 +106,11 @@ module _ (b : List ℕ) (s : ℕ) (l : List ℕ) where
       pub nodes-few : length (laidNodes b s l) ≤ maxCanonical
       unfolding canonical
       nodes-few =
-          let h = list-placed (accepted-layout b s l n e) in
+          let f = accepted-layout b s l n e in
+          let p = selected-facts (caseOf b) s (f .case .facts) .tree in
           subst (λ (k : ℕ). k ≤ maxCanonical) (length-map (laidNodes b s l) _)
-          (canonical-small (caseOf b .summary) (selected (caseOf b) s) (listOf l) (h .summary) (h .pattern) (h .embedding) (h .summarySize) (h .patternSize))
+          (canonical-small (caseOf b .summary) (selected (caseOf b) s) (listOf l) (f .case .facts .summary .tree) p (embeddings-sound p (f .case .facts .summary .tree) (f .placement) .1)
+          (f .case .facts .summarySize) (selected-size (f .case) s))
 
   -- a refusal lays out none
   pub laid-refused : (n : ℕ) {refused : ℕ} {nodes : List NodeRecord} → refused ≡ layoutRefusal b s l n → (refused ≡ 0 → ⊥) → nodes ≡ blankNodes
@@ -116,19 +124,18 @@ module _ (b : List ℕ) (s : ℕ) (l : List ℕ) where
         nodes = e ∙ sym (ap (λ (rs : List LaidRecord). atFront rs) none ∙ front-none blankNodes);
       }
 
-  -- the records that stand in the columns are those laid out
-  pub laid-accepted : (t : Columns) {after : Columns} {count : ℕ} {nodes : List NodeRecord} → layoutRefusal b s l minTable ≡ 0 → count ≡ length (laidNodes b s l)
-      → after ≡ laidColumns (caseOf b .summary) (laidNodes b s l) t → nodes ≡ atFront (laidFrom after count)
-      → LaidBy b s l minTable (record { refused = 0; count = count; nodes = nodes })
-  laid-accepted t e n a f =
+  -- the records read off the document are those laid out
+  pub laid-accepted : {count : ℕ} {nodes : List NodeRecord} {rs : List LaidRecord} → layoutRefusal b s l minTable ≡ 0 → count ≡ length (laidNodes b s l)
+      → nodes ≡ atFront rs → rs ≡ map (laidRecord (caseOf b .summary)) (laidNodes b s l) → LaidBy b s l minTable (record { refused = 0; count = count; nodes = nodes })
+  laid-accepted e n f r =
       record {
         refusal = sym e;
         counted = n ∙ sym (laid-number minTable e);
-        nodes = f ∙ ap (λ (rs : List LaidRecord). atFront rs) (ap₂ laidFrom a n ∙ front-laid (caseOf b .summary) (laidNodes b s l) t ∙ sym (laid-records minTable e));
+        nodes = f ∙ ap (λ (rs : List LaidRecord). atFront rs) (r ∙ sym (laid-records minTable e));
       }
 
   -- and for a larger table
-  pub laid-larger : (n : ℕ) {r : LaidOut} → layoutRefusal b s l n ≡ 0 → LaidBy b s l minTable r → LaidBy b s l n r
+  pub laid-larger : (n : ℕ) {r : Laid} → layoutRefusal b s l n ≡ 0 → LaidBy b s l minTable r → LaidBy b s l n r
   laid-larger n e g =
       let same : laidFor b s l minTable ≡ laidFor b s l n = laid-records minTable (accepted-larger n e) ∙ sym (laid-records n e) in
       record {
@@ -138,7 +145,7 @@ module _ (b : List ℕ) (s : ℕ) (l : List ℕ) where
       }
 
   -- ---- what a caller has of it: the nodes fit the array and the table
-  pub laid-fits : (n : ℕ) {r : LaidOut} → LaidBy b s l n r → (r .count ≤ minTable) × (r .count ≤ n)
+  pub laid-fits : (n : ℕ) {r : Laid} → LaidBy b s l n r → (r .count ≤ minTable) × (r .count ≤ n)
   laid-fits n {r} g =
       subst (λ (k : ℕ). (k ≤ minTable) × (k ≤ n)) (sym (g .counted))
       (by-number (layoutRefusal b s l n)

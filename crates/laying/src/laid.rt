@@ -1,18 +1,21 @@
 // The layout of the call "lay out a trial" by value: the nodes' records in an array, for a table of records that a caller lends.
 
-use crate::lay_accepted;
+use canonical::lay_out;
+use format::column::read_list;
+use format::document::document_label;
+use format::document::document_parent;
 use format::nodes::DocumentNode;
 use format::nodes::SummaryNode;
-use format::nodes::number;
 use format::nodes::summary_of;
+use questions::pattern::selected_at;
 use questions::refusals::layout_refusal;
 ghost use mathlib.Core.Path.{_≡_};
 ghost use Prim.Native.Nat.{_<_, _≤_};
 ghost use lib.ListN.{length};
+ghost use Rattle.model.specs.Limits.{minTable, documentWidth};
+ghost use Rattle.model.specs.Bytes.{documentOf, WholeSection};
 ghost use Rattle.model.specs.Questions.{layoutRefusal};
-ghost use Rattle.model.specs.Limits.{minTable};
-ghost use Rattle.laying.specs.Table.{columns, recordAt, laidFrom};
-ghost use Rattle.laying.specs.Records.{nodeRecord, blankNodes, atFront, LaidBy};
+ghost use Rattle.laying.specs.Records.{nodeRecord, laidAt, laidIn, blankNodes, atFront, LaidBy};
 
 // A record of the lent table: its parent, its summary node (document 01: outline node) and its label.
 #[repr(C)]
@@ -23,22 +26,21 @@ pub struct NodeRecord {
 }
 
 // The refusal's number, or 0; how many nodes are laid out; and their records, at the front.
-pub struct LaidOut {
+pub struct Laid {
     pub refused: u64,
     pub count: usize,
     pub nodes: [NodeRecord; 1024],
 }
 
-// Record i of a table that stands in columns.
-fn record_at(parent: &[u16], at: &[u16], label: &[u16], i: usize) -> NodeRecord
-    requires { ⌜ (i < length (now parent)) × (i < length (now at)) × (i < length (now label)) ⌝ }
-    ensures { λ r. ⌜ r ≡ nodeRecord (recordAt (columns (now (parent .entry)) (now (at .entry)) (now (label .entry))) i) ⌝ }
+// The record of node i of a document, whose nodes' summary nodes are in on.
+fn record_at(w: &[u8], on: &[u16], i: usize) -> NodeRecord
+    requires { ⌜ WholeSection documentWidth (now w) 0 × (i < length (documentOf (now w))) × (i < length (now on)) ⌝ }
+    ensures { λ r. ⌜ r ≡ nodeRecord (laidAt (now (w .entry)) (now (on .entry)) i) ⌝ }
 {
-    NodeRecord {
-        parent: DocumentNode(number(parent, i)),
-        at: summary_of(at, DocumentNode(i)),
-        label: label[i],
-    }
+    let parent = document_parent(w, DocumentNode(i));
+    let at = summary_of(on, DocumentNode(i));
+    let label = document_label(w, DocumentNode(i));
+    NodeRecord { parent, at, label }
 }
 
 // Nothing laid out.
@@ -53,15 +55,15 @@ fn blank_nodes() -> [NodeRecord; 1024]
     [blank; 1024]
 }
 
-// The first records of a table that stands in columns, as many as count says.
-fn records_of(parent: &[u16], at: &[u16], label: &[u16], count: usize) -> [NodeRecord; 1024]
-    requires { ⌜ (count ≤ minTable) × (count ≤ length (now parent)) × (count ≤ length (now at)) × (count ≤ length (now label)) ⌝ }
-    ensures { λ r. ⌜ r ≡ atFront (laidFrom (columns (now (parent .entry)) (now (at .entry)) (now (label .entry))) count) ⌝ }
+// The records of the first nodes, as many as count says.
+fn records_of(w: &[u8], on: &[u16], count: usize) -> [NodeRecord; 1024]
+    requires { ⌜ WholeSection documentWidth (now w) 0 × (count ≤ length (documentOf (now w))) × (count ≤ length (now on)) × (count ≤ minTable) ⌝ }
+    ensures { λ r. ⌜ r ≡ atFront (laidIn (now (w .entry)) (now (on .entry)) count) ⌝ }
 {
     let mut nodes = blank_nodes();
     let mut i = 0;
     while i < count {
-        let node = record_at(parent, at, label, i);
+        let node = record_at(w, on, i);
         nodes[i] = node;
         i = i + 1;
     }
@@ -69,16 +71,18 @@ fn records_of(parent: &[u16], at: &[u16], label: &[u16], count: usize) -> [NodeR
 }
 
 // The layout of an accepted call.
-fn accepted_layout(case: &[u8], selection: u64, list: &[u8]) -> LaidOut
-    requires { ⌜ layoutRefusal (now case) selection (now list) minTable ≡ 0 ⌝ }
-    ensures { λ r. ⌜ LaidBy (now (case .entry)) selection (now (list .entry)) minTable r ⌝ }
+fn accepted_layout(case: &[u8], number: u64, list: &[u8]) -> Laid
+    requires { ⌜ layoutRefusal (now case) number (now list) minTable ≡ 0 ⌝ }
+    ensures { λ r. ⌜ LaidBy (now (case .entry)) number (now (list .entry)) minTable r ⌝ }
 {
-    let mut parent = [0u16; 1024];
-    let mut at = [0u16; 1024];
-    let mut label = [0u16; 1024];
-    let count = lay_accepted(case, selection, list, &mut parent, &mut at, &mut label);
-    let nodes = records_of(&parent, &at, &label, count);
-    LaidOut {
+    let at = selected_at(case, number);
+    let mut images = [0u16; 16];
+    read_list(list, &mut images);
+    let mut document = [0u8; 4096];
+    let mut on = [0u16; 1024];
+    let count = lay_out(case, at, &images, &mut document, &mut on).count;
+    let nodes = records_of(&document, &on, count);
+    Laid {
         refused: 0,
         count,
         nodes,
@@ -87,17 +91,17 @@ fn accepted_layout(case: &[u8], selection: u64, list: &[u8]) -> LaidOut
 
 // Lay out a canonical document for a lent table of that many records: any bytes and any numbers may be given. A refusal lays out
 // nothing.
-pub fn laid_out(case: &[u8], selection: u64, list: &[u8], records: usize) -> LaidOut
-    ensures { λ r. ⌜ LaidBy (now (case .entry)) selection (now (list .entry)) records r ⌝ }
+pub fn laid_out(case: &[u8], number: u64, list: &[u8], records: usize) -> Laid
+    ensures { λ r. ⌜ LaidBy (now (case .entry)) number (now (list .entry)) records r ⌝ }
 {
-    let refused = layout_refusal(case, selection, list, records);
+    let refused = layout_refusal(case, number, list, records);
     if refused != 0 {
         let nodes = blank_nodes();
-        return LaidOut {
+        return Laid {
             refused,
             count: 0,
             nodes,
         };
     }
-    accepted_layout(case, selection, list)
+    accepted_layout(case, number, list)
 }

@@ -4,8 +4,8 @@
 use calls::fits::fits_call;
 use calls::result::result_call;
 use format::field::field;
-use format::write::write_shown;
-use laying::CountAnswer;
+use format::write::put_field;
+use format::write::write_counted;
 ghost use Prim.Native.Nat.{_+_, _*_, _<_, _≤_};
 ghost use lib.ListN.{length};
 
@@ -20,11 +20,11 @@ fn field_of(b: &[u8], i: usize) -> usize
 }
 
 // The field that holds the count of the pattern that a number gives.
-fn pattern_at(case: &[u8], selection: u64) -> usize
+fn pattern_at(case: &[u8], number: u64) -> usize
     ensures { λ r. ⌜ r < 1000000 ⌝ }
 {
     let first = 1 + 3 * field_of(case, 0);
-    if selection == 1 {
+    if number == 1 {
         return first;
     }
     first + 1 + 4 * field_of(case, first)
@@ -74,8 +74,8 @@ fn larger(a: usize, b: usize) -> usize {
 }
 
 // The own nodes at positions 1 to k go to the front of own. The result is k.
-fn own_nodes(case: &[u8], selection: u64, list: &[u8], at: &[u16], own: &mut [u16]) -> usize {
-    let start = pattern_at(case, selection);
+fn own_nodes(case: &[u8], number: u64, list: &[u8], at: &[u16], own: &mut [u16]) -> usize {
+    let start = pattern_at(case, number);
     let m = field_of(case, start);
     let mut v = 0;
     let mut k = 0;
@@ -89,29 +89,39 @@ fn own_nodes(case: &[u8], selection: u64, list: &[u8], at: &[u16], own: &mut [u1
 }
 
 // Both calls hold of a document and a list.
-fn both_hold(case: &[u8], selection: u64, document: &[u8], list: &[u8]) -> bool {
+fn both_hold(case: &[u8], number: u64, document: &[u8], list: &[u8]) -> bool {
     let fits = fits_call(case, document);
-    let result = result_call(case, selection, document, list);
+    let result = result_call(case, number, document, list);
     if fits.holds != 1 {
         return false;
     }
     result.holds == 1
 }
 
-// The same of a document of n nodes and a list of k, which are shown as "not included" shows them.
-fn shown_holds(case: &[u8], selection: u64, shown: &[u8], n: usize, k: usize) -> bool
-    requires { ⌜ 4 + 4 * n + 2 * k ≤ length (now shown) ⌝ }
+// The section of n nodes goes to the front of document.
+fn write_nodes(parent: &[u16], label: &[u16], n: usize, document: &mut [u8])
+    requires { ⌜ (n ≤ length (now parent)) × (n ≤ length (now label)) × (n ≤ 1024) × (2 + 4 * n ≤ length (now document)) ⌝ }
+{
+    put_field(document, 0, n as u16);
+    for i in 0..n {
+        put_field(document, 1 + 2 * i, parent[i]);
+        put_field(document, 2 + 2 * i, label[i]);
+    }
+}
+
+// The same of the section of n nodes at the front of document, and the list of k after the count of result.
+fn parts_hold(case: &[u8], number: u64, document: &[u8], n: usize, result: &[u8], k: usize) -> bool
+    requires { ⌜ (2 + 4 * n ≤ length (now document)) × (2 + 2 * k ≤ length (now result)) ⌝ }
 {
     let end = 2 + 4 * n;
-    let from = end + 2;
-    let to = from + 2 * k;
-    both_hold(case, selection, &shown[..end], &shown[from..to])
+    let to = 2 + 2 * k;
+    both_hold(case, number, &document[..end], &result[2..to])
 }
 
 // The same of the document in the first n records of a table, and its own nodes.
 fn laid_holds(
     case: &[u8],
-    selection: u64,
+    number: u64,
     list: &[u8],
     parent: &[u16],
     at: &[u16],
@@ -128,27 +138,29 @@ fn laid_holds(
         return false;
     }
     let mut own = [0u16; 8];
-    let k = own_nodes(case, selection, list, at, &mut own);
+    let k = own_nodes(case, number, list, at, &mut own);
     if 8 < k {
         return false;
     }
-    let mut shown = [0u8; 4116];
-    write_shown(parent, label, n, &own, k, &mut shown);
-    shown_holds(case, selection, &shown, n, k)
+    let mut document = [0u8; 4098];
+    write_nodes(parent, label, n, &mut document);
+    let mut result = [0u8; 18];
+    write_counted(&own, k, &mut result);
+    parts_hold(case, number, &document, n, &result, k)
 }
 
-// A layout call kept what it says: where it is accepted, both calls hold of what it laid out.
+// A layout call kept what it says: where it is accepted, and so some nodes are laid out, both calls hold of them.
 pub fn layout_kept(
-    r: CountAnswer,
     case: &[u8],
-    selection: u64,
+    number: u64,
     list: &[u8],
     parent: &[u16],
     at: &[u16],
     label: &[u16],
+    n: usize,
 ) -> bool {
-    if r.refused != 0 {
+    if n == 0 {
         return true;
     }
-    laid_holds(case, selection, list, parent, at, label, r.count as usize)
+    laid_holds(case, number, list, parent, at, label, n)
 }

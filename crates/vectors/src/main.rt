@@ -11,7 +11,8 @@ use calls::paths::paths_call;
 use calls::result::result_call;
 use deciding::Answer;
 use deciding::verdict_call;
-use laying::layout_call;
+use laying::laid::NodeRecord;
+use laying::laid::laid_out;
 use read::Head;
 
 // A number of the vector as a length.
@@ -62,7 +63,7 @@ fn run_fits(case: &[u8], document: &[u8]) {
 }
 
 fn run_result(h: Head, case: &[u8], document: &[u8], list: &[u8]) {
-    let r = result_call(case, h.selection, document, list);
+    let r = result_call(case, h.number, document, list);
     print::word(b"result refused");
     print::number(r.refused);
     print::word(b" holds");
@@ -71,7 +72,7 @@ fn run_result(h: Head, case: &[u8], document: &[u8], list: &[u8]) {
 }
 
 fn run_nodes(h: Head, case: &[u8], document: &[u8], answer: &mut [u8]) {
-    let r = nodes_call(case, h.selection, document, h.position, answer);
+    let r = nodes_call(case, h.number, document, h.position, answer);
     print::word(b"nodes refused");
     print::number(r.refused);
     print::word(b" count");
@@ -86,7 +87,7 @@ fn print_all(numbers: &[u64]) {
 }
 
 fn run_paths(h: Head, case: &[u8]) {
-    let r = paths_call(case, h.selection);
+    let r = paths_call(case, h.number);
     let masks = r.masks;
     let counts = r.counts;
     print::word(b"paths refused");
@@ -96,6 +97,37 @@ fn run_paths(h: Head, case: &[u8]) {
     print::word(b" counts");
     print_all(&counts);
     print::word(b"\n");
+}
+
+// Number i of a column becomes x, where there is one.
+fn put(column: &mut [u16], i: usize, x: usize) {
+    if column.len() <= i {
+        return;
+    }
+    column[i] = (x % 65536) as u16;
+}
+
+fn wide16(x: u16) -> usize {
+    x as usize
+}
+
+// The records of the nodes that are laid out go to the table's front.
+fn fill_table(
+    nodes: [NodeRecord; 1024],
+    count: usize,
+    parent: &mut [u16],
+    at: &mut [u16],
+    label: &mut [u16],
+) {
+    if 1024 < count {
+        return;
+    }
+    for i in 0..count {
+        let node = nodes[i];
+        put(parent, i, node.parent.0);
+        put(at, i, node.at.0);
+        put(label, i, wide16(node.label));
+    }
 }
 
 // The word "unchecked" makes the line another than the reference's: what was laid out does not fit, or the pattern's own nodes are
@@ -108,14 +140,16 @@ fn run_layout(
     at: &mut [u16],
     label: &mut [u16],
 ) {
-    let r = layout_call(case, h.selection, list, parent, at, label);
+    let r = laid_out(case, h.number, list, parent.len());
+    let nodes = r.nodes;
+    fill_table(nodes, r.count, parent, at, label);
     print::word(b"layout");
-    let kept = check::layout_kept(r, case, h.selection, list, parent, at, label);
+    let kept = check::layout_kept(case, h.number, list, parent, at, label, r.count);
     print::word_unless(kept, b" unchecked");
     print::word(b" refused");
     print::number(r.refused);
     print::word(b" count");
-    print::number(r.count);
+    print::number(wide(r.count));
     print::lent(wide(parent.len()), print::hash_table(parent, at, label));
 }
 

@@ -10,7 +10,7 @@ pub struct Head {
     pub call: u64,
     pub limit: u64,
     pub tally: u64,
-    pub selection: u64,
+    pub number: u64,
     pub position: u64,
     pub length: u64,
 }
@@ -37,7 +37,7 @@ fn head_of(bytes: &[u8; 44]) -> Head {
         call: wide(field(bytes, 0)),
         limit: number(bytes, 2),
         tally: number(bytes, 6),
-        selection: number(bytes, 10),
+        number: number(bytes, 10),
         position: number(bytes, 14),
         length: number(bytes, 18),
     }
@@ -52,7 +52,7 @@ pub fn read_head() -> Head {
             call: 0,
             limit: 0,
             tally: 0,
-            selection: 0,
+            number: 0,
             position: 0,
             length: 0,
         };

@@ -51,12 +51,12 @@ use denote.Triple.Walked.{says, Stays, stay-slice, stay-none, stay-none-slice, w
 use denote.Exit.{yes}
 use Rattle.laying.specs.Records.{LaidBy}
 use Rattle.laying.specs.declared.laid.NodeRecord.{NodeRecord}
-use Rattle.laying.specs.declared.laid.LaidOut.{LaidOut}
+use Rattle.laying.specs.declared.laid.Laid.{Laid}
 use Rattle.calls.specs.declared.answers.CountAnswer.{CountAnswer}
 use Rattle.laying.proofs.laid.NodeRecord as N
 use Rattle.laying.proofs.laid.NodeRecord.Laws as N′
-use Rattle.laying.proofs.laid.LaidOut as L
-use Rattle.laying.proofs.laid.LaidOut.Laws as L′
+use Rattle.laying.proofs.laid.Laid as L
+use Rattle.laying.proofs.laid.Laid.Laws as L′
 use Rattle.calls.proofs.answers.CountAnswer as A°
 use Rattle.calls.proofs.answers.CountAnswer.Laws as A′
 use Rattle.laying.proofs.laid.laid_out as called
@@ -133,23 +133,23 @@ module _ {M : Type 1} (𝓤 : URA M) (H : Heap 𝓤) (A : Atoms 𝓤) (W : Given
       nothing ! $ move ! (5 ∷ 0 ∷ []) $ join ! $ move ! (4 ∷ 0 ∷ []) $ join ! $ join ! $ use1 W (raw (Call 𝓤 H A at-mem run .pre to)) (qed W ((tokens ⊛ ‵ (owns (ShrSlice (named 0) κ₀ u8 ∷ u64 ∷ ShrSlice (named 1) κ₁ u8 ∷ usize ∷ []) (x, (s, (y, (length ys, tt)))) (case ∷ [], (vint w64 s ∷ [], (list ∷ [], (vint w64 (length ys) ∷ [], tt)))))) ∷ []) ∵ frame ! $ done !) $ frame ! $ done !
 
   -- of the callee's `ensured`, the clause alone: it has no `&mut`
-  said : (r : LaidOut) → ent 𝓤 (ensured 𝓤 H A called.ended (called.clauses 𝓤 H A at-mem run) (κ₀, (κ₁, tt)) (x, (s, (y, (length ys, tt)))) tt r) (fact 𝓤 (LaidBy (x .now) s (y .now) (length ys) r))
+  said : (r : Laid) → ent 𝓤 (ensured 𝓤 H A called.ended (called.clauses 𝓤 H A at-mem run) (κ₀, (κ₁, tt)) (x, (s, (y, (length ys, tt)))) tt r) (fact 𝓤 (LaidBy (x .now) s (y .now) (length ys) r))
   said r = exE 𝓤 _ (λ ws. snd∗ 𝓤 (sem 𝓤 H A (lasts called.ended (κ₀, (κ₁, tt)) (x, (s, (y, (length ys, tt)))) ws)) (fact 𝓤 (LaidBy (x .now) s (y .now) (length ys) r)))
 
-  abbrev answer : LaidOut → CountAnswer
+  abbrev answer : Laid → CountAnswer
   answer r = record { refused = r .refused; count = r .count }
 
   -- the machine value of the nodes
-  abbrev array : LaidOut → Val
+  abbrev array : Laid → Val
   array r = L′.the-laws .1 .1 .0 .val (map (N.the-type .to) (r .nodes))
 
-  abbrev OwnN : LaidOut → Fml
+  abbrev OwnN : Laid → Fml
   OwnN r = Array (Struct (D.shape N.the-type)) 1024 .own (map (N.the-type .to) (r .nodes)) (array r ∷ [])
 
-  abbrev mach : LaidOut → Val
+  abbrev mach : Laid → Val
   mach r = vstruct (vcons (vint w64 (r .refused)) (vcons (vint w64 (r .count)) vnil))
 
-  exits-at : (r : LaidOut) (zs : List NodeRecord) → r .refused < 2 ^ 64 → r .count < 2 ^ 64 → LayoutAnswered (x .now) s (y .now) ys zs (r .refused) (r .count) → length zs ≡ length ys
+  exits-at : (r : Laid) (zs : List NodeRecord) → r .refused < 2 ^ 64 → r .count < 2 ^ 64 → LayoutAnswered (x .now) s (y .now) ys zs (r .refused) (r .count) → length zs ≡ length ys
       → ent 𝓤 (⋆ 𝓤 H A (‵ (fobs γ (codedHoleys R .code (heres R zs))) ∷ ‵ (fbor κ₂ (Held R (length zs) b o γ)) ∷ ‵ (flft κ₂ q₂) ∷ tokens ∷ (‵ OwnC ⊛ ‵ OwnL) ∷ [])) (Post (mach r))
   exits-at r zs refused-fits count-fits e l =
       qed W (‵ (fobs γ (codedHoleys R .code (heres R zs))) ∷ ‵ (fbor κ₂ (Held R (length zs) b o γ)) ∷ ‵ (flft κ₂ q₂) ∷ tokens ∷ (‵ OwnC ⊛ ‵ OwnL) ∷ []) ∵
@@ -161,7 +161,7 @@ module _ {M : Type 1} (𝓤 : URA M) (H : Heap 𝓤) (A : Atoms 𝓤) (W : Given
       nothing ! $ move ! (1 ∷ 0 ∷ []) $ fjoin ! $ move ! (1 ∷ []) $ split ! $ move ! (1 ∷ 2 ∷ []) $ fjoin ! $ owned ! u64 (Is u64) (uint-makes 𝓤 H A W w64) s _ (refl, s-fits) $ fjoin ! $ move ! (1 ∷ 0 ∷ []) $ fjoin ! $ frame ! $
       owned ! A°.the-row (Is A°.the-row) (LL.makes A°.the-type A′.the-plain 𝓤 H A) (answer r) _ (LL.owes A°.the-type A′.the-laws (answer r) ((refl, refused-fits), ((refl, count-fits), tt))) $ done !
 
-  module _ (𝓣 : Tables 𝓤 H) (l₀ l₁ l₂ l₃ l₄ l₅ l₆ l₇ l₈ l₉ l₁₀ l₁₁ l₁₂ l₁₃ l₁₄ l₁₅ l₁₆ l₁₇ : ℕ) (r : LaidOut) where
+  module _ (𝓣 : Tables 𝓤 H) (l₀ l₁ l₂ l₃ l₄ l₅ l₆ l₇ l₈ l₉ l₁₀ l₁₁ l₁₂ l₁₃ l₁₄ l₁₅ l₁₆ l₁₇ : ℕ) (r : Laid) where
     -- what no turn touches: the open borrow, the tokens, what the case and the list own, the other locals
     abbrev Φ : List (Item 𝓤)
     Φ = ‵ (fobor κ₂ q₂ (Held R (length ys) b o γ)) ∷ ‵ (fobs γ (codedHoleys R .code (heres R ys))) ∷ ‵ (fauth γ (codedHoleys R .code (heres R ys))) ∷ tokens ∷ (‵ OwnC ⊛ ‵ OwnL)
@@ -226,7 +226,7 @@ module _ {M : Type 1} (𝓤 : URA M) (H : Heap 𝓤) (A : Atoms 𝓤) (W : Given
         -- the covered layout is called
         move ! (36 ∷ 37 ∷ 39 ∷ 40 ∷ []) $ group ! 4 $ use1 W (raw (Call 𝓤 H A at-mem run .pre to) ⊛ ‵ OwnC ⊛ ‵ OwnL) asked $ split ! $
         calls-at ! fm (Call 𝓤 H A at-mem run) known to (and-then ! (load ! (from ! (stop !)) (look ! 34 refl)) (and-then ! (load ! (from ! (stop !)) (look ! 32 refl)) (and-then ! (load ! (from ! (stop !)) (look ! 30 refl)) (and-then ! (load ! (from ! (stop !)) (look ! 18 refl)) (no-more !))))) (λ w.
-        use1 W (later (some (λ (r : LaidOut). (tokens ⊛ ‵ (L.the-row .own r (w ∷ []))) ⊛ raw (ensured 𝓤 H A called.ended (called.clauses 𝓤 H A at-mem run) (κ₀, (κ₁, tt)) (x, (s, (y, (length ys, tt)))) tt r)))) (id⊢ 𝓤 _) $ await ! tt $ pick ! (λ r.
+        use1 W (later (some (λ (r : Laid). (tokens ⊛ ‵ (L.the-row .own r (w ∷ []))) ⊛ raw (ensured 𝓤 H A called.ended (called.clauses 𝓤 H A at-mem run) (κ₀, (κ₁, tt)) (x, (s, (y, (length ys, tt)))) tt r)))) (id⊢ 𝓤 _) $ await ! tt $ pick ! (λ r.
         split ! $ move ! (1 ∷ []) $ use1 W (raw (fact 𝓤 (LaidBy (x .now) s (y .now) (length ys) r))) (said r) $ heard ! (LaidBy (x .now) s (y .now) (length ys) r) (λ e. split ! $ move ! (1 ∷ []) $
         peeks ! L.the-row (Is L.the-row) (shows 𝓤 H A L.the-row) r (w ∷ []) (λ is.
         land ! (from ! (stop !)) (init ! 27 refl (LL.lawful L.the-type L′.the-laws 𝓤 H A W .typed r _ is .0)) $ rewrite ! 27 (λ (u : Val). ‵ (fat fullShare L′.mir l₅ 0 u)) (ap only (LL.tells L.the-type L′.the-laws r _ is)) refl $

@@ -30,7 +30,7 @@ use denote.Struct.Laws as LL
 use Rattle.laying.specs.declared.laid.NodeRecord.{NodeRecord}
 use Rattle.laying.proofs.laid.NodeRecord as N
 use Rattle.laying.proofs.laid.NodeRecord.Laws as N′
-use Rattle.laying.proofs.laid.LaidOut.Laws as L′
+use Rattle.laying.proofs.laid.Laid.Laws as L′
 use Rattle.calls.proofs.answers.CountAnswer.Laws as A′
 use Rattle.cadwezin.proofs.TableLaws.{blank, filled, Filling, filled-length, filled-next}
 use Rattle.cadwezin.proofs.While.{whiles}

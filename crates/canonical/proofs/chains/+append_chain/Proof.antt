@@ -5,14 +5,14 @@ use borrow.Author.Needs.{needs}
 use native.Mathlib.Omega.{arith}
 use borrow.Fn.Kinds.{In}
 use borrow.Fn.PlainCycle.{Measures, is, falls, and}
-use Rattle.format.proofs.nodes.summary_parent.Reads as summary-parent-reads
-use Rattle.canonical.proofs.ColumnLaws.{roomy-same}
-use Rattle.canonical.proofs.ChainLaws.{hung-none, parent-within, parent-less, hanging-up, node-small, hung-longer, hung-room, hung-inside, hung-next}
+use Rattle.format.proofs.summary.summary_parent.Reads as summary-parent-reads
+use Rattle.canonical.proofs.DraftLaws.{roomy-same}
+use Rattle.canonical.proofs.ChainLaws.{hung-none, node-inside, parent-less, hanging-up, hung-longer, hung-room, hung-inside, hung-next}
 use Rattle.canonical.proofs.chains.append_chain.Reads as append-chain
 use Rattle.canonical.proofs.chains.append_chain.Kinds as append-chain-kinds
 use Rattle.canonical.proofs.chains.+append_chain.Lts-append_chain as lts
 use Rattle.canonical.proofs.chains.hangs_from.Reads as hangs-from-reads
-use Rattle.canonical.proofs.table.append.Reads as append-reads
+use Rattle.canonical.proofs.draft.append.Reads as append-reads
 use Rattle.canonical.proofs.chains.+append_chain.{statement}
 use Rattle.canonical.proofs.chains.+append_chain.Tie.{close}
 
@@ -36,18 +36,19 @@ module _ (t : ℕ) where
   start c = c .before .before .before .before .before
 
   returns : lts.Need-returns (claims t) (given t) append-chain.Post
-  returns c = λ S h. hung-none h (c .if1 .taken) _
+  returns c = hung-none (c .before .before .before .before .before .pre .1 .0 .0 .tree) (c .before .before .before .before .before .pre .1 .1) (c .if1 .taken) _
 
   summary-parent-requires : lts.Need-summary-parent-requires (claims t) (given t) append-chain.Post
-  summary-parent-requires c κs = parent-within (start c .pre .1 .0 .1) (c .if1 .left)
+  summary-parent-requires c κs = let s = start c in (s .pre .1 .0 .0 .whole, node-inside (s .pre .1 .0 .0 .tree) (s .pre .1 .1) (c .if1 .left))
 
   append-chain-requires : lts.Need-append-chain-requires (claims t) (given t) append-chain.Post
   append-chain-requires c κs =
       let p = c .before .before .before in
       let e = p .before in
-      let h = start e .pre .1 .0 .1 in (
-        omega (arith, p .summary-parent .ensures, parent-less h (e .if1 .left), start e .pre .0),
-        ((start e .pre .1 .0 .0, hanging-up h (e .if1 .left) (p .summary-parent .ensures)), start e .pre .1 .1),
+      let s = start e in
+      let tree = s .pre .1 .0 .0 .tree in (
+        omega (arith, parent-less tree (s .pre .1 .1) (e .if1 .left) (p .summary-parent .ensures), s .pre .0),
+        (s .pre .1 .0, hanging-up tree (s .pre .1 .1) (e .if1 .left) (p .summary-parent .ensures)),
       )
 
   -- what the call of itself leaves
@@ -58,21 +59,23 @@ module _ (t : ℕ) where
   hangs-from-requires c κs =
       let a = c .before .before .before .before .before .before in
       let p = at-parent a in
-      let e = p .before in
-      let h = start e .pre .1 .0 .1 in
-      hung-longer h (e .if1 .left) (p .summary-parent .ensures) (a .append-chain .ensures _ (hanging-up h (e .if1 .left) (p .summary-parent .ensures)))
+      let s = start (p .before) in
+      hung-longer (s .pre .1 .0 .0 .tree) (s .pre .1 .1) (p .before .if1 .left) (p .summary-parent .ensures) (a .append-chain .ensures)
 
   append-requires : lts.Need-append-requires (claims t) (given t) append-chain.Post
   append-requires c κs =
       let a = c .before .before .before .before .before .before .before .before .before .before in
       let p = at-parent a in
-      let e = p .before in
-      let ne = e .if1 .left in
-      let h = start e .pre .1 .0 .1 in
-      let u = a .append-chain .ensures _ (hanging-up h ne (p .summary-parent .ensures)) in
-      let k = a .append-chain .kept .1 .1 .1 .1 .1 in (
-        roomy-same (record { parent = k .0; at = k .1 .0; kids = k .1 .1 .0 }) (start e .pre .1 .1),
-        (hung-inside h ne (p .summary-parent .ensures) u (c .before .before .before .hangs-from .ensures), node-small h ne, hung-room h ne (p .summary-parent .ensures) u),
+      let ne = p .before .if1 .left in
+      let s = start (p .before) in
+      let tree = s .pre .1 .0 .0 .tree in
+      let k = a .append-chain .kept .1 .1 .1 .1 in (
+        (s .pre .1 .0 .0, roomy-same (record { bytes = k .0; on = k .1 .0; kids = k .1 .1 .0 }) (s .pre .1 .0 .1)),
+        (
+          hung-inside tree (s .pre .1 .1) ne (p .summary-parent .ensures) (a .append-chain .ensures) (c .before .before .before .hangs-from .ensures),
+          node-inside tree (s .pre .1 .1) ne,
+          hung-room tree (s .pre .1 .1) ne (p .summary-parent .ensures) (a .append-chain .ensures),
+        ),
       )
 
   same-length : lts.Need-same-length (claims t) (given t) append-chain.Post
@@ -85,14 +88,14 @@ module _ (t : ℕ) where
   same-length-3 c = search needs
 
   returns-2 : lts.Need-returns-2 (claims t) (given t) append-chain.Post
-  returns-2 c = λ S h.
+  returns-2 c =
       let b = c .before .before .before .before .before .before in
       let f = b .before .before .before .before in
       let a = f .before .before .before .before .before .before .before in
       let p = at-parent a in
-      let ne = p .before .if1 .left in
-      hung-next h ne (p .summary-parent .ensures) (a .append-chain .ensures S (hanging-up h ne (p .summary-parent .ensures))) (f .hangs-from .ensures)
-      (b .append .ensures .0) (b .append .ensures .1)
+      let s = start (p .before) in
+      hung-next (s .pre .1 .0 .0 .tree) (s .pre .1 .1) (p .before .if1 .left) (p .summary-parent .ensures) (a .append-chain .ensures) (f .hangs-from .ensures)
+      (s .pre .1 .0 .0 .few) (b .append .ensures .0) (b .append .ensures .1)
 
 pub +append-chain-spec : {M : Type 1} → statement M
 +append-chain-spec =

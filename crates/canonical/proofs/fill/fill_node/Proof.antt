@@ -1,40 +1,56 @@
 -- `canonical::fill::fill_node` meets its contract. The loop's invariant: v has its children on the strong children before t. The
 -- measure is what is left of the summary. Assumes nothing.
-use Prim.Native.Nat.{_-_}
-use borrow.Author.Needs.{needs}
+use Prim.Native.Nat.{_-_, _<_}
+use mathlib.Core.Path.{refl}
 use native.Mathlib.Omega.{arith}
-use Rattle.canonical.specs.Columns.{tables}
-use Rattle.canonical.proofs.ColumnLaws.{SameLengths, columns-roomy, columns-same}
-use Rattle.canonical.proofs.FillLaws.{Visiting, visiting-start, visiting-missing, visiting-next, visiting-end}
+use denote.Ref.{now}
+use lib.ListN.{length}
+use borrow.Author.Needs.{needs}
+use Rattle.format.specs.Given.{summaryIn}
+use Rattle.canonical.specs.Draft.{draft}
+use Rattle.canonical.proofs.DraftLaws.{SameLengths, drafted-roomy, drafted-same}
+use Rattle.canonical.proofs.FillLaws.{visitable-on, Visiting, visiting-start, visiting-missing, visiting-next, visiting-end}
 use Rattle.canonical.proofs.fill.fill_node.Statement.{statement}
 use Rattle.canonical.proofs.fill.fill_node.Tie as tie
 
 abbrev Inv-loop : tie.InvT-loop
-Inv-loop parents strongs n v count parent₀ at₀ kids₀ s total₀ t₀ parent at kids total t =
-    Visiting parents strongs n (v .0) count (tables parent₀ at₀ kids₀) (s .0) (tables parent at kids) total t
+Inv-loop case count answer₀ on₀ kids₀ from first n total₀ t₀ answer on kids total t =
+    Visiting (summaryIn case) (from .node .0) count (draft answer₀ on₀ kids₀) (from .on .0) (draft answer on kids) total t
 
 abbrev μ-loop : tie.MeasureT-loop
-μ-loop parents strongs n v count parent₀ at₀ kids₀ s total₀ t₀ parent at kids total t = n - t
+μ-loop case count answer₀ on₀ kids₀ from first n total₀ t₀ answer on kids total t = n - t
 
--- the function's entry, seen from the loop's head
-abbrev start : tie.At-loop Inv-loop μ-loop → tie.Start Inv-loop μ-loop
-start c = c .before .before .before .before .before .before .before .before
+-- the function's entry, seen from where the summary node is read, and that place, seen from the loop's head
+abbrev start : tie.After-summary-of Inv-loop μ-loop → tie.Start Inv-loop μ-loop
+start c = c .before .before .before .before .before .before
+
+abbrev read : tie.At-loop Inv-loop μ-loop → tie.After-summary-of Inv-loop μ-loop
+read c = c .before .before .before
+
+-- the summary node is one of the summary's
+inside : (c : tie.After-summary-of Inv-loop μ-loop) → c .summary-of .result .0 < length (summaryIn (now (start c .args .case)))
+inside c = visitable-on (start c .pre .1 .2) _ (c .summary-of .ensures)
 
 summary-of-requires : tie.Need-summary-of-requires Inv-loop μ-loop
 summary-of-requires c κs =
-    let m = c .before .before .before .before .before .before .pre .1 .2 in
-    omega (arith, columns-roomy (m .columns), m .inside, m .columns .fits)
+    let m = c .before .before .before .before .before .pre .1 .2 in
+    omega (arith, drafted-roomy (m .drafted), m .inside, m .drafted .fits)
+
+add-first : tie.Need-add-first Inv-loop μ-loop
+add-first c = omega (arith, inside (c .before), start (c .before) .pre .0 .few)
+
+summary-count-requires : tie.Need-summary-count-requires Inv-loop μ-loop
+summary-count-requires c κs = search needs
 
 loop-holds : tie.Need-loop-holds Inv-loop μ-loop
-loop-holds c = visiting-start _ _ _ _ _ _ _
+loop-holds c = visiting-start (start (c .before .before) .pre .0 .tree) (inside (c .before .before)) refl
 
 add-missing-requires : tie.Need-add-missing-requires Inv-loop μ-loop
 add-missing-requires c κs =
     let h = c .before .before .before .before in
-    let s = start h in (
-      omega arith,
-      (_, s .pre .1 .1, visiting-missing (h .loop .inv) _ (h .before .summary-of .ensures) (s .pre .1 .2) (c .before .before .before .loop-test .taken)),
-    )
+    let s = start (read h) in
+    let less : h .loop .t < length (summaryIn (now (s .args .case))) = omega (arith, h .before .summary-count .ensures, c .before .before .before .loop-test .taken) in
+    ((s .pre .0, h .loop .inv .positive, less), (_, s .pre .1 .1, visiting-missing (h .loop .inv) (s .pre .1 .2) (read h .summary-of .ensures) less))
 
 add-t : tie.Need-add-t Inv-loop μ-loop
 add-t c = search needs
@@ -46,24 +62,26 @@ loop-again : tie.Need-loop-again Inv-loop μ-loop
 loop-again c =
     let a = c .before .before .before .before .before .before in
     let i = a .before .before .before .before in
-    visiting-next (i .before .loop .inv) (i .loop-test .taken) (a .add-missing .ensures)
+    visiting-next (i .before .loop .inv) (omega (arith, i .before .before .summary-count .ensures, i .loop-test .taken)) (a .add-missing .ensures)
 
 -- the tables keep their lengths
 kept : (c : tie.At-loop Inv-loop μ-loop)
-    → SameLengths (tables (c .loop .parent) (c .loop .at) (c .loop .kids)) (tables (start c .args .parent .now) (start c .args .at .now) (start c .args .kids .now))
-kept c = let m = start c .pre .1 .2 in columns-same (m .columns) (c .loop .inv .columns _ _ (m .columns))
+    → SameLengths (draft (c .loop .answer) (c .loop .on) (c .loop .kids)) (draft (start (read c) .args .answer .now) (start (read c) .args .on .now) (start (read c) .args .kids .now))
+kept c = let m = start (read c) .pre .1 .2 in drafted-same (m .drafted) (c .loop .inv .drafted _ _ (m .drafted))
 
 same-length : tie.Need-same-length Inv-loop μ-loop
-same-length c = kept (c .before) .parent
+same-length c = kept (c .before) .bytes
 
 same-length-2 : tie.Need-same-length-2 Inv-loop μ-loop
-same-length-2 c = kept (c .before) .at
+same-length-2 c = kept (c .before) .on
 
 same-length-3 : tie.Need-same-length-3 Inv-loop μ-loop
 same-length-3 c = kept (c .before) .kids
 
 returns : tie.Need-returns Inv-loop μ-loop
-returns c = visiting-end (c .before .loop .inv) _ (c .before .before .summary-of .ensures) (c .loop-test .left)
+returns c =
+    let h = c .before in
+    visiting-end (h .loop .inv) (read h .summary-of .ensures) (start (read h) .pre .1 .2 .inside) (omega (arith, h .before .summary-count .ensures, c .loop-test .left))
 
 pub fill-node-spec : {M : Type 1} → statement M
 fill-node-spec =
@@ -72,6 +90,8 @@ fill-node-spec =
     Inv-loop
     μ-loop
     summary-of-requires
+    add-first
+    summary-count-requires
     loop-holds
     add-missing-requires
     add-t

@@ -1,28 +1,27 @@
 -- `canonical::fill::strong_child` meets its contract: each return is the test's value where its branches lead. Assumes nothing.
-use mathlib.Core.Path.{_∙_, sym, ap}
 use borrow.Author.Needs.{needs}
 use Prim.Native.Nat.{ℕ}
 use lib.Dec.{eqb}
-use Rattle.canonical.proofs.FillLaws.{strong-root, strong-elsewhere, strong-by-edge}
+use mathlib.Core.Path.{_∙_, sym, ap}
+use Rattle.canonical.proofs.FillLaws.{strong-elsewhere, strong-by-edge}
 use Rattle.canonical.proofs.fill.strong_child.Statement.{statement}
 use Rattle.canonical.proofs.fill.strong_child.Tie as tie
 
-returns : tie.Need-returns
-returns c = strong-root _ _ _ _ (c .if1 .taken)
+summary-parent-requires : tie.Need-summary-parent-requires
+summary-parent-requires c κs = search needs
 
-number-requires : tie.Need-number-requires
-number-requires c κs = search needs
+returns : tie.Need-returns
+returns c = strong-elsewhere _ _ _ (λ e. c .if1 .taken (c .before .before .before .summary-parent .ensures ∙ e))
+
+summary-strong-requires : tie.Need-summary-strong-requires
+summary-strong-requires c κs = search needs
 
 returns-2 : tie.Need-returns-2
-returns-2 c = strong-elsewhere _ _ _ _ (λ p. c .if2 .taken (c .before .before .number .ensures ∙ p))
-
-number-requires-2 : tie.Need-number-requires-2
-number-requires-2 c κs = search needs
-
-returns-3 : tie.Need-returns-3
-returns-3 c =
-    ap (λ (x : ℕ). eqb x 1) (c .number2 .ensures)
-    ∙ strong-by-edge _ _ _ _ (c .before .before .before .before .if1 .left) (sym (c .before .before .before .number .ensures) ∙ c .before .if2 .left)
+returns-2 c =
+    let e = c .before in
+    let s = c .before .before .before .before .before .before in
+    ap (λ (x : ℕ). eqb x 1) (c .summary-strong .ensures) ∙ strong-by-edge _ _ _ (s .pre .1) (s .pre .2) (sym (e .before .before .before .summary-parent .ensures) ∙ e .if1 .left)
 
 pub strong-child-spec : {M : Type 1} → statement M
-strong-child-spec = tie.close (tie.spec returns number-requires returns-2 number-requires-2 returns-3)
+strong-child-spec =
+    tie.close (tie.spec summary-parent-requires returns summary-strong-requires returns-2)

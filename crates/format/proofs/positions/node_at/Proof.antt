@@ -1,23 +1,22 @@
--- `format::positions::node_at` meets its contract: none of the nodes passed holds the position. The measure is what is left of the count.
--- Assumes nothing.
+-- `format::positions::node_at` meets its contract: none of the nodes passed holds the position. The measure is what is left of the
+-- pattern. Assumes nothing.
 use Prim.Native.Nat.{ℕ, _-_}
 use mathlib.Core.Path.{sym, _∙_}
-use native.Mathlib.Omega.{arith}
 use lib.Dec.{eqb}
 use lib.ListN.{length}
 use borrow.Author.Needs.{needs}
 use borrow.Author.Tests.{eq-eqb, ne-eqb}
-use Rattle.model.specs.Pattern.{position as positionOf}
+use Rattle.model.specs.Pattern.{position}
 use Rattle.format.specs.Given.{patternAt}
-use Rattle.format.proofs.FirstLaws.{Seeking, seeking-start, seeking-step, seeking-found, seeking-end}
+use Rattle.format.proofs.PositionLaws.{Seeking, seeking-start, seeking-step, seeking-found, seeking-end}
 use Rattle.format.proofs.positions.node_at.Statement.{statement}
 use Rattle.format.proofs.positions.node_at.Tie as tie
 
 abbrev Inv-loop : tie.InvT-loop
-Inv-loop b at position m q₀ q = Seeking (λ (k : ℕ). eqb (positionOf (patternAt b at) k) position) (length (patternAt b at)) q
+Inv-loop b at wanted m q₀ q = Seeking (λ (k : ℕ). eqb (position (patternAt b at) k) wanted) (length (patternAt b at)) q
 
 abbrev μ-loop : tie.MeasureT-loop
-μ-loop b at position m q₀ q = m - q
+μ-loop b at wanted m q₀ q = m - q
 
 pattern-count-requires : tie.Need-pattern-count-requires Inv-loop μ-loop
 pattern-count-requires c κs = search needs
@@ -29,7 +28,7 @@ pattern-position-requires : tie.Need-pattern-position-requires Inv-loop μ-loop
 pattern-position-requires c κs = search needs
 
 returns : tie.Need-returns Inv-loop μ-loop
-returns c = seeking-found (c .before .before .before .loop .inv) (omega arith) (eq-eqb _ _ (sym (c .before .pattern-position .ensures .0) ∙ c .if1 .taken))
+returns c = seeking-found (c .before .before .before .loop .inv) (search needs) (eq-eqb _ _ (sym (c .before .pattern-position .ensures .0) ∙ c .if1 .taken))
 
 add-q : tie.Need-add-q Inv-loop μ-loop
 add-q c = search needs
@@ -38,10 +37,10 @@ loop-less : tie.Need-loop-less Inv-loop μ-loop
 loop-less c = search needs
 
 loop-again : tie.Need-loop-again Inv-loop μ-loop
-loop-again c = seeking-step (c .before .before .before .loop .inv) (omega arith) (ne-eqb _ _ (λ e. c .if1 .left (c .before .pattern-position .ensures .0 ∙ e)))
+loop-again c = seeking-step (c .before .before .before .loop .inv) (search needs) (ne-eqb _ _ (λ e. c .if1 .left (c .before .pattern-position .ensures .0 ∙ e)))
 
 returns-2 : tie.Need-returns-2 Inv-loop μ-loop
-returns-2 c = c .before .before .pattern-count .ensures .0 ∙ seeking-end (c .before .loop .inv) (omega arith)
+returns-2 c = c .before .before .pattern-count .ensures .0 ∙ seeking-end (c .before .loop .inv) (search needs)
 
 pub node-at-spec : {M : Type 1} → statement M
 node-at-spec =

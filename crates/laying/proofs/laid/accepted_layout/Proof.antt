@@ -1,32 +1,59 @@
--- `laying::laid::accepted_layout` meets its contract: the columns have 1,024 entries, the nodes are at most 1,009, and the records
--- gathered from the columns' fronts are theirs. Assumes nothing.
-use Prim.Native.Nat.{_≤_}
-use mathlib.Core.Path.{refl, sym, ap, _∙_, subst}
+-- `laying::laid::accepted_layout` meets its contract: an accepted call's list is an embedding, and what is laid out reads back as the
+-- model's nodes. Assumes nothing.
+use Prim.Native.Nat.{ℕ, _<_}
+use native.Mathlib.Omega.{arith}
+use denote.Ref.{now}
+use lib.ListN.{getD, replicate}
 use borrow.Author.Needs.{needs}
-use Rattle.model.specs.Limits.{minTable, maxCanonical}
-use Rattle.model.specs.Questions.{layoutRefusal}
-use Rattle.laying.proofs.RecordLaws.{records-equal, nodes-few, laid-accepted}
+use Rattle.model.proofs.Questions.{LayoutFacts, accepted-layout}
+use Rattle.model.specs.Limits.{minTable}
+use Rattle.questions.proofs.AcceptedLaws.{accepted-whole}
+use Rattle.canonical.specs.Given.{Embedded}
+use Rattle.canonical.proofs.LayoutLaws.{spots-few}
+use Rattle.canonical.proofs.ReadBackLaws.{back-whole, back-count}
+use Rattle.laying.proofs.RecordLaws.{laid-accepted}
+use Rattle.laying.proofs.ListLaws.{list-fits, list-embedded, laid-count, laid-read}
 use Rattle.laying.proofs.laid.accepted_layout.Statement.{statement}
 use Rattle.laying.proofs.laid.accepted_layout.Tie as tie
 
-abbrev start : tie.After-lay-accepted → tie.Start
-start c = c .before .before .before .before .before .before
+-- the function's entry, seen from where the list is read, and what the accepted call has there
+abbrev start : tie.After-read-list → tie.Start
+start c = c .before .before .before .before .before
 
--- at most 1,009 nodes are laid out
-few : (c : tie.After-lay-accepted) → c .lay-accepted .result ≤ maxCanonical
-few c = subst (λ (n : _). n ≤ maxCanonical) (sym (c .lay-accepted .ensures .0)) (nodes-few _ _ _ minTable (start c .pre))
+facts : (s : tie.Start) → LayoutFacts (now (s .args .case)) (s .args .number) (now (s .args .list)) minTable
+facts s = accepted-layout _ _ _ _ (s .pre)
 
-slice-aggregate-lay-accepted : tie.Need-slice-aggregate-lay-accepted
-slice-aggregate-lay-accepted c = search needs
+embedded : (c : tie.After-read-list) → Embedded (now (start c .args .case)) (c .before .before .selected-at .result) (c .read-list .last .1 .0)
+embedded c = list-embedded (facts (start c)) (replicate 16 0) (c .before .before .selected-at .ensures) (omega arith) (c .read-list .ensures .1)
 
-slice-aggregate-lay-accepted-2 : tie.Need-slice-aggregate-lay-accepted-2
-slice-aggregate-lay-accepted-2 c = search needs
+-- bytes are below 256
+small : (c : tie.After-read-list) (i : ℕ) → getD (now (start c .args .case)) i 0 < 256
+small c i = omega (arith, c .before .before .before .before .shared-slice-known .given i)
 
-slice-aggregate-lay-accepted-3 : tie.Need-slice-aggregate-lay-accepted-3
-slice-aggregate-lay-accepted-3 c = search needs
+-- where the list is read, seen from after the layout
+abbrev read : tie.After-lay-out → tie.After-read-list
+read c = c .before .before .before .before .before
 
-lay-accepted-requires : tie.Need-lay-accepted-requires
-lay-accepted-requires c κs = ap (layoutRefusal _ _ _) (records-equal _ refl refl refl) ∙ c .before .before .before .before .before .pre
+selected-at-requires : tie.Need-selected-at-requires
+selected-at-requires c κs = accepted-whole (facts (c .before .before) .case)
+
+slice-aggregate-read-list : tie.Need-slice-aggregate-read-list
+slice-aggregate-read-list c = search needs
+
+read-list-requires : tie.Need-read-list-requires
+read-list-requires c κs = list-fits (facts (c .before .before .before .before))
+
+slice-aggregate-lay-out : tie.Need-slice-aggregate-lay-out
+slice-aggregate-lay-out c = search needs
+
+slice-aggregate-lay-out-2 : tie.Need-slice-aggregate-lay-out-2
+slice-aggregate-lay-out-2 c = search needs
+
+slice-aggregate-lay-out-3 : tie.Need-slice-aggregate-lay-out-3
+slice-aggregate-lay-out-3 c = search needs
+
+lay-out-requires : tie.Need-lay-out-requires
+lay-out-requires c κs = (embedded (c .before .before .before .before), (omega arith, omega arith))
 
 slice-aggregate-records-of : tie.Need-slice-aggregate-records-of
 slice-aggregate-records-of c = search needs
@@ -34,27 +61,39 @@ slice-aggregate-records-of c = search needs
 slice-aggregate-records-of-2 : tie.Need-slice-aggregate-records-of-2
 slice-aggregate-records-of-2 c = search needs
 
-slice-aggregate-records-of-3 : tie.Need-slice-aggregate-records-of-3
-slice-aggregate-records-of-3 c = search needs
-
 records-of-requires : tie.Need-records-of-requires
-records-of-requires c κs = let h = few (c .before .before .before .before .before .before) in (search needs, search needs, search needs, search needs)
+records-of-requires c κs =
+    let o = c .before .before .before .before in
+    let e = embedded (read o) in
+    let w = o .lay-out .ensures in (
+      back-whole e (small (read o)) w (omega arith),
+      omega (arith, back-count e (small (read o)) w),
+      omega (arith, w .counted, spots-few e, o .lay-out .kept .1 .1 .1 .1 .0),
+      omega (arith, w .counted, spots-few e),
+    )
 
 returns : tie.Need-returns
 returns c =
-    let k = c .before .before .before .before .before .before .before in
-    laid-accepted _ _ _ _ (start k .pre) (k .lay-accepted .ensures .0) (k .lay-accepted .ensures .1) (c .records-of .ensures)
+    let o = c .before .before .before .before .before in
+    let r = read o in
+    let s = start r in
+    let w = o .lay-out .ensures in
+    let at = r .before .before .selected-at .ensures in
+    laid-accepted _ _ _ (s .pre) (laid-count (facts s) (replicate 16 0) at (omega arith) (r .read-list .ensures .1) w) (c .records-of .ensures)
+    (laid-read (facts s) (replicate 16 0) at (omega arith) (r .read-list .ensures .1) w (small r))
 
 pub accepted-layout-spec : {M : Type 1} → statement M
 accepted-layout-spec =
     tie.close
     (tie.spec
-    slice-aggregate-lay-accepted
-    slice-aggregate-lay-accepted-2
-    slice-aggregate-lay-accepted-3
-    lay-accepted-requires
+    selected-at-requires
+    slice-aggregate-read-list
+    read-list-requires
+    slice-aggregate-lay-out
+    slice-aggregate-lay-out-2
+    slice-aggregate-lay-out-3
+    lay-out-requires
     slice-aggregate-records-of
     slice-aggregate-records-of-2
-    slice-aggregate-records-of-3
     records-of-requires
     returns)

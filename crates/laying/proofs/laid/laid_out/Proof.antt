@@ -12,7 +12,7 @@ abbrev start : tie.Else1 → tie.Start
 start c = c .before .before .before .before
 
 -- no question refuses
-accepted : (c : tie.Else1) → layoutRefusal (now (start c .args .case)) (start c .args .selection) (now (start c .args .list)) (start c .args .records) ≡ 0
+accepted : (c : tie.Else1) → layoutRefusal (now (start c .args .case)) (start c .args .number) (now (start c .args .list)) (start c .args .records) ≡ 0
 accepted c = sym (c .before .layout-refusal .ensures) ∙ c .if1 .left
 
 layout-refusal-requires : tie.Need-layout-refusal-requires

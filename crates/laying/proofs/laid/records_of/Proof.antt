@@ -1,23 +1,26 @@
 -- `laying::laid::records_of` meets its contract: after i turns the first i records stand at the front. The measure is what is left of
 -- count. Assumes nothing.
-use Prim.Native.Nat.{_-_}
+use Prim.Native.Nat.{ℕ, _-_}
+use mathlib.Core.Path.{_∙_}
+use denote.Ref.{now}
 use borrow.Author.Needs.{needs}
-use Rattle.laying.specs.Table.{columns}
-use Rattle.laying.proofs.RecordLaws.{Gathering, gather-start, gather-step, gather-end}
+use Rattle.format.proofs.FrontLoops.{FilledUpTo, filled-start, filled-step, filled-end}
+use Rattle.laying.specs.Records.{nodeRecord, laidAt, blankNodes}
+use Rattle.laying.proofs.RecordLaws.{length-blank, at-front}
 use Rattle.laying.proofs.laid.records_of.Statement.{statement}
 use Rattle.laying.proofs.laid.records_of.Tie as tie
 
 abbrev Inv-loop : tie.InvT-loop
-Inv-loop parent at label count nodes₀ i₀ nodes i = Gathering (columns parent at label) count nodes i
+Inv-loop w on count nodes₀ i₀ nodes i = FilledUpTo (λ (k : ℕ). nodeRecord (laidAt w on k)) count blankNodes nodes i
 
 abbrev μ-loop : tie.MeasureT-loop
-μ-loop parent at label count nodes₀ i₀ nodes i = count - i
+μ-loop w on count nodes₀ i₀ nodes i = count - i
 
 blank-nodes-requires : tie.Need-blank-nodes-requires Inv-loop μ-loop
 blank-nodes-requires c κs = search needs
 
 loop-holds : tie.Need-loop-holds Inv-loop μ-loop
-loop-holds c = gather-start (search needs)
+loop-holds c = filled-start (search needs)
 
 record-at-requires : tie.Need-record-at-requires Inv-loop μ-loop
 record-at-requires c κs = search needs
@@ -35,10 +38,12 @@ loop-less : tie.Need-loop-less Inv-loop μ-loop
 loop-less c = search needs
 
 loop-again : tie.Need-loop-again Inv-loop μ-loop
-loop-again c = gather-step (c .before .before .loop .inv) (search needs) (c .before .loop-test .taken) (c .record-at .ensures)
+loop-again c = filled-step (c .before .before .loop .inv) (c .before .loop-test .taken) (let n = length-blank in search needs) (c .record-at .ensures)
 
 returns : tie.Need-returns Inv-loop μ-loop
-returns c = gather-end (c .before .loop .inv) (c .loop-test .left)
+returns c =
+    let a = c .before .before .before .before .before .args in
+    filled-end (c .before .loop .inv) (c .loop-test .left) ∙ at-front (now (a .w)) (now (a .on)) (a .count)
 
 pub records-of-spec : {M : Type 1} → statement M
 records-of-spec =
