@@ -90,54 +90,54 @@ pub extern "C" fn cadwezin_fits(case: &[u8], document: &[u8]) -> TestAnswer
 #[no_mangle]
 pub extern "C" fn cadwezin_result(
     case: &[u8],
-    selection: u64,
+    number: u64,
     document: &[u8],
     list: &[u8],
 ) -> TestAnswer
-    ensures { λ r. ⌜ (r .refused ≡ resultCall (now (case .entry)) selection (now (document .entry)) (now (list .entry)) .refused)
-        × (r .holds ≡ resultCall (now (case .entry)) selection (now (document .entry)) (now (list .entry)) .holds) ⌝ }
+    ensures { λ r. ⌜ (r .refused ≡ resultCall (now (case .entry)) number (now (document .entry)) (now (list .entry)) .refused)
+        × (r .holds ≡ resultCall (now (case .entry)) number (now (document .entry)) (now (list .entry)) .holds) ⌝ }
 {
-    result_call(case, selection, document, list)
+    result_call(case, number, document, list)
 }
 
 // The nodes at a position in any result, ascending after their count, go to the front of the answer buffer.
 #[no_mangle]
 pub extern "C" fn cadwezin_nodes(
     case: &[u8],
-    selection: u64,
+    number: u64,
     document: &[u8],
     position: u64,
     answer: &mut [u8],
 ) -> CountAnswer
-    ensures answer { λ r. ⌜ (r .refused ≡ nodesCall (now (case .entry)) selection (now (document .entry)) position (now (answer .entry)) .answer .refused)
-        × (r .count ≡ nodesCall (now (case .entry)) selection (now (document .entry)) position (now (answer .entry)) .answer .count) ⌝ }
-    ensures buffer { λ _. ⌜ now (answer .exit) ≡ nodesCall (now (case .entry)) selection (now (document .entry)) position (now (answer .entry)) .buffer ⌝ }
+    ensures answer { λ r. ⌜ (r .refused ≡ nodesCall (now (case .entry)) number (now (document .entry)) position (now (answer .entry)) .answer .refused)
+        × (r .count ≡ nodesCall (now (case .entry)) number (now (document .entry)) position (now (answer .entry)) .answer .count) ⌝ }
+    ensures buffer { λ _. ⌜ now (answer .exit) ≡ nodesCall (now (case .entry)) number (now (document .entry)) position (now (answer .entry)) .buffer ⌝ }
 {
-    nodes_call(case, selection, document, position, answer)
+    nodes_call(case, number, document, position, answer)
 }
 
 // The paths of each node of the pattern that selection names.
 #[no_mangle]
-pub extern "C" fn cadwezin_paths(case: &[u8], selection: u64) -> PathsAnswer
-    ensures { λ r. ⌜ (r .refused ≡ pathsCall (now (case .entry)) selection .refused)
-        × (r .masks ≡ pathsCall (now (case .entry)) selection .masks)
-        × (r .counts ≡ pathsCall (now (case .entry)) selection .counts) ⌝ }
+pub extern "C" fn cadwezin_paths(case: &[u8], number: u64) -> PathsAnswer
+    ensures { λ r. ⌜ (r .refused ≡ pathsCall (now (case .entry)) number .refused)
+        × (r .masks ≡ pathsCall (now (case .entry)) number .masks)
+        × (r .counts ≡ pathsCall (now (case .entry)) number .counts) ⌝ }
 {
-    paths_call(case, selection)
+    paths_call(case, number)
 }
 
 // Lay out a canonical document: its nodes fill the front of the lent table, and the node count is the result.
 #[no_mangle]
 pub extern "C" fn cadwezin_layout(
     case: &[u8],
-    selection: u64,
+    number: u64,
     list: &[u8],
     table: &mut [NodeRecord],
 ) -> CountAnswer
-    ensures { λ r. ⌜ LayoutAnswered (now (case .entry)) selection (now (list .entry)) (now (table .entry)) (now (table .exit))
+    ensures { λ r. ⌜ LayoutAnswered (now (case .entry)) number (now (list .entry)) (now (table .entry)) (now (table .exit))
         (r .refused) (r .count) ⌝ }
 {
-    let laid = laid_out(case, selection, list, table.len());
+    let laid = laid_out(case, number, list, table.len());
     let nodes = laid.nodes;
     let count = laid.count;
     let mut i = 0;

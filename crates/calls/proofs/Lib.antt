@@ -1,4 +1,3 @@
 pub mod AnswerLaws
-pub mod NumberedLaws
 pub mod PathLaws
 pub mod NodesLaws

@@ -15,7 +15,7 @@ use Rattle.model.specs.Questions.{selected, nodesRefusal}
 use Rattle.model.specs.Calls.{NodesOutcome, nodesAccepted, nodesCall}
 use Rattle.model.proofs.ListLaws.{length-keep, length-upFrom}
 use Rattle.model.proofs.Bytes.{front-written}
-use Rattle.model.proofs.Questions.{NodesFacts}
+use Rattle.model.proofs.CallFacts.{NodesFacts}
 use Rattle.model.proofs.Calls.{nodes-refused, nodes-accepted}
 
 -- ---- the nodes

@@ -3,7 +3,7 @@
 use crate::answers::CountAnswer;
 use format::write::write_counted;
 use matching::outcomes::nodes_at;
-use questions::pattern::selected_at;
+use questions::pattern::numbered_at;
 use questions::refusals::nodes_refusal;
 ghost use mathlib.Core.Path.{_≡_};
 ghost use Rattle.model.specs.Calls.{nodesCall};
@@ -25,7 +25,7 @@ pub fn nodes_call(
     if refused != 0 {
         return CountAnswer { refused, count: 0 };
     }
-    let at = selected_at(case, number);
+    let at = numbered_at(case, number);
     let mut nodes = [0u16; 1024];
     let count = nodes_at(case, at, document, position as usize, &mut nodes);
     write_counted(&nodes, count, answer);

@@ -3,7 +3,7 @@
 use crate::answers::PathsAnswer;
 use matching::outcomes::path_counts;
 use matching::outcomes::path_masks;
-use questions::pattern::selected_at;
+use questions::pattern::numbered_at;
 use questions::refusals::paths_refusal;
 ghost use mathlib.Core.Path.{_≡_};
 ghost use Rattle.model.specs.Calls.{pathsCall};
@@ -22,7 +22,7 @@ pub fn paths_call(case: &[u8], number: u64) -> PathsAnswer
             counts: none,
         };
     }
-    let masks = path_masks(case, selected_at(case, number));
+    let masks = path_masks(case, numbered_at(case, number));
     let counts = path_counts(&masks);
     PathsAnswer {
         refused: 0,

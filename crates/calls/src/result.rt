@@ -2,7 +2,7 @@
 
 use crate::answers::TestAnswer;
 use matching::outcomes::is_result;
-use questions::pattern::selected_at;
+use questions::pattern::numbered_at;
 use questions::refusals::result_refusal;
 ghost use mathlib.Core.Path.{_≡_};
 ghost use Rattle.model.specs.Calls.{resultCall};
@@ -17,7 +17,7 @@ pub fn result_call(case: &[u8], number: u64, document: &[u8], list: &[u8]) -> Te
     if refused != 0 {
         return TestAnswer { refused, holds: 0 };
     }
-    if is_result(case, selected_at(case, number), document, list) {
+    if is_result(case, numbered_at(case, number), document, list) {
         return TestAnswer {
             refused: 0,
             holds: 1,

@@ -7,7 +7,7 @@ use lib.Dec.{eqb}
 use lib.ListN.{length, getD, take, replicate}
 use Rattle.model.specs.Limits.{maxCanonical}
 use Rattle.model.specs.Summary.{Summary, asDocument, noSummaryRecord}
-use Rattle.model.specs.Pattern.{Pattern, Placement}
+use Rattle.model.specs.Pattern.{Pattern, SummaryEmbedding}
 use Rattle.model.specs.Embeddings.{imageIn, childTest}
 use Rattle.model.specs.Bytes.{encodeDocument, writtenAtFront}
 use Rattle.model.specs.Canonical.{Spot, chain, appendChain, addAll, fillNode, fillFrom, canonicalSpots, canonical, ownNodes}
@@ -27,7 +27,7 @@ pub record Embedded (case : List ℕ) (at : ℕ) (images : List ℕ) : Type 0 wh
   pub summary : SummaryGiven case
   pub pattern : PatternGiven case at
   pub enough : length (patternAt case at) ≤ length images
-  pub embedding : Placement (summaryIn case) (patternAt case at) (imageIn (embeddingIn case at images))
+  pub embedding : SummaryEmbedding (summaryIn case) (patternAt case at) (imageIn (embeddingIn case at images))
 
 -- the canonical document's section at the front of a buffer, each node's summary node at that of a table, the rest of both untouched
 pub record WrittenOut (S : Summary) (P : Pattern) (es bytes₀ bytes on₀ on : List ℕ) (r : LaidOut) : Type 0 where

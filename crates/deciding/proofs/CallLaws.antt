@@ -13,7 +13,8 @@ use Rattle.model.specs.Bytes.{Case, caseOf, firstAt}
 use Rattle.model.specs.Questions.{verdictRefusal}
 use Rattle.model.specs.Calls.{refusedAnswer, kindOf, verdictAccepted, verdictCall}
 use Rattle.model.specs.Demands.{Demand3}
-use Rattle.model.proofs.Questions.{AcceptedCase, accepted-verdict}
+use Rattle.model.proofs.CallFacts.{accepted-verdict}
+use Rattle.model.proofs.CaseFacts.{AcceptedCase}
 use Rattle.model.proofs.Calls.{verdict-refused, verdict-accepted}
 use Rattle.model.proofs.Demands.{demand-3}
 use Rattle.model.proofs.Verdict.{verdict-tried}

@@ -25,7 +25,7 @@ use Rattle.matching.specs.Outcomes.{holderOf}
 use Rattle.matching.proofs.ColumnAnswers.{holder-node, holder-inside}
 use Rattle.canonical.specs.LaidOut.{Lent, LaidOut}
 use Rattle.canonical.proofs.LayoutLaws.{laid-document, laid-small}
-use Rattle.deciding.specs.Shown.{ownNode, ownAt, shownTrial, Showable}
+use Rattle.deciding.specs.Shown.{ownNode, ownAt, shownCanonical, Showable}
 
 module _ {parents labels strongs : List ℕ} {n : ℕ} {pparents plabels pedges ppositions : List ℕ} {m k : ℕ} {images : List ℕ} {bytes : ℕ}
     (h : Showable parents labels strongs n pparents plabels pedges ppositions m k images bytes) where
@@ -71,7 +71,7 @@ module _ {parents labels strongs : List ℕ} {n : ℕ} {pparents plabels pedges 
     -- what is then written
     pub shown-written : (result₀ buffer : List ℕ) {result after′ : List ℕ} → result ≡ writtenAtFront (ownAt (after .own) ppositions m k) result₀
         → after′ ≡ writtenAtFront (encodeDocument (documentFrom (after .parent) (after .label) count) ++ encodeCounted (take k result)) buffer
-        → after′ ≡ writtenAtFront (shownTrial S P es) buffer
+        → after′ ≡ writtenAtFront (shownCanonical S P es) buffer
     shown-written result₀ buffer {result} r e =
         let t : take k result ≡ ownResult S P es =
         ap₂ (λ (n : ℕ) (xs : List ℕ). take n xs) (sym own-count) r ∙ front-written (ownAt (after .own) ppositions m k) result₀ ∙ own-same in

@@ -10,7 +10,7 @@ use types.Run.{OneOf}
 use lib.ListN.{length, take}
 use Rattle.model.specs.Limits.{minBuffer, maxPosition}
 use Rattle.model.specs.Summary.{Summary}
-use Rattle.model.specs.Pattern.{Pattern, arity, Placement}
+use Rattle.model.specs.Pattern.{Pattern, arity, SummaryEmbedding}
 use Rattle.model.specs.Embeddings.{imageIn}
 use Rattle.model.specs.Verdict.{Verdict, included, notIncluded, stopped}
 use Rattle.model.specs.Bytes.{Case, writtenAtFront}
@@ -23,7 +23,7 @@ use Rattle.containment.specs.Answer.{answerOf, shownOf, caseFrom, verdictOf, Ca
 use Rattle.containment.specs.declared.Containment.{Containment}
 use Rattle.containment.specs.declared.Containment.the-variants.{NotContained}
 use Rattle.containment.proofs.Containment.{the-type}
-use Rattle.deciding.specs.Shown.{shownTrial, Showable, Told}
+use Rattle.deciding.specs.Shown.{shownCanonical, Showable, Told}
 
 -- ---- included and stopped
 
@@ -50,7 +50,7 @@ not-included (included n) e = absurd (let z : _≡_ {A = ℕ} 0 1 = cc e in omeg
 not-included (notIncluded n es) e = ap (λ (x : ℕ). notIncluded x es) (cc e)
 not-included (stopped n) e = absurd (let z : _≡_ {A = ℕ} 0 1 = cc e in omega arith)
 
-shown-not : (S : Summary) (P : Pattern) (n : ℕ) (es : List ℕ) → shown S P (notIncluded n es) ≡ shownTrial S P es
+shown-not : (S : Summary) (P : Pattern) (n : ℕ) (es : List ℕ) → shown S P (notIncluded n es) ≡ shownCanonical S P es
 unfolding shown
 shown-not S P n es = refl
 
@@ -69,7 +69,7 @@ module _ {parents labels strongs : List ℕ} {n : ℕ} {pparents plabels pedges 
     is-not : v ≡ notIncluded t es
     is-not = not-included v (sym a ∙ e)
 
-    embedded : (length es ≡ length (c .first)) × Placement (c .summary) (c .first) (imageIn es)
+    embedded : (length es ≡ length (c .first)) × SummaryEmbedding (c .summary) (c .first) (imageIn es)
     embedded = placed (l .facts .summary) (l .facts .first) (verdict-shown (c .summary) (c .first) (c .second) limit t es is-not .0)
 
     -- the images are the embedding
@@ -86,7 +86,7 @@ module _ {parents labels strongs : List ℕ} {n : ℕ} {pparents plabels pedges 
               record {
                 summary = l .facts .summary .tree;
                 pattern = l .facts .first .tree;
-                embedding = subst (λ (xs : List ℕ). Placement (c .summary) (c .first) (imageIn xs)) (sym shown-images) (embedded .1);
+                embedding = subst (λ (xs : List ℕ). SummaryEmbedding (c .summary) (c .first) (imageIn xs)) (sym shown-images) (embedded .1);
                 summarySize = l .facts .summarySize;
                 patternSize = l .facts .firstSize;
               };
@@ -103,11 +103,11 @@ module _ {parents labels strongs : List ℕ} {n : ℕ} {pparents plabels pedges 
         }
 
     -- and what is shown of it is the verdict's
-    pub told-shown : {before after : List ℕ} → after ≡ writtenAtFront (shownTrial (c .summary) (c .first) (take m images)) before → Told c limit before after (NotContained t)
+    pub told-shown : {before after : List ℕ} → after ≡ writtenAtFront (shownCanonical (c .summary) (c .first) (take m images)) before → Told c limit before after (NotContained t)
     told-shown {before} w =
         record {
           verdict = sym e ∙ a;
           buffer =
-              w ∙ ap (λ (xs : List ℕ). writtenAtFront (shownTrial (c .summary) (c .first) xs) before) shown-images
+              w ∙ ap (λ (xs : List ℕ). writtenAtFront (shownCanonical (c .summary) (c .first) xs) before) shown-images
               ∙ sym (ap (λ (x : Verdict). writtenAtFront (shown (c .summary) (c .first) x) before) is-not ∙ ap (λ (w : List ℕ). writtenAtFront w before) (shown-not (c .summary) (c .first) t es));
         }

@@ -26,8 +26,8 @@ abbrev pub ownAt : List ℕ → List ℕ → ℕ → ℕ → List ℕ
 ownAt own positions m k = map (ownNode own positions m) (upFrom 0 k)
 
 -- the bytes that are shown (document 01: the volume's section, then the result as a count and k node numbers)
-abbrev pub shownTrial : Summary → Pattern → List ℕ → List ℕ
-shownTrial S P es = encodeDocument (canonical S P es) ++ encodeCounted (ownResult S P es)
+abbrev pub shownCanonical : Summary → Pattern → List ℕ → List ℕ
+shownCanonical S P es = encodeDocument (canonical S P es) ++ encodeCounted (ownResult S P es)
 
 -- a summary of n nodes, a pattern by the rules of m nodes and k positions and an embedding, in columns that are long enough, and a
 -- buffer's bytes that are enough

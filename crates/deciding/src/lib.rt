@@ -17,11 +17,11 @@ ghost use lib.ListN.{length, take};
 ghost use Rattle.model.specs.Limits.{maxLimit, minBuffer};
 ghost use Rattle.model.specs.Pattern.{arity as arityOf};
 ghost use Rattle.model.specs.Bytes.{caseOf, writtenAtFront};
-ghost use Rattle.model.proofs.Questions.{AcceptedCase};
+ghost use Rattle.model.proofs.CaseFacts.{AcceptedCase};
 ghost use Rattle.format.specs.Tables.{summaryFrom, patternFrom};
 ghost use Rattle.matching.specs.Outcomes.{holderOf};
 ghost use Rattle.containment.specs.Answer.{caseFrom, CaseLent};
-ghost use Rattle.deciding.specs.Shown.{ownAt, shownTrial, Showable, Told};
+ghost use Rattle.deciding.specs.Shown.{ownAt, shownCanonical, Showable, Told};
 ghost use Rattle.deciding.specs.Outcome.{asAnswer, triedIn, Answered};
 
 // The answer of the call: refused, with the number; or document 01's verdict with how many were tried: included, not included,
@@ -69,7 +69,7 @@ fn show(
     answer: &mut [u8],
 )
     requires { ⌜ Showable (now parents) (now labels) (now strongs) n (now pparents) (now plabels) (now pedges) (now ppositions) m k (now images) (length (now answer)) ⌝ }
-    ensures { λ _. ⌜ now (answer .exit) ≡ writtenAtFront (shownTrial (summaryFrom (now (parents .entry)) (now (labels .entry)) (now (strongs .entry)) n) (patternFrom (now (pparents .entry)) (now (plabels .entry)) (now (pedges .entry)) (now (ppositions .entry)) m) (take m (now (images .entry)))) (now (answer .entry)) ⌝ }
+    ensures { λ _. ⌜ now (answer .exit) ≡ writtenAtFront (shownCanonical (summaryFrom (now (parents .entry)) (now (labels .entry)) (now (strongs .entry)) n) (patternFrom (now (pparents .entry)) (now (plabels .entry)) (now (pedges .entry)) (now (ppositions .entry)) m) (take m (now (images .entry)))) (now (answer .entry)) ⌝ }
 {
     let mut parent = [0u16; 1024];
     let mut at = [0u16; 1024];

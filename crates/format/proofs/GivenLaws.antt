@@ -11,7 +11,8 @@ use Rattle.model.specs.Tree.{DocumentRecord, Document, IsTree}
 use Rattle.model.specs.Pattern.{Pattern, IsPatternTree}
 use Rattle.model.specs.Bytes.{firstAt, secondAt, sectionEnd, caseOf, WholeSection, isWholeDocument}
 use Rattle.model.proofs.TreeLaws.{length-asDocument}
-use Rattle.model.proofs.Questions.{AcceptedCase, DocumentFacts}
+use Rattle.model.proofs.CallFacts.{DocumentFacts}
+use Rattle.model.proofs.CaseFacts.{AcceptedCase}
 use Rattle.format.specs.Given.{summaryIn, patternAt, treeOf, SummaryGiven, PatternGiven, DocumentGiven, TreeGiven}
 use Rattle.format.proofs.SectionLaws.{tree-document, tree-summary}
 

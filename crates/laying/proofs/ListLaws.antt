@@ -5,20 +5,21 @@ use mathlib.Core.List.{List, map}
 use native.Mathlib.Omega.{arith}
 use lib.ListN.{length, getD, take}
 use Rattle.model.specs.Limits.{maxPattern}
-use Rattle.model.specs.Pattern.{Pattern, IsPatternTree, Placement}
+use Rattle.model.specs.Pattern.{Pattern, IsPatternTree, SummaryEmbedding}
 use Rattle.model.specs.Embeddings.{imageIn}
 use Rattle.model.specs.Bytes.{caseOf, listOf, writtenAtFront}
 use Rattle.model.specs.Canonical.{Spot, canonicalSpots}
 use Rattle.model.specs.Questions.{selected}
 use Rattle.model.specs.Calls.{laidRecord}
 use Rattle.model.proofs.Bytes.{front-length, front-written}
-use Rattle.model.proofs.Questions.{LayoutFacts, selected-facts}
+use Rattle.model.proofs.CallFacts.{LayoutFacts}
+use Rattle.model.proofs.CaseFacts.{selected-facts}
 use Rattle.model.proofs.Embeddings.{embeddings-sound}
 use Rattle.format.specs.Given.{summaryIn, patternAt}
 use Rattle.format.proofs.GivenLaws.{given-summary}
-use Rattle.questions.specs.Sections.{selectedAt}
-use Rattle.questions.proofs.TableLaws.{list-count}
-use Rattle.questions.proofs.PatternLaws.{selected-pattern}
+use Rattle.questions.specs.Numbered.{numberedAt}
+use Rattle.format.proofs.ListLaws.{list-count}
+use Rattle.questions.proofs.NumberedLaws.{numbered-pattern}
 use Rattle.questions.proofs.AcceptedLaws.{selected-size, accepted-pattern}
 use Rattle.canonical.specs.Given.{embeddingIn, Embedded, WrittenOut}
 use Rattle.canonical.specs.declared.LaidOut.{LaidOut}
@@ -28,15 +29,15 @@ use Rattle.laying.proofs.RecordLaws.{records-laid}
 
 -- the pattern is the model's, and the images are the list
 module _ {b : List ℕ} {s : ℕ} {l : List ℕ} {k : ℕ} (f : LayoutFacts b s l k) where
-  embedded : (length (listOf l) ≡ length (selected (caseOf b) s)) × Placement (caseOf b .summary) (selected (caseOf b) s) (imageIn (listOf l))
-  embedded = embeddings-sound (selected-facts (caseOf b) s (f .case .facts) .tree) (f .case .facts .summary .tree) (f .placement)
+  embedded : (length (listOf l) ≡ length (selected (caseOf b) s)) × SummaryEmbedding (caseOf b .summary) (selected (caseOf b) s) (imageIn (listOf l))
+  embedded = embeddings-sound (selected-facts (caseOf b) s (f .case .facts) .tree) (f .case .facts .summary .tree) (f .embedding)
 
   pub list-fits : length l / 2 ≤ maxPattern
   list-fits = let n = list-count l in let e = embedded .0 in let h = selected-size (f .case) s in omega arith
 
-  module _ {at : ℕ} {images : List ℕ} (images₀ : List ℕ) (here : at ≡ selectedAt b s) (room : maxPattern ≤ length images₀) (read : images ≡ writtenAtFront (listOf l) images₀) where
+  module _ {at : ℕ} {images : List ℕ} (images₀ : List ℕ) (here : at ≡ numberedAt b s) (room : maxPattern ≤ length images₀) (read : images ≡ writtenAtFront (listOf l) images₀) where
     same : selected (caseOf b) s ≡ patternAt b at
-    same = selected-pattern b s at here
+    same = numbered-pattern b s at here
 
     count : length (patternAt b at) ≡ length (listOf l)
     count = ap (λ (P : Pattern). length P) (sym same) ∙ sym (embedded .0)
@@ -60,8 +61,8 @@ module _ {b : List ℕ} {s : ℕ} {l : List ℕ} {k : ℕ} (f : LayoutFacts b s 
               };
           enough = omega arith;
           embedding =
-              subst (λ (P : Pattern). Placement (caseOf b .summary) P (imageIn (embeddingIn b at images))) same
-              (subst (λ (es : List ℕ). Placement (caseOf b .summary) (selected (caseOf b) s) (imageIn es)) (sym list-back) (embedded .1));
+              subst (λ (P : Pattern). SummaryEmbedding (caseOf b .summary) P (imageIn (embeddingIn b at images))) same
+              (subst (λ (es : List ℕ). SummaryEmbedding (caseOf b .summary) (selected (caseOf b) s) (imageIn es)) (sym list-back) (embedded .1));
         }
 
     -- ---- what is then laid out

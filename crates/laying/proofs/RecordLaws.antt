@@ -15,14 +15,15 @@ use Rattle.model.specs.Summary.{Summary}
 use Rattle.model.specs.Pattern.{Pattern}
 use Rattle.model.specs.Canonical.{Spot, rootSpot, spotAt, canonicalSpots, canonical}
 use Rattle.model.specs.Bytes.{caseOf, documentOf, listOf, writtenAtFront}
-use Rattle.model.specs.Questions.{selected, tableLargeEnough, patternGiven, isPlacement, ask, refusal, caseQuestions, layoutRefusal}
+use Rattle.model.specs.Questions.{selected, tableLargeEnough, patternGiven, isSummaryEmbedding, ask, refusal, caseQuestions, layoutRefusal}
 use Rattle.model.specs.Calls.{LaidRecord, laidRecord}
 use Rattle.model.proofs.ListLaws.{getD-map}
 use Rattle.model.proofs.Bytes.{map-range, front-none}
 use Rattle.model.proofs.Calls.{by-number}
 use Rattle.model.proofs.SpotLaws.{spot-parent, spot-label}
 use Rattle.model.proofs.Canonical.{canonical-small}
-use Rattle.model.proofs.Questions.{accepted-layout, selected-facts}
+use Rattle.model.proofs.CallFacts.{accepted-layout}
+use Rattle.model.proofs.CaseFacts.{selected-facts}
 use Rattle.model.proofs.Embeddings.{embeddings-sound}
 use Rattle.format.proofs.FrontLaws.{front-getD}
 use Rattle.questions.proofs.AcceptedLaws.{selected-size}
@@ -80,7 +81,7 @@ module _ (b : List ℕ) (s : ℕ) (l : List ℕ) where
   by-size : (n : ℕ) → minTable ≤ n → layoutRefusal b s l n ≡ layoutRefusal b s l minTable
   unfolding layoutRefusal tableLargeEnough
   by-size n h =
-      ap (λ (t : Bool). refusal (ask 2 t ∷ caseQuestions b ++ ask 12 (patternGiven s) ∷ ask 13 (isPlacement (caseOf b) s l) ∷ []))
+      ap (λ (t : Bool). refusal (ask 2 t ∷ caseQuestions b ++ ask 12 (patternGiven s) ∷ ask 13 (isSummaryEmbedding (caseOf b) s l) ∷ []))
       (le-leb minTable n h ∙ sym (le-leb minTable minTable (omega arith)))
 
   pub accepted-larger : (n : ℕ) → layoutRefusal b s l n ≡ 0 → layoutRefusal b s l minTable ≡ 0
@@ -109,7 +110,7 @@ module _ (b : List ℕ) (s : ℕ) (l : List ℕ) where
           let f = accepted-layout b s l n e in
           let p = selected-facts (caseOf b) s (f .case .facts) .tree in
           subst (λ (k : ℕ). k ≤ maxCanonical) (length-map (laidNodes b s l) _)
-          (canonical-small (caseOf b .summary) (selected (caseOf b) s) (listOf l) (f .case .facts .summary .tree) p (embeddings-sound p (f .case .facts .summary .tree) (f .placement) .1)
+          (canonical-small (caseOf b .summary) (selected (caseOf b) s) (listOf l) (f .case .facts .summary .tree) p (embeddings-sound p (f .case .facts .summary .tree) (f .embedding) .1)
           (f .case .facts .summarySize) (selected-size (f .case) s))
 
   -- a refusal lays out none

@@ -7,7 +7,7 @@ use format::document::document_parent;
 use format::nodes::DocumentNode;
 use format::nodes::SummaryNode;
 use format::nodes::summary_of;
-use questions::pattern::selected_at;
+use questions::pattern::numbered_at;
 use questions::refusals::layout_refusal;
 ghost use mathlib.Core.Path.{_≡_};
 ghost use Prim.Native.Nat.{_<_, _≤_};
@@ -75,7 +75,7 @@ fn accepted_layout(case: &[u8], number: u64, list: &[u8]) -> Laid
     requires { ⌜ layoutRefusal (now case) number (now list) minTable ≡ 0 ⌝ }
     ensures { λ r. ⌜ LaidBy (now (case .entry)) number (now (list .entry)) minTable r ⌝ }
 {
-    let at = selected_at(case, number);
+    let at = numbered_at(case, number);
     let mut images = [0u16; 16];
     read_list(list, &mut images);
     let mut document = [0u8; 4096];

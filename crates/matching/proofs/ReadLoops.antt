@@ -14,7 +14,7 @@ use Rattle.model.specs.Lists.{upFrom, keep}
 use Rattle.model.specs.Bytes.{field, listOf, writtenAtFront}
 use Rattle.model.proofs.ListLaws.{mem-at, length-map-upFrom}
 use Rattle.model.proofs.Bytes.{front-none}
-use Rattle.model.proofs.Questions.{ListFacts}
+use Rattle.model.proofs.CallFacts.{ListFacts}
 use Rattle.format.proofs.RangeLaws.{upFrom-last, getD-map-below}
 use Rattle.format.proofs.FrontLaws.{fill-none, fill-more, front-set}
 use Rattle.matching.specs.Wanted.{SmallNumbers}

@@ -5,27 +5,14 @@ use mathlib.Core.Path.{_≡_, refl, sym, _∙_, subst}
 use mathlib.Core.Bool.{Bool, true, false}
 use mathlib.Core.Logic.{_⊎_, inl, inr, _↔_}
 use mathlib.Core.List.{List, [], _∷_, _++_, flatMap, List·Memᴰ, List·Memᴰ·head, List·Memᴰ·tail, List·Memᴰ·not-nil, List·Memᴰ·cases-cons, List·Memᴰ·append-cases}
-use native.Mathlib.Nat.{not-suc-le-zero, le-of-suc-le-suc}
-use lib.ListN.{length, getD}
 use Rattle.model.specs.Lists.{upFrom, keep}
-use Rattle.model.proofs.ListLaws.{mem-at, upFrom-mem, keep-elim, flat-elim}
+use Rattle.model.proofs.ListLaws.{upFrom-mem, keep-elim, flat-elim}
 
 module _ {A : Type 0} (R : A → A → Type 0) where
   -- each element stands in the relation R to every later one
   abbrev pub Ascending : List A → Type 0
   Ascending [] = Unit {0}
   Ascending (x ∷ xs) = ((y : A) → List·Memᴰ y xs → R x y) × Ascending xs
-
-  -- by places: what stands earlier is in the relation to what stands later
-  pub ascending-at : (xs : List A) → Ascending xs → (i j : ℕ) (d : A) → i < j → j < length xs → R (getD xs i d) (getD xs j d)
-  ascending-at [] a i j d h k = absurd (not-suc-le-zero k)
-  ascending-at (x ∷ xs) a i zero d h k = absurd (not-suc-le-zero h)
-  ascending-at (x ∷ xs) a zero (suc j) d h k = a .0 (getD xs j d) (mem-at xs j d (le-of-suc-le-suc k))
-  ascending-at (x ∷ xs) a (suc i) (suc j) d h k = ascending-at xs (a .1) i j d (le-of-suc-le-suc h) (le-of-suc-le-suc k)
-
-  -- so nothing stands in two places, where nothing is in the relation to itself
-  pub ascending-distinct : ((x : A) → R x x → ⊥) → (xs : List A) → Ascending xs → (i j : ℕ) (d : A) → i < j → j < length xs → getD xs i d ≡ getD xs j d → ⊥
-  ascending-distinct irr xs a i j d h k e = irr (getD xs j d) (subst (λ (x : A). R x (getD xs j d)) e (ascending-at xs a i j d h k))
 
   -- two ascending lists with the same members are equal
   pub ascending-unique : ((x y : A) → R x y → R y x → ⊥) → (xs ys : List A) → Ascending xs → Ascending ys

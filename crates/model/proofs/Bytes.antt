@@ -7,7 +7,7 @@ use mathlib.Core.Bool.{Bool, true, false, false≢true}
 use mathlib.Core.Logic.{_↔_}
 use mathlib.Core.List.{List, [], _∷_, _++_, map, flatMap, List·Memᴰ, List·Memᴰ·head, List·Memᴰ·tail}
 use native.Mathlib.Omega.{arith}
-use native.Mathlib.Nat.{not-suc-le-zero, le-of-suc-le-suc, add-zero, zero-add, add-assoc, zero-lt-suc, mul-div-right, mul-mod-right}
+use native.Mathlib.Nat.{not-suc-le-zero, le-of-suc-le-suc, add-zero, zero-add, add-assoc, zero-lt-suc, mul-div-right}
 use lib.Dec.{eqb, leb, lit<}
 use lib.ListN.{length, getD, take, drop, length-append, length-drop, List·getD-append}
 use lib.Seq.{getD-append-add, take-append-seam, getD-drop}
@@ -17,7 +17,7 @@ use Rattle.model.specs.Limits.{maxCaseBytes, summaryWidth, patternWidth,
 use Rattle.model.specs.Tree.{Document, noDocumentRecord}
 use Rattle.model.specs.Summary.{noSummaryRecord}
 use Rattle.model.specs.Pattern.{noPatternRecord}
-use Rattle.model.specs.Bytes.{field, fieldBytes, bytesOf, recordsAt, summaryRecordAt, patternRecordAt, documentRecordAt, section, sectionEnd, firstAt, secondAt, caseEnd, Case, caseOf, WholeCase, isWholeCase, Decoded, tables, notWhole, decodeCase, documentOf, isWholeDocument, decodeDocument, listOf, isWholeList, summaryFields, patternFields, documentFields, sectionFields, caseFields, encodeCase, encodeDocument, encodeList, writtenAtFront}
+use Rattle.model.specs.Bytes.{field, fieldBytes, bytesOf, recordsAt, summaryRecordAt, patternRecordAt, documentRecordAt, section, sectionEnd, firstAt, secondAt, caseEnd, Case, caseOf, WholeCase, isWholeCase, Decoded, tables, notWhole, decodeCase, documentOf, isWholeDocument, decodeDocument, listOf, summaryFields, patternFields, documentFields, sectionFields, caseFields, encodeCase, encodeDocument, encodeList, writtenAtFront}
 use Rattle.model.proofs.ListLaws.{and-intro, and-left, and-right}
 
 -- ---- the whole case
@@ -67,16 +67,6 @@ unfolding bytesOf flatMap fieldBytes field
 field-bytes [] h i = refl
 field-bytes (f ∷ fs) h zero = let k : f < 65_536 = h f (List·Memᴰ·head refl) in omega arith
 field-bytes (f ∷ fs) h (suc i) = field-next (f % 256) (f / 256 % 256) (bytesOf fs) i ∙ field-bytes fs (λ g m. h g (List·Memᴰ·tail m)) i
-
--- a field of any bytes fits a field
-pub field-fits : (b : List ℕ) → ((x : ℕ) → List·Memᴰ x b → x < 256) → (i : ℕ) → field b i < 65_536
-unfolding field
-field-fits b h i = let low = at b h (2 * i) in let high = at b h (2 * i + 1) in omega arith
-  where
-    at : (b : List ℕ) → ((x : ℕ) → List·Memᴰ x b → x < 256) → (n : ℕ) → getD b n 0 < 256
-    at [] h n = lit< tt
-    at (x ∷ b) h zero = h x (List·Memᴰ·head refl)
-    at (x ∷ b) h (suc n) = at b (λ y m. h y (List·Memᴰ·tail m)) n
 
 -- ---- sections
 
@@ -228,10 +218,6 @@ unfolding listOf encodeList
 list-back ns h =
     let half : length (bytesOf ns) / 2 ≡ length ns = ap (λ (n : ℕ). n / 2) (length-bytes ns) ∙ mul-div-right (length ns) (lit< tt) in
     ap (λ (n : ℕ). map (field (bytesOf ns)) (upFrom 0 n)) half ∙ map-range (field (bytesOf ns)) 0 ns 0 (holds-bytes ns h)
-
-pub list-whole : (ns : List ℕ) → isWholeList (encodeList ns) ≡ true
-unfolding isWholeList encodeList
-list-whole ns = eq-eqb (length (bytesOf ns) % 2) 0 (ap (λ (n : ℕ). n % 2) (length-bytes ns) ∙ mul-mod-right 2 (length ns))
 
 -- a case: the bytes hold its three sections one after another
 module _ (c : Case) (h : FitFields (caseFields c)) where

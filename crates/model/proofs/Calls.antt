@@ -4,26 +4,20 @@ use Prim.Native.Nat.{ℕ, zero, suc, _*_, _≤_}
 use mathlib.Core.Path.{_≡_, refl, ap, _∙_}
 use mathlib.Core.Bool.{Bool, true, false}
 use mathlib.Core.Logic.{_≢_}
-use mathlib.Core.List.{List, _∷_, map}
+use mathlib.Core.List.{List, _∷_}
 use native.Mathlib.Omega.{arith}
 use lib.Dec.{eqb}
-use lib.ListN.{length, replicate, length-map}
+use lib.ListN.{length, replicate}
 use borrow.Author.Tests.{eq-eqb, ne-eqb}
-use Rattle.model.specs.Lists.{upFrom}
-use Rattle.model.specs.Limits.{minBuffer, minTable, maxPattern, maxDocument}
-use Rattle.model.specs.Tree.{Document}
-use Rattle.model.specs.Summary.{Summary}
-use Rattle.model.specs.Pattern.{Pattern}
-use Rattle.model.specs.Embeddings.{isResult, isAt, nodesAt}
+use Rattle.model.specs.Limits.{minBuffer, maxPattern}
+use Rattle.model.specs.Embeddings.{isResult, nodesAt}
 use Rattle.model.specs.Fitting.{fits}
-use Rattle.model.specs.Canonical.{Spot, canonicalSpots}
 use Rattle.model.specs.Verdict.{verdict}
 use Rattle.model.specs.Bytes.{caseOf, documentOf, listOf, encodeCounted}
 use Rattle.model.specs.Questions.{selected, verdictRefusal, fitsRefusal, resultRefusal, nodesRefusal, pathsRefusal, layoutRefusal}
-use Rattle.model.specs.Calls.{VerdictOutcome, shown, verdictAccepted, verdictRefused, verdictCall, TestAnswer, testAnswer, fitsCall, resultCall, NodesOutcome, nodesAccepted, nodesRefused, nodesCall, pathsAccepted, pathsRefused, pathsCall, LaidRecord, laidRecord, LayoutOutcome, layoutAccepted, layoutRefused, layoutCall}
-use Rattle.model.proofs.ListLaws.{length-upFrom, length-keep}
+use Rattle.model.specs.Calls.{VerdictOutcome, shown, verdictAccepted, verdictRefused, verdictCall, TestAnswer, testAnswer, fitsCall, resultCall, nodesAccepted, nodesRefused, nodesCall, pathsAccepted, pathsRefused, pathsCall, LaidRecord, layoutAccepted, layoutRefused, layoutCall}
 use Rattle.model.proofs.Bytes.{length-bytes, front-length}
-use Rattle.model.proofs.Questions.{accepted-verdict, accepted-nodes, accepted-layout}
+use Rattle.model.proofs.CallFacts.{accepted-verdict}
 
 -- ---- the choice by the refusal's number
 
@@ -146,40 +140,6 @@ verdict-length b L tally buffer fit =
     ∙ front-length (shown (caseOf b .summary) (caseOf b .first) (verdict (caseOf b .summary) (caseOf b .first) (caseOf b .second) L)) buffer (omega arith))
     (λ f. ap (λ (o : VerdictOutcome). length (o .buffer)) (verdict-refused b L tally buffer f))
 
-length-nodes : (P : Pattern) (W : Document) (p : ℕ) → length (nodesAt P W p) ≤ length W
-unfolding nodesAt
-length-nodes P W p = let k = length-keep (isAt P W p) (upFrom 0 (length W)) in let e = length-upFrom 0 (length W) in omega arith
-
 pub length-counted : (ns : List ℕ) → length (encodeCounted ns) ≡ 2 * suc (length ns)
 unfolding encodeCounted
 length-counted ns = length-bytes (length ns ∷ ns)
-
--- the answer buffer of the nodes at a position: at most 1,024 numbers and their count fit
-pub nodes-length : (b : List ℕ) (s : ℕ) (w : List ℕ) (p : ℕ) (buffer : List ℕ) → length (nodesCall b s w p buffer .buffer) ≡ length buffer
-unfolding nodesAccepted
-nodes-length b s w p buffer =
-    by-number (nodesRefusal b s w p (length buffer))
-    (λ e.
-    let nodes : List ℕ = nodesAt (selected (caseOf b) s) (documentOf w) p in
-    let large : minBuffer ≤ length buffer = accepted-nodes b s w p (length buffer) e .buffer in
-    let size : length (documentOf w) ≤ maxDocument = accepted-nodes b s w p (length buffer) e .document .size in
-    let few : length nodes ≤ length (documentOf w) = length-nodes (selected (caseOf b) s) (documentOf w) p in
-    let bytes : length (encodeCounted nodes) ≡ 2 * suc (length nodes) = length-counted nodes in
-    ap (λ (o : NodesOutcome). length (o .buffer)) (nodes-accepted b s w p buffer e) ∙ front-length (encodeCounted nodes) buffer (omega arith))
-    (λ f. ap (λ (o : NodesOutcome). length (o .buffer)) (nodes-refused b s w p buffer f))
-
--- the lent table, where the trial has at most 1,024 nodes
-pub layout-length : (b : List ℕ) (s : ℕ) (l : List ℕ) (table : List LaidRecord)
-    → (layoutRefusal b s l (length table) ≡ 0 → length (canonicalSpots (caseOf b .summary) (selected (caseOf b) s) (listOf l)) ≤ minTable)
-    → length (layoutCall b s l table .table) ≡ length table
-unfolding layoutAccepted
-layout-length b s l table fit =
-    by-number (layoutRefusal b s l (length table))
-    (λ e.
-    let S : Summary = caseOf b .summary in
-    let spots : List Spot = canonicalSpots S (selected (caseOf b) s) (listOf l) in
-    let large : minTable ≤ length table = accepted-layout b s l (length table) e .table in
-    let small = fit e in
-    let count : length (map (laidRecord S) spots) ≡ length spots = length-map spots (laidRecord S) in
-    ap (λ (o : LayoutOutcome). length (o .table)) (layout-accepted b s l table e) ∙ front-length (map (laidRecord S) spots) table (omega arith))
-    (λ f. ap (λ (o : LayoutOutcome). length (o .table)) (layout-refused b s l table f))

@@ -10,7 +10,7 @@ use lib.ListN.{length, getD, length-map}
 use Rattle.model.specs.Limits.{maxSummary, maxPattern, maxCanonical}
 use Rattle.model.specs.Tree.{IsTree}
 use Rattle.model.specs.Summary.{Summary, asDocument}
-use Rattle.model.specs.Pattern.{Pattern, IsPatternTree, patternParent, descends, Placement}
+use Rattle.model.specs.Pattern.{Pattern, IsPatternTree, patternParent, descends, SummaryEmbedding}
 use Rattle.model.specs.Embeddings.{imageIn}
 use Rattle.model.specs.Canonical.{Spot, rootSpot, spotParent, chain, chains, nodeBound, canonicalSpots, canonical, ownNodes, spotRecord}
 use Rattle.model.proofs.TreeLaws.{edge-below}
@@ -20,7 +20,7 @@ use Rattle.model.proofs.Built.{ChainedTo, FirstOf, NodeFacts, Built}
 use Rattle.model.proofs.ChainPhase.{chains-built}
 use Rattle.model.proofs.FillPhase.{Served, Complete, fill-built, fill-complete, few-nodes}
 
-module _ (S : Summary) (P : Pattern) (es : List ℕ) (tree : IsTree (asDocument S)) (ordered : IsPatternTree P) (placed : Placement S P (imageIn es)) where
+module _ (S : Summary) (P : Pattern) (es : List ℕ) (tree : IsTree (asDocument S)) (ordered : IsPatternTree P) (placed : SummaryEmbedding S P (imageIn es)) where
   pub canonical-built : Built S P es (length P) (canonicalSpots S P es) (ownNodes S P es)
   unfolding canonicalSpots ownNodes
   canonical-built = fill-built tree (nodeBound S P) (chains S P es .spots) 0 (chains-built S P es tree ordered placed) .built

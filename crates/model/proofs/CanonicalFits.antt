@@ -9,7 +9,7 @@ use native.Mathlib.Omega.{arith}
 use lib.ListN.{length}
 use Rattle.model.specs.Tree.{IsTree, Child, Below, Edge, Hom}
 use Rattle.model.specs.Summary.{Summary, asDocument, summaryLabel, StrongEdge, OnPath, Fits}
-use Rattle.model.specs.Pattern.{Pattern, IsPatternTree, patternParent, patternLabel, labelFits, descends, returnNodes, Embeds, Result, Placement}
+use Rattle.model.specs.Pattern.{Pattern, IsPatternTree, patternParent, patternLabel, labelFits, descends, returnNodes, Embeds, Result, SummaryEmbedding}
 use Rattle.model.specs.Embeddings.{imageIn}
 use Rattle.model.specs.Canonical.{Spot, spotAt, chain}
 use Rattle.model.specs.Facts.{SummaryFacts}
@@ -109,7 +109,7 @@ module _ {S : Summary} {P : Pattern} {es : List ℕ} {spots : List Spot} {own : 
   own-edge f t d q p h true e = own-descends t d q p h
   own-edge f t d q p h false e = own-child f d q p h e
 
-  pub laid-own : IsTree (asDocument S) → IsPatternTree P → Placement S P (imageIn es) → Laid S P es spots own → Embeds P (spotDocument S spots) (imageIn own)
+  pub laid-own : IsTree (asDocument S) → IsPatternTree P → SummaryEmbedding S P (imageIn es) → Laid S P es spots own → Embeds P (spotDocument S spots) (imageIn own)
   laid-own f t m d =
       record {
         inside = λ q h. in-document S spots (imageIn own q) (d .ownInside q h);
@@ -119,5 +119,5 @@ module _ {S : Summary} {P : Pattern} {es : List ℕ} {spots : List Spot} {own : 
       }
 
   -- so the own nodes at positions 1 to k are a result
-  pub laid-result : IsTree (asDocument S) → IsPatternTree P → Placement S P (imageIn es) → Laid S P es spots own → Result P (spotDocument S spots) (map (imageIn own) (returnNodes P))
+  pub laid-result : IsTree (asDocument S) → IsPatternTree P → SummaryEmbedding S P (imageIn es) → Laid S P es spots own → Result P (spotDocument S spots) (map (imageIn own) (returnNodes P))
   laid-result f t m d = record { image = imageIn own; embeds = laid-own f t m d; returns = refl }

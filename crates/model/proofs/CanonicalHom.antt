@@ -10,7 +10,7 @@ use native.Mathlib.Omega.{arith}
 use lib.ListN.{length}
 use Rattle.model.specs.Tree.{Document, IsTree, Child, Below, Hom}
 use Rattle.model.specs.Summary.{Summary, asDocument, summaryLabel, OnPath, Fits}
-use Rattle.model.specs.Pattern.{Pattern, IsPatternTree, patternParent, descends, returnNodes, Embeds, Placement}
+use Rattle.model.specs.Pattern.{Pattern, IsPatternTree, patternParent, descends, returnNodes, Embeds, SummaryEmbedding}
 use Rattle.model.specs.Embeddings.{imageIn}
 use Rattle.model.specs.Canonical.{Spot, spotParent, spotAt, chain}
 use Rattle.model.specs.Facts.{SummaryFacts, PatternFacts}
@@ -31,7 +31,7 @@ use Rattle.model.proofs.TreeChoice.{Chosen, choose}
 abbrev pub pathsOf : Summary → Pattern → Document → (ℕ → ℕ) → List ℕ
 pathsOf S P W e = imagesOf P (λ q. pathIn S W (e q))
 
-pub paths-placed : {S : Summary} {P : Pattern} {W : Document} {e : ℕ → ℕ} → SummaryFacts S → IsPatternTree P → Fits S W → Embeds P W e → Placement S P (imageIn (pathsOf S P W e))
+pub paths-placed : {S : Summary} {P : Pattern} {W : Document} {e : ℕ → ℕ} → SummaryFacts S → IsPatternTree P → Fits S W → Embeds P W e → SummaryEmbedding S P (imageIn (pathsOf S P W e))
 paths-placed {S} {P} {W} {e} f t w m = embeds-ext (imageIn (pathsOf S P W e)) t (λ q h. sym (image-imagesOf P (λ x. pathIn S W (e x)) q h)) (hom-embeds m (path-hom f w))
 
 -- ---- the map

@@ -12,7 +12,7 @@ use lib.Seq.{getD-append-seam}
 use borrow.Author.Tests.{eqb-true, eqb-false, ltb-true, ltb-false}
 use Rattle.model.specs.Tree.{IsTree}
 use Rattle.model.specs.Summary.{Summary, asDocument}
-use Rattle.model.specs.Pattern.{Pattern, PatternRecord, noPatternRecord, IsPatternTree, patternParent, Placement, descends}
+use Rattle.model.specs.Pattern.{Pattern, PatternRecord, noPatternRecord, IsPatternTree, patternParent, SummaryEmbedding, descends}
 use Rattle.model.specs.Embeddings.{imageIn}
 use Rattle.model.specs.Canonical.{Spot, rootSpot, spotParent, spotAt, chain, appendChain, Layout, layNode, layNodes, rootLayout, chains}
 use Rattle.model.proofs.ListLaws.{length-snoc, drop-begins}
@@ -361,7 +361,7 @@ pub drop-one : (P : Pattern) → drop 1 P ≡ tail P
 drop-one [] = refl
 drop-one (r ∷ rs) = refl
 
-module _ (S : Summary) (P : Pattern) (es : List ℕ) (tree : IsTree (asDocument S)) (ordered : IsPatternTree P) (placed : Placement S P (imageIn es)) where
+module _ (S : Summary) (P : Pattern) (es : List ℕ) (tree : IsTree (asDocument S)) (ordered : IsPatternTree P) (placed : SummaryEmbedding S P (imageIn es)) where
   lay-node : (l : Layout) (m : ℕ) → Built S P es m (l .spots) (l .own) → 0 < m → m < length P
       → Built S P es (suc m) (laid S es l m (patternParent P m) .spots) (laid S es l m (patternParent P m) .own)
   lay-node l m b p h =

@@ -8,7 +8,7 @@ use mathlib.Core.List.{List, map}
 use lib.ListN.{length}
 use Rattle.model.specs.Tree.{Document, IsTree, Hom}
 use Rattle.model.specs.Summary.{Summary, Fits}
-use Rattle.model.specs.Pattern.{Pattern, returnNodes, Result, ResultOfSome, Placement, Contained, ContainedIn}
+use Rattle.model.specs.Pattern.{Pattern, returnNodes, Result, ResultOfSome, SummaryEmbedding, Contained, ContainedIn}
 use Rattle.model.specs.Embeddings.{imageIn}
 use Rattle.model.specs.Canonical.{canonicalSpots, canonical, ownNodes, ownResult}
 use Rattle.model.specs.Facts.{SummaryFacts, PatternFacts}
@@ -28,22 +28,23 @@ pub record KeptByHoms (Passes : Document → List ℕ → Type 0) : Type 0 where
 pub result-kept : (Q : Pattern) → KeptByHoms (Result Q)
 result-kept Q = record { keeps = λ W D h r t m p. hom-result p m }
 
+-- what #101 asks of a set of second selections is kept too
 pub some-result-kept : (Qs : List Pattern) → KeptByHoms (ResultOfSome Qs)
 some-result-kept Qs = record { keeps = λ W D h r t m p. record { pattern = p .pattern; among = p .among; result = hom-result (p .result) m } }
 
 -- every placement's own nodes pass in its canonical document
-abbrev pub TrialsPass : Summary → Pattern → (Document → List ℕ → Type 0) → Type 0
-TrialsPass S P Passes = (es : List ℕ) → length es ≡ length P → Placement S P (imageIn es) → Passes (canonical S P es) (ownResult S P es)
+abbrev pub CanonicalsPass : Summary → Pattern → (Document → List ℕ → Type 0) → Type 0
+CanonicalsPass S P Passes = (es : List ℕ) → length es ≡ length P → SummaryEmbedding S P (imageIn es) → Passes (canonical S P es) (ownResult S P es)
 
 module _ {S : Summary} {P : Pattern} (f : SummaryFacts S) (g : PatternFacts P) where
-  laid : (es : List ℕ) → Placement S P (imageIn es) → Laid S P es (canonicalSpots S P es) (ownNodes S P es)
+  laid : (es : List ℕ) → SummaryEmbedding S P (imageIn es) → Laid S P es (canonicalSpots S P es) (ownNodes S P es)
   laid es m = canonical-laid S P es (f .tree) (g .tree) m
 
-  pub canonical-fits : (es : List ℕ) → length es ≡ length P → Placement S P (imageIn es) → Fits S (canonical S P es)
+  pub canonical-fits : (es : List ℕ) → length es ≡ length P → SummaryEmbedding S P (imageIn es) → Fits S (canonical S P es)
   unfolding canonical
   canonical-fits es l m = laid-fits f (laid es m)
 
-  pub canonical-result : (es : List ℕ) → length es ≡ length P → Placement S P (imageIn es) → Result P (canonical S P es) (ownResult S P es)
+  pub canonical-result : (es : List ℕ) → length es ≡ length P → SummaryEmbedding S P (imageIn es) → Result P (canonical S P es) (ownResult S P es)
   unfolding canonical ownResult
   canonical-result es l m = laid-result (f .tree) (g .tree) m (laid es m)
 
@@ -61,24 +62,24 @@ module _ {S : Summary} {P : Pattern} (f : SummaryFacts S) (g : PatternFacts P) w
       go (h, m, a) = (h, m, sym (k .returns ∙ own-result-carried (k .image) h (ownNodes S P es) g a))
 
   -- contained exactly when every trial passes
-  pub contained-trials : (Passes : Document → List ℕ → Type 0) → KeptByHoms Passes → ContainedIn S P Passes ↔ TrialsPass S P Passes
-  contained-trials Passes kept = (there, back)
+  pub contained-canonicals : (Passes : Document → List ℕ → Type 0) → KeptByHoms Passes → ContainedIn S P Passes ↔ CanonicalsPass S P Passes
+  contained-canonicals Passes kept = (there, back)
     where
-      there : ContainedIn S P Passes → TrialsPass S P Passes
+      there : ContainedIn S P Passes → CanonicalsPass S P Passes
       there c es l m = c (canonical S P es) (canonical-fits es l m) (ownResult S P es) (canonical-result es l m)
 
-      back : TrialsPass S P Passes → ContainedIn S P Passes
+      back : CanonicalsPass S P Passes → ContainedIn S P Passes
       back c W w r k =
           let es : List ℕ = pathsOf S P W (k .image) in
           let l : length es ≡ length P = length-imagesOf P (λ q. pathIn S W (k .image q)) in
-          let m : Placement S P (imageIn es) = paths-placed f (g .tree) w (k .embeds) in
+          let m : SummaryEmbedding S P (imageIn es) = paths-placed f (g .tree) w (k .embeds) in
           let b = result-carried W r w k in
           subst (Passes W) (b .2) (kept .keeps (canonical S P es) W (b .0) (ownResult S P es) (canonical-fits es l m .tree) (b .1) (c es l m))
 
   -- in one second pattern
-  pub contained-in-one : (Q : Pattern) → Contained S P Q ↔ TrialsPass S P (Result Q)
-  contained-in-one Q = contained-trials (Result Q) (result-kept Q)
+  pub contained-in-one : (Q : Pattern) → Contained S P Q ↔ CanonicalsPass S P (Result Q)
+  contained-in-one Q = contained-canonicals (Result Q) (result-kept Q)
 
-  -- in several together
-  pub contained-in-some : (Qs : List Pattern) → ContainedIn S P (ResultOfSome Qs) ↔ TrialsPass S P (ResultOfSome Qs)
-  contained-in-some Qs = contained-trials (ResultOfSome Qs) (some-result-kept Qs)
+  -- in several together, as #101 asks
+  pub contained-in-some : (Qs : List Pattern) → ContainedIn S P (ResultOfSome Qs) ↔ CanonicalsPass S P (ResultOfSome Qs)
+  contained-in-some Qs = contained-canonicals (ResultOfSome Qs) (some-result-kept Qs)

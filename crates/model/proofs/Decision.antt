@@ -9,13 +9,13 @@ use lib.ListN.{length}
 use Rattle.model.specs.Limits.{maxSummary, maxPattern, maxCanonical}
 use Rattle.model.specs.Tree.{Document, IsTree}
 use Rattle.model.specs.Summary.{Summary, Fits}
-use Rattle.model.specs.Pattern.{Pattern, arity, Result, ResultOfSome, Placement, Contained, ContainedIn, CounterExample}
+use Rattle.model.specs.Pattern.{Pattern, arity, Result, ResultOfSome, SummaryEmbedding, Contained, ContainedIn, CounterExample}
 use Rattle.model.specs.Lists.{anyOf, allOf}
-use Rattle.model.specs.Embeddings.{imageIn, placements, isResult}
+use Rattle.model.specs.Embeddings.{imageIn, summaryEmbeddings, isResult}
 use Rattle.model.specs.Canonical.{canonical, ownResult, passes}
 use Rattle.model.specs.Quick.{quick}
 use Rattle.model.specs.Facts.{SummaryFacts, PatternFacts}
-use Rattle.model.specs.Demands.{SomeCounterExample, AllTrialsPass, SomeTrialFails}
+use Rattle.model.specs.Demands.{SomeCounterExample, AllEmbeddingsPass, SomeEmbeddingFails}
 use Rattle.model.proofs.ListLaws.{true-or-false, not-both, any-intro, any-elim, all-elim, all-counter}
 use Rattle.model.proofs.Embeddings.{embeddings-exact}
 use Rattle.model.proofs.Results.{result-exact}
@@ -33,37 +33,37 @@ result-or-not {Q} {W} r g t = go (true-or-false (isResult Q W r))
 
 module _ {S : Summary} {P : Pattern} (s : SummaryFacts S) (p : PatternFacts P) where
   -- a list among the placements is one
-  pub placed : {es : List ℕ} → List·Memᴰ es (placements S P) → (length es ≡ length P) × Placement S P (imageIn es)
+  pub placed : {es : List ℕ} → List·Memᴰ es (summaryEmbeddings S P) → (length es ≡ length P) × SummaryEmbedding S P (imageIn es)
   placed m = embeddings-exact (p .tree) (s .tree) .0 m
 
   -- a trial volume fits, the first selection's own nodes are a result of it there, and it has at most 1,009 nodes
-  pub trial-fits : {es : List ℕ} → List·Memᴰ es (placements S P) → Fits S (canonical S P es)
-  trial-fits {es} m = let k = placed m in canonical-fits s p es (k .0) (k .1)
+  pub listed-fits : {es : List ℕ} → List·Memᴰ es (summaryEmbeddings S P) → Fits S (canonical S P es)
+  listed-fits {es} m = let k = placed m in canonical-fits s p es (k .0) (k .1)
 
-  pub trial-result : {es : List ℕ} → List·Memᴰ es (placements S P) → Result P (canonical S P es) (ownResult S P es)
-  trial-result {es} m = let k = placed m in canonical-result s p es (k .0) (k .1)
+  pub listed-result : {es : List ℕ} → List·Memᴰ es (summaryEmbeddings S P) → Result P (canonical S P es) (ownResult S P es)
+  listed-result {es} m = let k = placed m in canonical-result s p es (k .0) (k .1)
 
-  pub trial-small : {es : List ℕ} → List·Memᴰ es (placements S P) → length S ≤ maxSummary → length P ≤ maxPattern → length (canonical S P es) ≤ maxCanonical
-  trial-small {es} m a b = canonical-small S P es (s .tree) (p .tree) (placed m .1) a b
+  pub listed-small : {es : List ℕ} → List·Memᴰ es (summaryEmbeddings S P) → length S ≤ maxSummary → length P ≤ maxPattern → length (canonical S P es) ≤ maxCanonical
+  listed-small {es} m a b = canonical-small S P es (s .tree) (p .tree) (placed m .1) a b
 
   module _ {Q : Pattern} (q : PatternFacts Q) where
     -- a trial passes exactly when the own nodes are a result of the second selection
-    pub passes-exact : {es : List ℕ} → List·Memᴰ es (placements S P) → (passes S P Q es ≡ true) ↔ Result Q (canonical S P es) (ownResult S P es)
+    pub passes-exact : {es : List ℕ} → List·Memᴰ es (summaryEmbeddings S P) → (passes S P Q es ≡ true) ↔ Result Q (canonical S P es) (ownResult S P es)
     unfolding passes
-    passes-exact {es} m = result-exact (ownResult S P es) q (trial-fits m .tree)
+    passes-exact {es} m = result-exact (ownResult S P es) q (listed-fits m .tree)
 
     -- included exactly when every trial passes
-    pub contained-exact : Contained S P Q ↔ AllTrialsPass S P Q (placements S P)
+    pub contained-exact : Contained S P Q ↔ AllEmbeddingsPass S P Q (summaryEmbeddings S P)
     contained-exact =
         let c = contained-in-one s p Q in (
           λ k es m. passes-exact m .1 (let l = placed m in c .0 k es (l .0) (l .1)),
-          λ k. c .1 (λ es l m. (let n : List·Memᴰ es (placements S P) = embeddings-exact (p .tree) (s .tree) .1 (l, m) in passes-exact n .0 (k es n))),
+          λ k. c .1 (λ es l m. (let n : List·Memᴰ es (summaryEmbeddings S P) = embeddings-exact (p .tree) (s .tree) .1 (l, m) in passes-exact n .0 (k es n))),
         )
 
     -- a trial that does not pass is a counter-example
-    pub failing-trial : {es : List ℕ} → List·Memᴰ es (placements S P) → passes S P Q es ≡ false → CounterExample S P Q (canonical S P es) (ownResult S P es)
-    failing-trial {es} m e =
-        record { fits = trial-fits m; ofFirst = trial-result m; notOfSecond = λ k. not-both (passes S P Q es) (passes-exact m .1 k) e }
+    pub failing-canonical : {es : List ℕ} → List·Memᴰ es (summaryEmbeddings S P) → passes S P Q es ≡ false → CounterExample S P Q (canonical S P es) (ownResult S P es)
+    failing-canonical {es} m e =
+        record { fits = listed-fits m; ofFirst = listed-result m; notOfSecond = λ k. not-both (passes S P Q es) (passes-exact m .1 k) e }
 
     -- included exactly when there is no counter-example
     pub contained-or-counter : Contained S P Q ↔ (SomeCounterExample S P Q → ⊥)
@@ -74,42 +74,42 @@ module _ {S : Summary} {P : Pattern} (s : SummaryFacts S) (p : PatternFacts P) w
         go W w r k n (inr y) = absurd (n (W, r, record { fits = w; ofFirst = k; notOfSecond = y }))
 
     -- a counter-example of any size exactly when some trial does not pass
-    pub counter-exact : SomeCounterExample S P Q ↔ SomeTrialFails S P Q (placements S P)
-    counter-exact = (λ c. go c (true-or-false (allOf (passes S P Q) (placements S P))), λ (es, m, e). (canonical S P es, ownResult S P es, failing-trial m e))
+    pub counter-exact : SomeCounterExample S P Q ↔ SomeEmbeddingFails S P Q (summaryEmbeddings S P)
+    counter-exact = (λ c. go c (true-or-false (allOf (passes S P Q) (summaryEmbeddings S P))), λ (es, m, e). (canonical S P es, ownResult S P es, failing-canonical m e))
       where
-        go : SomeCounterExample S P Q → (allOf (passes S P Q) (placements S P) ≡ true) ⊎ (allOf (passes S P Q) (placements S P) ≡ false) → SomeTrialFails S P Q (placements S P)
-        go c (inl e) = absurd (contained-or-counter .0 (contained-exact .1 (all-elim (passes S P Q) (placements S P) e)) c)
-        go c (inr e) = all-counter (passes S P Q) (placements S P) e
+        go : SomeCounterExample S P Q → (allOf (passes S P Q) (summaryEmbeddings S P) ≡ true) ⊎ (allOf (passes S P Q) (summaryEmbeddings S P) ≡ false) → SomeEmbeddingFails S P Q (summaryEmbeddings S P)
+        go c (inl e) = absurd (contained-or-counter .0 (contained-exact .1 (all-elim (passes S P Q) (summaryEmbeddings S P) e)) c)
+        go c (inr e) = all-counter (passes S P Q) (summaryEmbeddings S P) e
 
     -- the quick test says whether the trial passes
-    pub quick-exact : arity P ≡ arity Q → {es : List ℕ} → List·Memᴰ es (placements S P) → quick S P Q es ≡ passes S P Q es
-    quick-exact a {es} m = quick-passes (canonical-laid S P es (s .tree) (p .tree) (placed m .1)) s p q a (result-exact (ownResult S P es) q (trial-fits m .tree))
+    pub quick-exact : arity P ≡ arity Q → {es : List ℕ} → List·Memᴰ es (summaryEmbeddings S P) → quick S P Q es ≡ passes S P Q es
+    quick-exact a {es} m = quick-passes (canonical-laid S P es (s .tree) (p .tree) (placed m .1)) s p q a (result-exact (ownResult S P es) q (listed-fits m .tree))
 
-  -- included in several selections together exactly when each placement is quick for one of them
+  -- included in several selections together, as #101 asks, exactly when each placement is quick for one of them
   pub quick-contained : (Qs : List Pattern) → ((Q : Pattern) → List·Memᴰ Q Qs → PatternFacts Q × (arity P ≡ arity Q))
-      → ContainedIn S P (ResultOfSome Qs) ↔ ((es : List ℕ) → List·Memᴰ es (placements S P) → anyOf (λ Q. quick S P Q es) Qs ≡ true)
+      → ContainedIn S P (ResultOfSome Qs) ↔ ((es : List ℕ) → List·Memᴰ es (summaryEmbeddings S P) → anyOf (λ Q. quick S P Q es) Qs ≡ true)
   quick-contained Qs ok = (there, back)
     where
-      says : {es : List ℕ} (Q : Pattern) → List·Memᴰ Q Qs → List·Memᴰ es (placements S P) → (quick S P Q es ≡ true) ↔ Result Q (canonical S P es) (ownResult S P es)
+      says : {es : List ℕ} (Q : Pattern) → List·Memᴰ Q Qs → List·Memᴰ es (summaryEmbeddings S P) → (quick S P Q es ≡ true) ↔ Result Q (canonical S P es) (ownResult S P es)
       says Q n m =
           let g = ok Q n in
           let e = quick-exact (g .0) (g .1) m in
           (λ k. passes-exact (g .0) m .0 (sym e ∙ k), λ k. e ∙ passes-exact (g .0) m .1 k)
 
-      there : ContainedIn S P (ResultOfSome Qs) → (es : List ℕ) → List·Memᴰ es (placements S P) → anyOf (λ Q. quick S P Q es) Qs ≡ true
+      there : ContainedIn S P (ResultOfSome Qs) → (es : List ℕ) → List·Memᴰ es (summaryEmbeddings S P) → anyOf (λ Q. quick S P Q es) Qs ≡ true
       there c es m =
           let l = placed m in
           let k : ResultOfSome Qs (canonical S P es) (ownResult S P es) = contained-in-some s p Qs .0 c es (l .0) (l .1) in
           any-intro (λ Q. quick S P Q es) (k .pattern) Qs (k .among) (says (k .pattern) (k .among) m .1 (k .result))
 
-      back : ((es : List ℕ) → List·Memᴰ es (placements S P) → anyOf (λ Q. quick S P Q es) Qs ≡ true) → ContainedIn S P (ResultOfSome Qs)
+      back : ((es : List ℕ) → List·Memᴰ es (summaryEmbeddings S P) → anyOf (λ Q. quick S P Q es) Qs ≡ true) → ContainedIn S P (ResultOfSome Qs)
       back c =
           contained-in-some s p Qs .1
-          (λ es l m. (let n : List·Memᴰ es (placements S P) = embeddings-exact (p .tree) (s .tree) .1 (l, m) in
+          (λ es l m. (let n : List·Memᴰ es (summaryEmbeddings S P) = embeddings-exact (p .tree) (s .tree) .1 (l, m) in
           let k = any-elim (λ Q. quick S P Q es) Qs (c es n) in
           record { pattern = k .0; among = k .1; result = says (k .0) (k .1) n .0 (k .2) }))
 
   -- and in one alone
-  pub quick-contained-one : {Q : Pattern} → PatternFacts Q → arity P ≡ arity Q → Contained S P Q ↔ ((es : List ℕ) → List·Memᴰ es (placements S P) → quick S P Q es ≡ true)
+  pub quick-contained-one : {Q : Pattern} → PatternFacts Q → arity P ≡ arity Q → Contained S P Q ↔ ((es : List ℕ) → List·Memᴰ es (summaryEmbeddings S P) → quick S P Q es ≡ true)
   quick-contained-one q a =
       (λ c es m. quick-exact q a m ∙ contained-exact q .0 c es m, λ c. contained-exact q .1 (λ es m. sym (quick-exact q a m) ∙ c es m))

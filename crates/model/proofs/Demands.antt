@@ -15,7 +15,7 @@ use Rattle.model.specs.Limits.{maxPattern, maxPosition, maxCanonical, mi
 use Rattle.model.specs.Tree.{Document}
 use Rattle.model.specs.Summary.{Summary, Fits}
 use Rattle.model.specs.Pattern.{PatternRecord, Pattern, arity, returnNodes, Result, AtPosition, PathOf, Contained, CounterExample}
-use Rattle.model.specs.Embeddings.{imageIn, placements, isResult, nodesAt, pathMask, pathCount}
+use Rattle.model.specs.Embeddings.{imageIn, summaryEmbeddings, isResult, nodesAt, pathMask, pathCount}
 use Rattle.model.specs.Fitting.{fits}
 use Rattle.model.specs.Canonical.{canonical, canonicalSpots, ownNodes, ownResult, passes, spotRecord}
 use Rattle.model.specs.Verdict.{Verdict, included, notIncluded, stopped, verdict}
@@ -23,17 +23,18 @@ use Rattle.model.specs.Bytes.{Case, caseOf, documentOf, listOf, encodeDo
 use Rattle.model.specs.Questions.{selected, verdictRefusal, fitsRefusal, resultRefusal, nodesRefusal, pathsRefusal, layoutRefusal}
 use Rattle.model.specs.Calls.{kindIncluded, kindNotIncluded, kindStopped, kindOf, shown, verdictAccepted, verdictCall, fitsCall, resultCall, NodesOutcome, nodesAccepted, nodesCall, PathsAnswer, pathsAccepted, pathsCall, LaidRecord, laidRecord, LayoutOutcome, layoutAccepted, layoutCall}
 use Rattle.model.specs.Facts.{SummaryFacts, PatternFacts, CaseFacts}
-use Rattle.model.specs.Demands.{SomeCounterExample, AllTrialsPass, SomeTrialFails, Shown, Demand3}
+use Rattle.model.specs.Demands.{SomeCounterExample, AllEmbeddingsPass, SomeEmbeddingFails, Shown, Demand3}
 use Rattle.model.proofs.ListLaws.{by-bool, length-map-upFrom, getD-map-upFrom}
 use Rattle.model.proofs.Ascending.{Ascending}
 use Rattle.model.proofs.Masks.{has}
 use Rattle.model.proofs.ReturnNodes.{length-returnNodes}
 use Rattle.model.proofs.Results.{result-exact, nodes-at-exact, nodes-at-ascending, path-mask-exact, path-mask-beyond, path-count-ones}
 use Rattle.model.proofs.Fitting.{fits-exact}
-use Rattle.model.proofs.Decision.{trial-fits, trial-result, trial-small, contained-exact, contained-or-counter, counter-exact, failing-trial}
+use Rattle.model.proofs.Decision.{listed-fits, listed-result, listed-small, contained-exact, contained-or-counter, counter-exact, failing-canonical}
 use Rattle.model.proofs.Verdict.{IsIncluded, IsNotIncluded, IsStopped, few-included, few-not-included, more-stopped, more-never-included, not-included-iff, stopped-iff, included-or-not, not-or-stopped, verdict-judge, verdict-tried, verdict-shown}
-use Rattle.model.proofs.Questions.{accepted-verdict, accepted-fits, accepted-result, accepted-nodes, accepted-paths, accepted-layout, selected-facts}
-use Rattle.model.proofs.Calls.{verdict-accepted, fits-accepted, result-accepted, nodes-accepted, paths-accepted, layout-accepted, length-counted, verdict-length, layout-length}
+use Rattle.model.proofs.CallFacts.{accepted-verdict, accepted-fits, accepted-result, accepted-nodes, accepted-paths, accepted-layout}
+use Rattle.model.proofs.CaseFacts.{selected-facts}
+use Rattle.model.proofs.Calls.{verdict-accepted, fits-accepted, result-accepted, nodes-accepted, paths-accepted, layout-accepted, length-counted, verdict-length}
 use Rattle.model.proofs.Bytes.{front-none, length-document}
 
 -- ---- Demand 2: fits, results, nodes at a position and paths are told exactly by the definitions
@@ -132,10 +133,10 @@ layout-told b s l table e =
     let n : layoutCall b s l table .answer .count ≡ length (canonical S P es) =
     ap (λ (o : LayoutOutcome). o .answer .count) q
     ∙ (length-map (canonicalSpots S P es) (laidRecord S) ∙ sym (length-map (canonicalSpots S P es) (spotRecord S))) in
-    let k : length (canonical S P es) ≤ maxCanonical = trial-small (f .case .facts .summary) g (f .placement) (f .case .facts .summarySize) (selected-size (caseOf b) s (f .case .facts)) in
+    let k : length (canonical S P es) ≤ maxCanonical = listed-small (f .case .facts .summary) g (f .embedding) (f .case .facts .summarySize) (selected-size (caseOf b) s (f .case .facts)) in
     record {
-      fitting = trial-fits (f .case .facts .summary) g (f .placement);
-      own = trial-result (f .case .facts .summary) g (f .placement);
+      fitting = listed-fits (f .case .facts .summary) g (f .embedding);
+      own = listed-result (f .case .facts .summary) g (f .embedding);
       small = subst (λ (x : ℕ). x ≤ maxCanonical) (sym n) k;
       count = n;
       written = ap (λ (o : LayoutOutcome). o .table) q;
@@ -169,9 +170,9 @@ shown-nothing S P (included n) h = refl
 shown-nothing S P (notIncluded n es) h = absurd (h refl)
 shown-nothing S P (stopped n) h = refl
 
-shown-trial : (S : Summary) (P : Pattern) (n : ℕ) (es : List ℕ) → shown S P (notIncluded n es) ≡ encodeDocument (canonical S P es) ++ encodeCounted (ownResult S P es)
+shown-canonical : (S : Summary) (P : Pattern) (n : ℕ) (es : List ℕ) → shown S P (notIncluded n es) ≡ encodeDocument (canonical S P es) ++ encodeCounted (ownResult S P es)
 unfolding shown
-shown-trial S P n es = refl
+shown-canonical S P n es = refl
 
 module _ (c : Case) (f : CaseFacts c) (L : ℕ) where
   abbrev S : Summary
@@ -183,38 +184,38 @@ module _ (c : Case) (f : CaseFacts c) (L : ℕ) where
   abbrev Q : Pattern
   Q = c .second
 
-  abbrev trials : List (List ℕ)
-  trials = placements S P
+  abbrev listed : List (List ℕ)
+  listed = summaryEmbeddings S P
 
   -- at most L placements
-  pub few-counter : length trials ≤ L → IsNotIncluded (verdict S P Q L) ↔ SomeCounterExample S P Q
+  pub few-counter : length listed ≤ L → IsNotIncluded (verdict S P Q L) ↔ SomeCounterExample S P Q
   few-counter h =
       rw (verdict-judge S P Q L)
-      (Iff·trans (few-not-included (passes S P Q) L trials h) (Iff·symm (counter-exact (f .summary) (f .first) (f .second))))
+      (Iff·trans (few-not-included (passes S P Q) L listed h) (Iff·symm (counter-exact (f .summary) (f .first) (f .second))))
 
-  pub few-contained : length trials ≤ L → IsIncluded (verdict S P Q L) ↔ Contained S P Q
+  pub few-contained : length listed ≤ L → IsIncluded (verdict S P Q L) ↔ Contained S P Q
   few-contained h =
       rw (verdict-judge S P Q L)
-      (Iff·trans (few-included (passes S P Q) L trials h) (Iff·symm (contained-exact (f .summary) (f .first) (f .second))))
+      (Iff·trans (few-included (passes S P Q) L listed h) (Iff·symm (contained-exact (f .summary) (f .first) (f .second))))
 
   -- more than L
-  pub more-stops : L < length trials → IsStopped (verdict S P Q L) ↔ AllTrialsPass S P Q (take L trials)
-  more-stops h = rw (verdict-judge S P Q L) (more-stopped (passes S P Q) L trials h)
+  pub more-stops : L < length listed → IsStopped (verdict S P Q L) ↔ AllEmbeddingsPass S P Q (take L listed)
+  more-stops h = rw (verdict-judge S P Q L) (more-stopped (passes S P Q) L listed h)
 
-  pub more-fails : IsNotIncluded (verdict S P Q L) ↔ SomeTrialFails S P Q (take L trials)
-  more-fails = rw (verdict-judge S P Q L) (not-included-iff (passes S P Q) L trials)
+  pub more-fails : IsNotIncluded (verdict S P Q L) ↔ SomeEmbeddingFails S P Q (take L listed)
+  more-fails = rw (verdict-judge S P Q L) (not-included-iff (passes S P Q) L listed)
 
-  pub more-never : L < length trials → IsIncluded (verdict S P Q L) → ⊥
-  more-never h k = more-never-included (passes S P Q) L trials h (rw (← (verdict-judge S P Q L)) k)
+  pub more-never : L < length listed → IsIncluded (verdict S P Q L) → ⊥
+  more-never h k = more-never-included (passes S P Q) L listed h (rw (← (verdict-judge S P Q L)) k)
 
-  pub stops-more : IsStopped (verdict S P Q L) → L < length trials
-  stops-more k = stopped-iff (passes S P Q) L trials .0 (rw (← (verdict-judge S P Q L)) k) .more
+  pub stops-more : IsStopped (verdict S P Q L) → L < length listed
+  stops-more k = stopped-iff (passes S P Q) L listed .0 (rw (← (verdict-judge S P Q L)) k) .more
 
   -- the trial that "not included" shows is a counter-example of at most 1,009 nodes
   shows : (n : ℕ) (es : List ℕ) → verdict S P Q L ≡ notIncluded n es → CounterExample S P Q (canonical S P es) (ownResult S P es) × (length (canonical S P es) ≤ maxCanonical)
   shows n es e =
       let k = verdict-shown S P Q L n es e in
-      (failing-trial (f .summary) (f .first) (f .second) (k .0) (k .1), trial-small (f .summary) (f .first) (k .0) (f .summarySize) (f .firstSize))
+      (failing-canonical (f .summary) (f .first) (f .second) (k .0) (k .1), listed-small (f .summary) (f .first) (k .0) (f .summarySize) (f .firstSize))
 
   accepted-shows : (tally : ℕ) (buffer : List ℕ) → kindOf (verdict S P Q L) ≡ kindNotIncluded → Shown S P Q buffer (verdictAccepted c L tally buffer .buffer)
   unfolding verdictAccepted
@@ -227,7 +228,7 @@ module _ (c : Case) (f : CaseFacts c) (L : ℕ) where
         result = ownResult S P es;
         counterExample = s .0;
         small = s .1;
-        written = ap (λ (v : Verdict). writtenAtFront (shown S P v) buffer) (k .2) ∙ ap (λ (w : List ℕ). writtenAtFront w buffer) (shown-trial S P (k .0) es);
+        written = ap (λ (v : Verdict). writtenAtFront (shown S P v) buffer) (k .2) ∙ ap (λ (w : List ℕ). writtenAtFront w buffer) (shown-canonical S P (k .0) es);
       }
 
   accepted-demand : (tally : ℕ) (buffer : List ℕ) → Demand3 c L tally buffer (verdictAccepted c L tally buffer)
@@ -269,7 +270,7 @@ shown-small c f L = go (verdict (c .summary) (c .first) (c .second) L) refl
         let b : length (encodeCounted r) ≡ 2 * suc (length r) = length-counted r in
         let k : length r ≡ arity (c .first) = length-map (returnNodes (c .first)) (imageIn (ownNodes (c .summary) (c .first) es)) ∙ length-returnNodes (c .first) in
         let l : arity (c .first) ≤ maxPosition = f .arityBound in
-        rw (shown-trial (c .summary) (c .first) n es, length-append (encodeDocument W) (encodeCounted r)) (omega arith)
+        rw (shown-canonical (c .summary) (c .first) n es, length-append (encodeDocument W) (encodeCounted r)) (omega arith)
 
     none : (v : Verdict) → (kindOf v ≡ kindNotIncluded → ⊥) → length (shown (c .summary) (c .first) v) ≤ minBuffer
     none v h = rw (shown-nothing (c .summary) (c .first) v h) (omega arith)
@@ -285,15 +286,3 @@ shown-small c f L = go (verdict (c .summary) (c .first) (c .second) L) refl
 pub verdict-keeps-length : (b : List ℕ) (L tally : ℕ) (buffer : List ℕ) → length (verdictCall b L tally buffer .buffer) ≡ length buffer
 verdict-keeps-length b L tally buffer =
     verdict-length b L tally buffer (λ e. shown-small (caseOf b) (accepted-verdict b L tally (length buffer) e .case .facts) L)
-
-pub layout-keeps-length : (b : List ℕ) (s : ℕ) (l : List ℕ) (table : List LaidRecord) → length (layoutCall b s l table .table) ≡ length table
-unfolding canonical
-layout-keeps-length b s l table =
-    layout-length b s l table
-    (λ e.
-    let t = layout-told b s l table e in
-    let n : length (canonical (caseOf b .summary) (selected (caseOf b) s) (listOf l)) ≡ length (canonicalSpots (caseOf b .summary) (selected (caseOf b) s) (listOf l)) =
-    length-map (canonicalSpots (caseOf b .summary) (selected (caseOf b) s) (listOf l)) (spotRecord (caseOf b .summary)) in
-    let a = t .small in
-    let c = t .count in
-    omega arith)

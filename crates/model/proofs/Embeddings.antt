@@ -17,7 +17,7 @@ use Rattle.model.specs.Pattern.{PatternRecord, Pattern, noPatternRecord,
 use Rattle.model.specs.Embeddings.{edgeTest, reaches, candidate, extend, embeddings, Precedes, imageIn}
 use Rattle.model.proofs.ListLaws.{and-intro, and-left, and-right, length-snoc, drop-begins, length-map-upFrom, getD-map-upFrom, mem-upFrom, upFrom-mem, keep-intro, keep-elim, flat-intro, flat-elim}
 use Rattle.model.proofs.TreeLaws.{test-edge, edge-test}
-use Rattle.model.proofs.Ascending.{Ascending, ascending-distinct, ascending-unique, ascending-keep, ascending-upFrom, ascending-flat}
+use Rattle.model.proofs.Ascending.{Ascending, ascending-unique, ascending-keep, ascending-upFrom, ascending-flat}
 
 -- ---- embeddings, node by node
 
@@ -223,9 +223,6 @@ precedes-asym (x ∷ xs) (y ∷ ys) (inl h) (inr k) = absurd (omega (arith, k .0
 precedes-asym (x ∷ xs) (y ∷ ys) (inr h) (inl k) = absurd (omega (arith, h .0))
 precedes-asym (x ∷ xs) (y ∷ ys) (inr h) (inr k) = precedes-asym xs ys (h .1) (k .1)
 
-pub precedes-irrefl : (xs : List ℕ) → Precedes xs xs → ⊥
-precedes-irrefl xs p = precedes-asym xs xs p p
-
 -- two lists that first differ after es
 precedes-after : (es : List ℕ) (v w : ℕ) (vs ws : List ℕ) → v < w → Precedes (es ++ v ∷ vs) (es ++ w ∷ ws)
 precedes-after [] v w vs ws h = inl h
@@ -258,10 +255,6 @@ extend-ascending W (r ∷ rs) es =
 pub embeddings-ascending : (P : Pattern) (W : Document) → Ascending Precedes (embeddings P W)
 unfolding embeddings
 embeddings-ascending P W = extend-ascending W P []
-
--- and each once
-pub embeddings-distinct : (P : Pattern) (W : Document) (i j : ℕ) → i < j → j < length (embeddings P W) → getD (embeddings P W) i [] ≡ getD (embeddings P W) j [] → ⊥
-embeddings-distinct P W i j = ascending-distinct Precedes precedes-irrefl (embeddings P W) (embeddings-ascending P W) i j []
 
 -- so this is the only list that holds exactly the embeddings in that order
 pub embeddings-unique : {P : Pattern} {W : Document} (fs : List (List ℕ)) → IsPatternTree P → IsTree W → Ascending Precedes fs

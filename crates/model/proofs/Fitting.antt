@@ -17,7 +17,6 @@ use Rattle.model.specs.Embeddings.{childTest}
 use Rattle.model.specs.Fitting.{parentRule, isRooted, strongChildren, pathMap, strongKept, fits}
 use Rattle.model.proofs.ListLaws.{and-intro, and-left, and-right, all-intro, all-elim, keep-intro, keep-elim, all-below, below-all, any-below, below-any, mem-upFrom, mem-at, at-mem}
 use Rattle.model.proofs.TreeLaws.{length-asDocument, test-child-and, child-and-test}
-use Rattle.model.proofs.Ascending.{ascending-at, ascending-keep, ascending-upFrom}
 use Rattle.model.proofs.Paths.{pathIn, on-path-unique, hom-on-path, length-pathMap, inside-hom, path-hom, path-on}
 
 -- ---- trees
@@ -68,11 +67,6 @@ strong-children-exact S s t = (forth, back)
         let size : length (asDocument S) ≡ length S = length-asDocument S in
         let low : t < length (asDocument S) = g .child .inside in
         keep-intro test t (upFrom 0 (length S)) (mem-upFrom 0 (length S) t (omega arith) (omega arith)) (child-and-test (getD S t noSummaryRecord .strong) 1 (g .child) (g .strong))
-
--- they are in outline order
-pub strong-children-ascend : (S : Summary) (s i j : ℕ) → i < j → j < length (strongChildren S s) → getD (strongChildren S s) i 0 < getD (strongChildren S s) j 0
-unfolding strongChildren
-strong-children-ascend S s i j = ascending-at _<_ (strongChildren S s) (ascending-keep _<_ _ (upFrom 0 (length S)) (ascending-upFrom 0 (length S))) i j 0
 
 -- ---- fitting
 

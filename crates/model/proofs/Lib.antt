@@ -27,11 +27,15 @@ pub mod WaysLaws
 pub mod Verdict
 pub mod Skipping
 pub mod Bytes
-pub mod Questions
+pub mod Refusals
+pub mod CountLaws
+pub mod CaseFacts
+pub mod CallFacts
 pub mod Calls
 pub mod Tally
 pub mod Decision
 pub mod Demands
+pub mod Computing
 pub mod Examples
 pub mod Misreadings
 pub mod SkippingExamples

@@ -2,7 +2,7 @@
 -- members, and its trailing zeros give the least one. True digit by digit. Assumes nothing.
 use Prim.Native.Nat.{ℕ, zero, suc, _+_, _*_, _/_, _%_, _^_, _≤_, _<_}
 use mathlib.Core.Path.{_≡_, refl, sym, ap, _∙_, subst}
-use mathlib.Core.Bool.{Bool, true, false, _&&_}
+use mathlib.Core.Bool.{Bool, true, false}
 use native.Mathlib.Omega.{arith}
 use native.Mathlib.Nat.{le-trans, div-eq-of-lt, div-one, one-mul, not-suc-le-zero, le-of-suc-le-suc}
 use lib.Dec.{eqb, ltb}
@@ -11,7 +11,6 @@ use lib.Bits.{block-half, block-odd}
 use lib.Count.{ones, ones-cat, trailingZeros, under}
 use borrow.Author.Tests.{eq-eqb, ltb-true, ltb-false}
 use Rattle.model.specs.Lists.{maskBelow, countBelow}
-use Rattle.model.proofs.ListLaws.{not-both}
 
 -- bit i of the mask m is set
 abbrev pub has : ℕ → ℕ → Bool
@@ -79,14 +78,6 @@ mask-below test (suc n) i h = go (ltb i n) refl (λ k. mask-below test n i k)
 pub mask-past : (test : ℕ → Bool) (n i : ℕ) → n ≤ i → has (maskBelow test n) i ≡ false
 mask-past test n i h = has-past (maskBelow test n) i (le-trans (mask-lt test n) (pow-mono h))
 
--- the bits of a mask, all at once
-pub has-mask : (test : ℕ → Bool) (n i : ℕ) → has (maskBelow test n) i ≡ (ltb i n && test i)
-has-mask test n i = go (ltb i n) refl
-  where
-    go : (t : Bool) → ltb i n ≡ t → has (maskBelow test n) i ≡ (t && test i)
-    go true e = mask-below test n i (ltb-true i n e)
-    go false e = mask-past test n i (ltb-false i n e)
-
 -- a set with no member has the mask 0
 pub mask-none : (test : ℕ → Bool) (n : ℕ) → ((i : ℕ) → i < n → test i ≡ false) → maskBelow test n ≡ 0
 unfolding maskBelow
@@ -129,27 +120,3 @@ trailing-at (suc k) m h = go (m % 2) refl h (λ l. trailing-at k (m / 2) l)
         → has m (under d (trailingZeros k (m / 2))) ≡ true
     go zero e l rest = has-suc m (trailingZeros k (m / 2)) ∙ rest (le-of-suc-le-suc l)
     go (suc d) e l rest = has-zero m ∙ eq-eqb (m % 2) 1 (omega arith)
-
--- the least number that passes a test
-pub record Least (test : ℕ → Bool) (i : ℕ) : Type 0 where
-  pub passes : test i ≡ true
-  pub noneBefore : (j : ℕ) → j < i → test j ≡ false
-
--- the trailing zeros of a mask that holds something give its least member
-pub mask-least : (test : ℕ → Bool) (n k i : ℕ) → n ≤ k → i < n → test i ≡ true → Least test (trailingZeros k (maskBelow test n))
-mask-least test n k i h l e =
-    record {
-      passes = sym (mask-below test n first (omega (arith, up-to))) ∙ trailing-at k (maskBelow test n) (omega (arith, up-to));
-      noneBefore = λ j m. sym (mask-below test n j (omega (arith, up-to))) ∙ trailing-below k (maskBelow test n) j m;
-    }
-  where
-    first : ℕ
-    first = trailingZeros k (maskBelow test n)
-
-    -- or i would be among the zeros
-    go : (t : Bool) → ltb i first ≡ t → first ≤ i
-    go true q = absurd (not-both (test i) e (sym (mask-below test n i l) ∙ trailing-below k (maskBelow test n) i (ltb-true i first q)))
-    go false q = ltb-false i first q
-
-    up-to : first ≤ i
-    up-to = go (ltb i first) refl

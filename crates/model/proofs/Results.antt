@@ -1,29 +1,29 @@
 -- What is read off the list of embeddings says what document 01's words say: results, nodes at a position in any result, paths
 -- and their masks. True because the list holds exactly the embeddings. Assumes nothing.
-use Prim.Native.Nat.{ℕ, _-_, _^_, _≤_, _<_}
+use Prim.Native.Nat.{ℕ, _^_, _≤_, _<_}
 use mathlib.Core.Path.{_≡_, refl, sym, ap, _∙_, subst}
 use mathlib.Core.Bool.{Bool, true, false}
 use mathlib.Core.Logic.{_↔_}
 use mathlib.Core.List.{List, [], map, List·Memᴰ}
 use native.Mathlib.Omega.{arith}
 use lib.Dec.{eqb, ltb}
-use lib.ListN.{length, getD}
+use lib.ListN.{length}
 use native.Mathlib.Nat.{le-trans}
 use lib.Pow.{pow-pos, pow-mono}
-use lib.Count.{ones, trailingZeros}
+use lib.Count.{ones}
 use borrow.Author.Tests.{eqb-true, eq-eqb, lt-ltb, le-ltb, ltb-true, ltb-false}
 use Rattle.model.specs.Lists.{upFrom, anyOf, sameList, maskBelow, countBelow}
 use Rattle.model.specs.Tree.{Document, IsTree}
 use Rattle.model.specs.Summary.{Summary, asDocument}
 use Rattle.model.specs.Pattern.{Pattern, IsPatternTree, arity, nodeAt, returnNodes, Embeds, Result, PathOf, AtPosition}
-use Rattle.model.specs.Embeddings.{embeddings, placements, imageIn, isResult, isAt, nodesAt, isPath, pathMask, pathCount}
+use Rattle.model.specs.Embeddings.{embeddings, summaryEmbeddings, imageIn, isResult, isAt, nodesAt, isPath, pathMask, pathCount}
 use Rattle.model.specs.Facts.{SummaryFacts, PatternFacts}
-use Rattle.model.proofs.ListLaws.{not-both, map-agree, upFrom-mem, mem-upFrom, any-intro, any-elim, keep-intro, keep-elim, same-eq, eq-same}
+use Rattle.model.proofs.ListLaws.{not-both, map-agree, mem-upFrom, any-intro, any-elim, keep-intro, keep-elim, same-eq, eq-same}
 use Rattle.model.proofs.TreeLaws.{length-asDocument}
-use Rattle.model.proofs.Ascending.{Ascending, ascending-unique, ascending-keep, ascending-upFrom}
+use Rattle.model.proofs.Ascending.{Ascending, ascending-keep, ascending-upFrom}
 use Rattle.model.proofs.Embeddings.{embeddings-sound, imagesOf, image-imagesOf, embeddings-complete}
-use Rattle.model.proofs.ReturnNodes.{return-inside, return-at}
-use Rattle.model.proofs.Masks.{has, has-past, mask-lt, mask-below, mask-none, ones-mask, Least, mask-least}
+use Rattle.model.proofs.ReturnNodes.{return-inside}
+use Rattle.model.proofs.Masks.{has, has-past, mask-lt, mask-below, mask-none, ones-mask}
 
 -- ---- results
 
@@ -83,32 +83,10 @@ module _ {P : Pattern} {W : Document} (p v : ℕ) (f : PatternFacts P) (u : IsTr
           let i : v < length W = subst (λ (x : ℕ). x < length W) (m .takes) (m .embeds .inside (nodeAt P p) (f .holds p low top)) in
           keep-intro (isAt P W p) v (upFrom 0 (length W)) (mem-upFrom 0 (length W) v (omega arith) (omega arith)) (at-position-exact .1 m)
 
--- to be at position p is to stand at place p - 1 of some result
-pub at-position-result : {P : Pattern} {W : Document} (p v : ℕ) → 1 ≤ p → p ≤ arity P → AtPosition P W p v ↔ ((r : List ℕ) × Result P W r × (getD r (p - 1) 0 ≡ v))
-at-position-result {P} {W} p v h k = (
-  λ m. (map (m .image) (returnNodes P), record { image = m .image; embeds = m .embeds; returns = refl }, return-at P (m .image) p h k ∙ m .takes),
-  λ m. record {
-    image = m .1 .image;
-    embeds = m .1 .embeds;
-    takes = sym (return-at P (m .1 .image) p h k) ∙ ap (λ (r : List ℕ). getD r (p - 1) 0) (sym (m .1 .returns)) ∙ m .2;
-  },
-)
-
 -- the nodes at a position are written ascending, and are nodes of the document
 pub nodes-at-ascending : (P : Pattern) (W : Document) (p : ℕ) → Ascending _<_ (nodesAt P W p)
 unfolding nodesAt
 nodes-at-ascending P W p = ascending-keep _<_ (isAt P W p) (upFrom 0 (length W)) (ascending-upFrom 0 (length W))
-
-pub nodes-at-inside : (P : Pattern) (W : Document) (p v : ℕ) → List·Memᴰ v (nodesAt P W p) → v < length W
-unfolding nodesAt
-nodes-at-inside P W p v m = let k = upFrom-mem 0 (length W) v (keep-elim (isAt P W p) v (upFrom 0 (length W)) m .0) in omega arith
-
--- so this is the only ascending list that holds exactly the nodes at the position
-pub nodes-at-unique : {P : Pattern} {W : Document} (p : ℕ) (vs : List ℕ) → PatternFacts P → IsTree W → 1 ≤ p → p ≤ arity P → Ascending _<_ vs
-    → ((v : ℕ) → List·Memᴰ v vs ↔ AtPosition P W p v) → vs ≡ nodesAt P W p
-nodes-at-unique {P} {W} p vs f u low top a h =
-    ascending-unique _<_ (λ x y l k. absurd (omega arith)) vs (nodesAt P W p) a (nodes-at-ascending P W p)
-    (λ v. (λ m. nodes-at-exact p v f u low top .1 (h v .0 m), λ m. h v .1 (nodes-at-exact p v f u low top .0 m)))
 
 -- ---- paths
 
@@ -122,7 +100,7 @@ path-exact q s t f h =
 pub path-inside : {S : Summary} {P : Pattern} {q s : ℕ} → PathOf S P q s → q < length P → s < length S
 path-inside {S} {P} {q} {s} m h = subst (λ (x : ℕ). s < x) (length-asDocument S) (subst (λ (x : ℕ). x < length (asDocument S)) (m .takes) (m .places .inside q h))
 
-no-path : (S : Summary) (P : Pattern) (q s : ℕ) → placements S P ≡ [] → isPath S P q s ≡ false
+no-path : (S : Summary) (P : Pattern) (q s : ℕ) → summaryEmbeddings S P ≡ [] → isPath S P q s ≡ false
 unfolding isPath anyOf
 no-path S P q s e = ap (anyOf (λ es. eqb (imageIn es q) s)) e
 
@@ -169,28 +147,10 @@ path-count-ones S P q = go (ltb q (length P))
     go true = sym (ones-mask (isPath S P q) (length S))
     go false = refl
 
--- the trailing zeros of the mask give the first path, where there is one
-pub path-mask-first : {S : Summary} {P : Pattern} (q s k : ℕ) → IsPatternTree P → SummaryFacts S → q < length P → length S ≤ k → PathOf S P q s
-    → PathOf S P q (trailingZeros k (pathMask S P q)) × ((i : ℕ) → i < trailingZeros k (pathMask S P q) → PathOf S P q i → ⊥)
-path-mask-first {S} {P} q s k t f h l m =
-    subst (λ (x : ℕ). PathOf S P q (trailingZeros k x) × ((i : ℕ) → i < trailingZeros k x → PathOf S P q i → ⊥)) (sym (path-mask-of S P q h))
-    (path-exact q first t f h .0 (least .passes), λ i j n. not-both (isPath S P q i) (path-exact q i t f h .1 n) (least .noneBefore i j))
-  where
-    first : ℕ
-    first = trailingZeros k (maskBelow (isPath S P q) (length S))
-
-    least : Least (isPath S P q) first
-    least = mask-least (isPath S P q) (length S) k s l (path-inside m h) (path-exact q s t f h .1 m)
-
 -- where nothing can be placed, no node has a path
-pub path-mask-none : (S : Summary) (P : Pattern) (q : ℕ) → placements S P ≡ [] → pathMask S P q ≡ 0
+pub path-mask-none : (S : Summary) (P : Pattern) (q : ℕ) → summaryEmbeddings S P ≡ [] → pathMask S P q ≡ 0
 path-mask-none S P q e = go (ltb q (length P)) refl
   where
     go : (b : Bool) → ltb q (length P) ≡ b → pathMask S P q ≡ 0
     go true l = path-mask-of S P q (ltb-true q (length P) l) ∙ mask-none (isPath S P q) (length S) (λ s h. no-path S P q s e)
     go false l = path-mask-beyond S P q (ltb-false q (length P) l)
-
--- and a mask 0 counts no path
-pub path-count-zero : (S : Summary) (P : Pattern) (q : ℕ) → pathMask S P q ≡ 0 → pathCount S P q ≡ 0
-unfolding ones
-path-count-zero S P q e = path-count-ones S P q ∙ ap ones e

@@ -17,7 +17,7 @@ use Rattle.model.specs.Summary.{Summary}
 use Rattle.model.specs.Pattern.{Pattern, IsPatternTree, patternParent, position}
 use Rattle.model.specs.Embeddings.{imageIn}
 use Rattle.model.specs.Canonical.{chain}
-use Rattle.model.specs.Quick.{hangsFrom, meets, closed, union, hang, given, quick}
+use Rattle.model.specs.Quick.{hangsFrom, meets, base, union, hang, given, quick}
 use Rattle.model.specs.Verdict.{Progress, going, halted, run}
 use Rattle.model.specs.Skipping.{completions, waysLeft, skip, lowIn, low, sureIn, sure, surely}
 use Rattle.model.proofs.ListLaws.{and-left, and-right, any-agree, all-agree, any-below, all-elim, flat-elim, length-snoc, upFrom-mem}
@@ -215,8 +215,8 @@ module _ (S : Summary) (P Q : Pattern) (places : ℕ → ℕ → List ℕ) (T : 
     pub surely-completed : 0 < q → surely S P Q places q es ≡ true → quick S P Q fs ≡ true
     unfolding surely quick
     surely-completed z e =
-        meets-more S Q 0 (position P 0) (position P 0) (union (closed S Q 0) (sure S P Q places q es 0)) (union (closed S Q 0) (given S P Q fs 0)) (inr refl)
-        (union-more (closed S Q 0) (sure S P Q places q es 0) (given S P Q fs 0) (sure-given (length P) 0 (omega arith) z (T .inhabited))) 0 e
+        meets-more S Q 0 (position P 0) (position P 0) (union (base S Q) (sure S P Q places q es 0)) (union (base S Q) (given S P Q fs 0)) (inr refl)
+        (union-more (base S Q) (sure S P Q places q es 0) (given S P Q fs 0) (sure-given (length P) 0 (omega arith) z (T .inhabited))) 0 e
 
   -- with all nodes placed it is the quick test itself
   whole-given : (n j : ℕ) (es : List ℕ) → length P ≤ n + j → j < length P → sure S P Q places (length P) es j ≡ given S P Q es j
@@ -235,7 +235,7 @@ module _ (S : Summary) (P Q : Pattern) (places : ℕ → ℕ → List ℕ) (T : 
 
   pub surely-whole : (es : List ℕ) → surely S P Q places (length P) es ≡ quick S P Q es
   unfolding surely quick
-  surely-whole es = ap (λ (s : ℕ → Bool). meets S Q 0 (position P 0) (union (closed S Q 0) s) 0) (whole-given (length P) 0 es (omega arith) (T .inhabited))
+  surely-whole es = ap (λ (s : ℕ → Bool). meets S Q 0 (position P 0) (union (base S Q) s) 0) (whole-given (length P) 0 es (omega arith) (T .inhabited))
 
   -- all completions of what surely passes pass
   pub surely-pass : (n : ℕ) (es : List ℕ) → 0 < length es → n + length es ≡ length P → surely S P Q places (length es) es ≡ true → AllPass (quick S P Q) (completions (patternParent P) places n es)

@@ -7,11 +7,11 @@ use mathlib.Core.Logic.{_⊎_, inl, inr, _↔_, ⊎-elim}
 use mathlib.Core.List.{List, [], _∷_, _++_, List·Memᴰ, List·Memᴰ·head, List·Memᴰ·tail, List·Memᴰ·not-nil, List·Memᴰ·cases-cons, Memᴰ·append-left, Memᴰ·append-right}
 use native.Mathlib.Omega.{arith}
 use native.Mathlib.Nat.{zero-add, not-suc-le-zero, le-of-suc-le-suc}
-use lib.ListN.{length, take, drop, take-append-drop, length-append}
+use lib.ListN.{length, take, drop, take-append-drop}
 use lib.Seq.{take-all}
 use Rattle.model.specs.Summary.{Summary}
 use Rattle.model.specs.Pattern.{Pattern}
-use Rattle.model.specs.Embeddings.{placements}
+use Rattle.model.specs.Embeddings.{summaryEmbeddings}
 use Rattle.model.specs.Canonical.{passes}
 use Rattle.model.specs.Verdict.{Progress, going, failed, halted, step, run, Verdict, included, notIncluded, stopped, conclude, judge, verdict, triedOf}
 use Rattle.model.specs.Calls.{kindIncluded, kindNotIncluded, kindStopped, kindOf}
@@ -168,12 +168,6 @@ IsNotIncluded v = (n : ℕ) × (es : List ℕ) × (v ≡ notIncluded n es)
 abbrev pub IsStopped : Verdict → Type 0
 IsStopped v = (n : ℕ) × (v ≡ stopped n)
 
--- a verdict is one of the three
-pub one-of-three : (v : Verdict) → IsIncluded v ⊎ IsNotIncluded v ⊎ IsStopped v
-one-of-three (included n) = inl (n, refl)
-one-of-three (notIncluded n es) = inr (inl (n, es, refl))
-one-of-three (stopped n) = inr (inr (n, refl))
-
 -- the three exclude each other
 pub included-or-not : (v : Verdict) → IsIncluded v → IsNotIncluded v → ⊥
 unfolding kindOf
@@ -284,9 +278,6 @@ module _ (test : List ℕ → Bool) (L : ℕ) (xs : List (List ℕ)) where
   pub few-not-included : length xs ≤ L → IsNotIncluded (judge test L xs) ↔ SomeFails test xs
   few-not-included k = subst (λ (l : List (List ℕ)). IsNotIncluded (judge test L xs) ↔ SomeFails test l) (take-all L xs k) not-included-iff
 
-  pub few-never-stopped : length xs ≤ L → IsStopped (judge test L xs) → ⊥
-  few-never-stopped k v = let more : L < length xs = stopped-iff .0 v .more in omega arith
-
   -- more than L trials: stopped if the first L pass, not included (by `not-included-iff`) if one of these does not, never
   -- included
   pub more-stopped : L < length xs → IsStopped (judge test L xs) ↔ AllPass test (take L xs)
@@ -297,51 +288,25 @@ module _ (test : List ℕ → Bool) (L : ℕ) (xs : List (List ℕ)) where
 
 -- ---- tried
 
-tried-at : (test : List ℕ → Bool) (L : ℕ) (xs : List (List ℕ)) → (triedOf (judge test L xs) ≤ L) × (triedOf (judge test L xs) ≤ length xs)
+-- tried is at most the limit
+pub tried-limit : (test : List ℕ → Bool) (L : ℕ) (xs : List (List ℕ)) → triedOf (judge test L xs) ≤ L
 unfolding triedOf
-tried-at test L xs = go (course test L xs)
+tried-limit test L xs = go (course test L xs)
   where
-    go : Course test L xs → (triedOf (judge test L xs) ≤ L) × (triedOf (judge test L xs) ≤ length xs)
+    go : Course test L xs → triedOf (judge test L xs) ≤ L
     go (inl c) =
         let e : triedOf (judge test L xs) ≡ length xs = ap triedOf (included-judge test L xs c) in
+        let few : length xs ≤ L = c .few in
         omega arith
     go (inr (inl c)) =
-        let n : ℕ = length (c .1 .before) in
-        let e : triedOf (judge test L xs) ≡ suc n = ap triedOf (not-included-judge test L xs (c .0) (c .1)) in
-        let k : n < L = c .1 .within in
-        let l : length xs ≡ n + suc (length (c .1 .after)) = ap length (c .1 .split) ∙ length-append (c .1 .before) (c .0 ∷ c .1 .after) in
+        let e : triedOf (judge test L xs) ≡ suc (length (c .1 .before)) = ap triedOf (not-included-judge test L xs (c .0) (c .1)) in
+        let k : length (c .1 .before) < L = c .1 .within in
         omega arith
     go (inr (inr c)) =
         let e : triedOf (judge test L xs) ≡ L = ap triedOf (stopped-judge test L xs c) in
         omega arith
 
--- tried is at most the limit, and at most how many trials there are
-pub tried-limit : (test : List ℕ → Bool) (L : ℕ) (xs : List (List ℕ)) → triedOf (judge test L xs) ≤ L
-tried-limit test L xs = tried-at test L xs .0
-
-pub tried-length : (test : List ℕ → Bool) (L : ℕ) (xs : List (List ℕ)) → triedOf (judge test L xs) ≤ length xs
-tried-length test L xs = tried-at test L xs .1
-
--- ---- another limit, another test
-
--- a larger limit leaves included and not included as they are
-pub larger-included : (test : List ℕ → Bool) (L M n : ℕ) (xs : List (List ℕ)) → L ≤ M → judge test L xs ≡ included n → judge test M xs ≡ included n
-larger-included test L M n xs h e =
-    let c : (n ≡ length xs) × Included test L xs = judge-included test L xs n e in
-    included-judge test M xs (record { few = omega arith; pass = c .1 .pass }) ∙ ap included (sym (c .0))
-
-pub larger-not-included : (test : List ℕ → Bool) (L M n : ℕ) (es : List ℕ) (xs : List (List ℕ)) → L ≤ M → judge test L xs ≡ notIncluded n es → judge test M xs ≡ notIncluded n es
-larger-not-included test L M n es xs h e =
-    let c : (d : NotIncluded test L xs es) × (n ≡ suc (length (d .before))) = judge-not-included test L xs n es e in
-    not-included-judge test M xs es (record {
-      before = c .0 .before;
-      after = c .0 .after;
-      split = c .0 .split;
-      pass = c .0 .pass;
-      fails = c .0 .fails;
-      within = omega (arith, c .0 .within);
-    })
-    ∙ ap (λ (m : ℕ). notIncluded m es) (sym (c .1))
+-- ---- another test
 
 step-agree : (f g : List ℕ → Bool) (s : Progress) (x : List ℕ) → f x ≡ g x → step f s x ≡ step g s x
 unfolding step
@@ -356,24 +321,19 @@ run-agree f g s [] h = refl
 run-agree f g s (x ∷ xs) h =
     run-agree f g (step f s x) xs (λ y m. h y (List·Memᴰ·tail m)) ∙ ap (λ (p : Progress). run g p xs) (step-agree f g s x (h x (List·Memᴰ·head refl)))
 
--- two tests that agree on the trials give the same verdict
-pub judge-agree : (f g : List ℕ → Bool) (L : ℕ) (xs : List (List ℕ)) → ((x : List ℕ) → List·Memᴰ x xs → f x ≡ g x) → judge f L xs ≡ judge g L xs
-unfolding judge
-judge-agree f g L xs h = ap conclude (run-agree f g (going L 0) xs h)
-
 -- ---- the verdict of a case
 
 -- the verdict is this fold over the placements, by the test whether a placement's trial passes
-pub verdict-judge : (S : Summary) (P Q : Pattern) (L : ℕ) → verdict S P Q L ≡ judge (passes S P Q) L (placements S P)
+pub verdict-judge : (S : Summary) (P Q : Pattern) (L : ℕ) → verdict S P Q L ≡ judge (passes S P Q) L (summaryEmbeddings S P)
 unfolding verdict
 verdict-judge S P Q L = refl
 
 pub verdict-tried : (S : Summary) (P Q : Pattern) (L : ℕ) → triedOf (verdict S P Q L) ≤ L
 unfolding verdict
-verdict-tried S P Q L = tried-limit (passes S P Q) L (placements S P)
+verdict-tried S P Q L = tried-limit (passes S P Q) L (summaryEmbeddings S P)
 
 -- the placement that "not included" shows is one of them, and its trial does not pass
-pub verdict-shown : (S : Summary) (P Q : Pattern) (L n : ℕ) (es : List ℕ) → verdict S P Q L ≡ notIncluded n es → List·Memᴰ es (placements S P) × (passes S P Q es ≡ false)
+pub verdict-shown : (S : Summary) (P Q : Pattern) (L n : ℕ) (es : List ℕ) → verdict S P Q L ≡ notIncluded n es → List·Memᴰ es (summaryEmbeddings S P) × (passes S P Q es ≡ false)
 verdict-shown S P Q L n es e =
-    let k = judge-not-included (passes S P Q) L (placements S P) n es (sym (verdict-judge S P Q L) ∙ e) in
+    let k = judge-not-included (passes S P Q) L (summaryEmbeddings S P) n es (sym (verdict-judge S P Q L) ∙ e) in
     (subst (λ (l : List (List ℕ)). List·Memᴰ es l) (sym (k .0 .split)) (Memᴰ·append-right (k .0 .before) (List·Memᴰ·head refl)), k .0 .fails)

@@ -236,9 +236,6 @@ module _ (m : ℕ) (parent : ℕ → ℕ) (places : ℕ → ℕ → List ℕ) (T
 
 -- ---- counts that are cut at a cap
 
-pub cap-sum : (K a b : ℕ) → min K (min K a + b) ≡ min K (a + b)
-cap-sum K a b = omega arith
-
 -- a factor of 0 is kept by the cap, and any other leaves what reaches the cap there
 pub cap-product : (K a b : ℕ) → min K (min K a * b) ≡ min K (a * b)
 cap-product K a zero = ap (min K) (mul-zero (min K a) ∙ sym (mul-zero a))
@@ -260,33 +257,3 @@ cap-sums K a b = omega arith
 
 pub cap-products : (K a b : ℕ) → min K (min K a * min K b) ≡ min K (a * b)
 cap-products K a b = cap-product K a (min K b) ∙ ap (min K) (mul-comm a (min K b)) ∙ cap-product K b a ∙ ap (min K) (mul-comm b a)
-
-module _ {A : Type 0} (K : ℕ) where
-  pub sum-capped : (f : A → ℕ) (xs : List A) → min K (sumOf (λ x. min K (f x)) xs) ≡ min K (sumOf f xs)
-  unfolding sumOf
-  sum-capped f [] = refl
-  sum-capped f (x ∷ xs) =
-      let e : min K (sumOf (λ x. min K (f x)) xs) ≡ min K (sumOf f xs) = sum-capped f xs in
-      sym (cap-sums K (min K (f x)) (sumOf (λ x. min K (f x)) xs)) ∙ ap (λ (i : ℕ). min K (min K (min K (f x)) + i)) e ∙ cap-sums K (min K (f x)) (sumOf f xs) ∙ cap-sum K (f x) (sumOf f xs)
-
-  pub product-capped : (f : A → ℕ) (xs : List A) → min K (productOf (λ x. min K (f x)) xs) ≡ min K (productOf f xs)
-  unfolding productOf
-  product-capped f [] = refl
-  product-capped f (x ∷ xs) =
-      sym (cap-products K (min K (f x)) (productOf (λ x. min K (f x)) xs)) ∙ ap (λ (i : ℕ). min K (min K (min K (f x)) * i)) (product-capped f xs)
-      ∙ cap-products K (min K (f x)) (productOf f xs) ∙ cap-product K (f x) (productOf f xs)
-
-module _ (K m : ℕ) (parent : ℕ → ℕ) (places : ℕ → ℕ → List ℕ) (T : Rooted m parent) where
-  -- the number of ways, each sum, product and factor cut at the cap
-  pub ways-capped : (c x : ℕ) → c < m
-      → min K (ways m parent places c x) ≡ min K (sumOf (λ y. min K (productOf (λ d. min K (ways m parent places d y)) (childrenOf m parent c))) (places c x))
-  ways-capped c x h =
-      ap (min K) (ways-equation m parent places T c x h) ∙ sym (sum-capped K (λ y. productOf (λ d. ways m parent places d y) (childrenOf m parent c)) (places c x))
-      ∙ ap (min K)
-      (sum-agree (λ y. min K (productOf (λ d. ways m parent places d y) (childrenOf m parent c))) (λ y. min K (productOf (λ d. min K (ways m parent places d y)) (childrenOf m parent c))) (places c x)
-      (λ y k. sym (product-capped K (λ d. ways m parent places d y) (childrenOf m parent c))))
-
-  pub left-capped : (q : ℕ) (es : List ℕ)
-      → min K (waysLeft m parent places q es) ≡ min K (productOf (λ c. min K (ways m parent places c (imageIn es (parent c)))) (keep (λ c. ltb (parent c) q) (upFrom q (m - q))))
-  unfolding waysLeft
-  left-capped q es = sym (product-capped K (λ c. ways m parent places c (imageIn es (parent c))) (keep (λ c. ltb (parent c) q) (upFrom q (m - q))))

@@ -10,7 +10,7 @@ use Rattle.model.specs.Limits.{maxCanonical}
 use Rattle.model.specs.Tree.{Document}
 use Rattle.model.specs.Summary.{Summary}
 use Rattle.model.specs.Pattern.{Pattern, Contained, CounterExample}
-use Rattle.model.specs.Embeddings.{placements}
+use Rattle.model.specs.Embeddings.{summaryEmbeddings}
 use Rattle.model.specs.Canonical.{passes}
 use Rattle.model.specs.Bytes.{Case, encodeDocument, encodeCounted, writtenAtFront}
 use Rattle.model.specs.Calls.{VerdictOutcome, kindIncluded, kindNotIncluded, kindStopped}
@@ -20,11 +20,11 @@ abbrev pub SomeCounterExample : Summary → Pattern → Pattern → Type 0
 SomeCounterExample S P Q = (W : Document) × (r : List ℕ) × CounterExample S P Q W r
 
 -- every one of these trials passes; one does not
-abbrev pub AllTrialsPass : Summary → Pattern → Pattern → List (List ℕ) → Type 0
-AllTrialsPass S P Q ess = (es : List ℕ) → List·Memᴰ es ess → passes S P Q es ≡ true
+abbrev pub AllEmbeddingsPass : Summary → Pattern → Pattern → List (List ℕ) → Type 0
+AllEmbeddingsPass S P Q ess = (es : List ℕ) → List·Memᴰ es ess → passes S P Q es ≡ true
 
-abbrev pub SomeTrialFails : Summary → Pattern → Pattern → List (List ℕ) → Type 0
-SomeTrialFails S P Q ess = (es : List ℕ) × List·Memᴰ es ess × (passes S P Q es ≡ false)
+abbrev pub SomeEmbeddingFails : Summary → Pattern → Pattern → List (List ℕ) → Type 0
+SomeEmbeddingFails S P Q ess = (es : List ℕ) × List·Memᴰ es ess × (passes S P Q es ≡ false)
 
 -- a volume of at most 1,009 nodes and a result of the first selection there that is none of the second, written at the
 -- buffer's front
@@ -39,16 +39,16 @@ pub record Shown (S : Summary) (P Q : Pattern) (before after : List ℕ) : Type 
 pub record Demand3 (c : Case) (L tally : ℕ) (buffer : List ℕ) (o : VerdictOutcome) : Type 0 where
   -- at most L placements: "not included" exactly when some fitting volume of any size has a result of the first selection that
   -- is none of the second, "included" exactly when there is none
-  pub notIncluded : length (placements (c .summary) (c .first)) ≤ L → (o .answer .kind ≡ kindNotIncluded) ↔ SomeCounterExample (c .summary) (c .first) (c .second)
-  pub included : length (placements (c .summary) (c .first)) ≤ L → (o .answer .kind ≡ kindIncluded) ↔ (SomeCounterExample (c .summary) (c .first) (c .second) → ⊥)
+  pub notIncluded : length (summaryEmbeddings (c .summary) (c .first)) ≤ L → (o .answer .kind ≡ kindNotIncluded) ↔ SomeCounterExample (c .summary) (c .first) (c .second)
+  pub included : length (summaryEmbeddings (c .summary) (c .first)) ≤ L → (o .answer .kind ≡ kindIncluded) ↔ (SomeCounterExample (c .summary) (c .first) (c .second) → ⊥)
   -- which is inclusion: in every fitting volume, each result of the first selection is a result of the second
-  pub inclusion : length (placements (c .summary) (c .first)) ≤ L → (o .answer .kind ≡ kindIncluded) ↔ Contained (c .summary) (c .first) (c .second)
+  pub inclusion : length (summaryEmbeddings (c .summary) (c .first)) ≤ L → (o .answer .kind ≡ kindIncluded) ↔ Contained (c .summary) (c .first) (c .second)
   -- more than L: "stopped" exactly when the first L trials all pass, "not included" exactly when one does not, "included" never
-  pub stopped : L < length (placements (c .summary) (c .first)) → (o .answer .kind ≡ kindStopped) ↔ AllTrialsPass (c .summary) (c .first) (c .second) (take L (placements (c .summary) (c .first)))
-  pub failing : L < length (placements (c .summary) (c .first)) → (o .answer .kind ≡ kindNotIncluded) ↔ SomeTrialFails (c .summary) (c .first) (c .second) (take L (placements (c .summary) (c .first)))
-  pub neverIncluded : L < length (placements (c .summary) (c .first)) → o .answer .kind ≡ kindIncluded → ⊥
+  pub stopped : L < length (summaryEmbeddings (c .summary) (c .first)) → (o .answer .kind ≡ kindStopped) ↔ AllEmbeddingsPass (c .summary) (c .first) (c .second) (take L (summaryEmbeddings (c .summary) (c .first)))
+  pub failing : L < length (summaryEmbeddings (c .summary) (c .first)) → (o .answer .kind ≡ kindNotIncluded) ↔ SomeEmbeddingFails (c .summary) (c .first) (c .second) (take L (summaryEmbeddings (c .summary) (c .first)))
+  pub neverIncluded : L < length (summaryEmbeddings (c .summary) (c .first)) → o .answer .kind ≡ kindIncluded → ⊥
   -- "stopped" only then
-  pub onlyStopped : o .answer .kind ≡ kindStopped → L < length (placements (c .summary) (c .first))
+  pub onlyStopped : o .answer .kind ≡ kindStopped → L < length (summaryEmbeddings (c .summary) (c .first))
   -- what "not included" shows is such a volume and such a result; the others write nothing
   pub shown : o .answer .kind ≡ kindNotIncluded → Shown (c .summary) (c .first) (c .second) buffer (o .buffer)
   pub silent : (o .answer .kind ≡ kindNotIncluded → ⊥) → o .buffer ≡ buffer

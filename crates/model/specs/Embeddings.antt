@@ -54,8 +54,8 @@ Precedes (x ∷ xs) [] = ⊥
 Precedes (x ∷ xs) (y ∷ ys) = (x < y) ⊎ ((x ≡ y) × Precedes xs ys)
 
 -- the placements, in their order
-abbrev pub placements : Summary → Pattern → List (List ℕ)
-placements S P = embeddings P (asDocument S)
+abbrev pub summaryEmbeddings : Summary → Pattern → List (List ℕ)
+summaryEmbeddings S P = embeddings P (asDocument S)
 
 -- a list of images as a function on pattern nodes
 abbrev pub imageIn : List ℕ → ℕ → ℕ
@@ -75,7 +75,7 @@ nodesAt P W p = keep (isAt P W p) (upFrom 0 (length W))
 
 -- outline node s is a path of selection node q
 unfoldable pub isPath : Summary → Pattern → ℕ → ℕ → Bool
-isPath S P q s = anyOf (λ es. eqb (imageIn es q) s) (placements S P)
+isPath S P q s = anyOf (λ es. eqb (imageIn es q) s) (summaryEmbeddings S P)
 
 -- the paths of selection node q as a mask, bit i for outline node i; 0 for a number past the last node
 unfoldable pub pathMask : Summary → Pattern → ℕ → ℕ

@@ -13,32 +13,32 @@ use Rattle.model.specs.Bytes.{Case, encodeCase, encodeDocument, encodeCo
 use Rattle.model.specs.Calls.{VerdictOutcome, PathsAnswer, verdictCall, pathsCall, kindIncluded, kindNotIncluded, kindStopped}
 
 -- labels
-abbrev lr : ℕ
+abbrev pub lr : ℕ
 lr = 1
 
-abbrev la : ℕ
+abbrev pub la : ℕ
 la = 2
 
-abbrev lb : ℕ
+abbrev pub lb : ℕ
 lb = 3
 
 abbrev lc : ℕ
 lc = 4
 
 -- an outline node by a plain edge and by a strong edge, a selection node by a child edge and by a descendant edge, a volume node
-abbrev plain : ℕ → ℕ → SummaryRecord
+abbrev pub plain : ℕ → ℕ → SummaryRecord
 plain p l = record { parent = p; label = l; strong = 0 }
 
-abbrev strong : ℕ → ℕ → SummaryRecord
+abbrev pub strong : ℕ → ℕ → SummaryRecord
 strong p l = record { parent = p; label = l; strong = 1 }
 
-abbrev child : ℕ → ℕ → ℕ → PatternRecord
+abbrev pub child : ℕ → ℕ → ℕ → PatternRecord
 child p l n = record { parent = p; label = l; edge = 0; position = n }
 
-abbrev descendant : ℕ → ℕ → ℕ → PatternRecord
+abbrev pub descendant : ℕ → ℕ → ℕ → PatternRecord
 descendant p l n = record { parent = p; label = l; edge = 1; position = n }
 
-abbrev node : ℕ → ℕ → DocumentRecord
+abbrev pub node : ℕ → ℕ → DocumentRecord
 node p l = record { parent = p; label = l }
 
 abbrev given : Summary → Pattern → Pattern → Case
@@ -83,7 +83,7 @@ abbrev e4 : Case
 e4 = given (plain 0 lr ∷ plain 0 la ∷ strong 0 lb ∷ []) (e3 .first) (e3 .second)
 
 -- r(a(b))
-abbrev line : Summary
+abbrev pub line : Summary
 line = plain 0 lr ∷ plain 0 la ∷ plain 1 lb ∷ []
 
 -- r//b^; r(a(b^))
@@ -91,7 +91,7 @@ abbrev e5 : Case
 e5 = given line (child 0 lr 0 ∷ descendant 0 lb 1 ∷ []) (child 0 lr 0 ∷ child 0 la 0 ∷ child 1 lb 1 ∷ [])
 
 -- r//0^; r(0^)
-abbrev e6 : Case
+abbrev pub e6 : Case
 e6 = given line (child 0 lr 0 ∷ descendant 0 0 1 ∷ []) (child 0 lr 0 ∷ child 0 0 1 ∷ [])
 
 -- E6's 56 bytes

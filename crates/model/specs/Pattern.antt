@@ -72,13 +72,13 @@ pub record Result (P : Pattern) (W : Document) (r : List ℕ) : Type 0 where
   pub returns : r ≡ map image (returnNodes P)
 
 -- placement: an embedding into the outline read as a volume
-abbrev pub Placement : Summary → Pattern → (ℕ → ℕ) → Type 0
-Placement S P e = Embeds P (asDocument S) e
+abbrev pub SummaryEmbedding : Summary → Pattern → (ℕ → ℕ) → Type 0
+SummaryEmbedding S P e = Embeds P (asDocument S) e
 
 -- s is one of the paths of selection node q: it takes s in some placement
 pub record PathOf (S : Summary) (P : Pattern) (q s : ℕ) : Type 0 where
   pub image : ℕ → ℕ
-  pub places : Placement S P image
+  pub places : SummaryEmbedding S P image
   pub takes : image q ≡ s
 
 -- v is at position p in some result
@@ -95,7 +95,7 @@ ContainedIn S P Passes = (W : Document) → Fits S W → (r : List ℕ) → Resu
 abbrev pub Contained : Summary → Pattern → Pattern → Type 0
 Contained S P Q = ContainedIn S P (Result Q)
 
--- a result of at least one of several selections
+-- a result of at least one of several selections; request #101 makes the second selection such a set
 pub record ResultOfSome (Qs : List Pattern) (W : Document) (r : List ℕ) : Type 0 where
   pub pattern : Pattern
   pub among : List·Memᴰ pattern Qs

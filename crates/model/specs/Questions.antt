@@ -9,7 +9,7 @@ use Rattle.model.specs.Limits.{maxLimit, maxTally, minBuffer, minTable, 
 use Rattle.model.specs.Tree.{Document, parentOf, labelOf}
 use Rattle.model.specs.Summary.{Summary, noSummaryRecord, summaryParent, summaryLabel}
 use Rattle.model.specs.Pattern.{PatternRecord, Pattern, noPatternRecord, patternParent, position, arity}
-use Rattle.model.specs.Embeddings.{placements}
+use Rattle.model.specs.Embeddings.{summaryEmbeddings}
 use Rattle.model.specs.Fitting.{parentRule}
 use Rattle.model.specs.Bytes.{Case, caseOf, documentOf, listOf, isWholeCase, isWholeDocument, isWholeList}
 
@@ -101,8 +101,8 @@ unfoldable pub positionGiven : Case → ℕ → ℕ → Bool
 positionGiven c s p = patternGiven s && between 1 (arity (selected c s)) p
 
 -- 13. Is the list a placement of that selection?
-unfoldable pub isPlacement : Case → ℕ → List ℕ → Bool
-isPlacement c s b = isWholeList b && anyOf (sameList (listOf b)) (placements (c .summary) (selected c s))
+unfoldable pub isSummaryEmbedding : Case → ℕ → List ℕ → Bool
+isSummaryEmbedding c s b = isWholeList b && anyOf (sameList (listOf b)) (summaryEmbeddings (c .summary) (selected c s))
 
 -- a question: its number, which a refusal holds, and its answer
 pub record Question : Type 0 where
@@ -152,4 +152,4 @@ pathsRefusal b s = refusal (caseQuestions b ++ ask 12 (patternGiven s) ∷ [])
 unfoldable pub layoutRefusal : List ℕ → ℕ → List ℕ → ℕ → ℕ
 layoutRefusal b s l tableRecords =
     refusal
-    (ask 2 (tableLargeEnough tableRecords) ∷ caseQuestions b ++ ask 12 (patternGiven s) ∷ ask 13 (isPlacement (caseOf b) s l) ∷ [])
+    (ask 2 (tableLargeEnough tableRecords) ∷ caseQuestions b ++ ask 12 (patternGiven s) ∷ ask 13 (isSummaryEmbedding (caseOf b) s l) ∷ [])

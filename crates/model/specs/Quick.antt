@@ -36,6 +36,10 @@ closedIn (suc n) S Q x p = anyOf (λ t. offers S Q t 0 (closedIn n S Q t) p) (st
 unfoldable pub closed : Summary → Pattern → ℕ → ℕ → Bool
 closed S Q = closedIn (length S) S Q
 
+-- what the root's filled-up children offer, whatever the placement: the one constant of judging
+abbrev pub base : Summary → Pattern → ℕ → Bool
+base S Q = closed S Q 0
+
 abbrev pub union : (ℕ → Bool) → (ℕ → Bool) → ℕ → Bool
 union f g p = f p || g p
 
@@ -57,4 +61,4 @@ given S P Q es = givenIn (length P) S P Q es
 
 -- the second pattern's root meets at the root
 unfoldable pub quick : Summary → Pattern → Pattern → List ℕ → Bool
-quick S P Q es = meets S Q 0 (position P 0) (union (closed S Q 0) (given S P Q es 0)) 0
+quick S P Q es = meets S Q 0 (position P 0) (union (base S Q) (given S P Q es 0)) 0

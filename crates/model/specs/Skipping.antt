@@ -11,7 +11,7 @@ use Rattle.model.specs.Summary.{Summary, asDocument}
 use Rattle.model.specs.Pattern.{Pattern, descends, position}
 use Rattle.model.specs.Embeddings.{edgeTest, imageIn, isPath}
 use Rattle.model.specs.Canonical.{chain}
-use Rattle.model.specs.Quick.{hangsFrom, meets, closed, union, hang}
+use Rattle.model.specs.Quick.{hangsFrom, meets, base, union, hang}
 use Rattle.model.specs.Verdict.{Progress, going, halted}
 
 -- the places of node c from x: the paths of c that its edge reaches
@@ -83,4 +83,4 @@ sure S P Q = sureIn (length P) S P Q
 
 -- every completion surely passes: the second pattern's root meets at the root by what hangs from it at least
 unfoldable pub surely : Summary → Pattern → Pattern → (ℕ → ℕ → List ℕ) → ℕ → List ℕ → Bool
-surely S P Q places q es = meets S Q 0 (position P 0) (union (closed S Q 0) (sure S P Q places q es 0)) 0
+surely S P Q places q es = meets S Q 0 (position P 0) (union (base S Q) (sure S P Q places q es 0)) 0

@@ -4,7 +4,7 @@ use mathlib.Core.Bool.{Bool, true, false}
 use mathlib.Core.List.{List, [], _∷_}
 use Rattle.model.specs.Summary.{Summary}
 use Rattle.model.specs.Pattern.{Pattern}
-use Rattle.model.specs.Embeddings.{placements}
+use Rattle.model.specs.Embeddings.{summaryEmbeddings}
 use Rattle.model.specs.Canonical.{passes}
 
 -- how far the trials have come: how many may still be tried and how many have passed; or the verdict is known
@@ -41,7 +41,7 @@ judge test L xs = conclude (run test (going L 0) xs)
 
 -- the verdict with limit L
 unfoldable pub verdict : Summary → Pattern → Pattern → ℕ → Verdict
-verdict S P Q L = judge (passes S P Q) L (placements S P)
+verdict S P Q L = judge (passes S P Q) L (summaryEmbeddings S P)
 
 -- tried
 unfoldable pub triedOf : Verdict → ℕ

@@ -13,7 +13,7 @@ use Rattle.model.specs.Bytes.{caseOf, isWholeCase}
 use Rattle.model.specs.Questions.{selected}
 use Rattle.model.proofs.ListLaws.{by-bool}
 use Rattle.model.proofs.Bytes.{whole-case}
-use Rattle.model.proofs.Questions.{AcceptedCase, selected-facts}
+use Rattle.model.proofs.CaseFacts.{AcceptedCase, selected-facts}
 use Rattle.format.specs.Given.{patternAt, PatternGiven}
 use Rattle.questions.specs.Numbered.{numberedAt}
 use Rattle.questions.proofs.NumberedLaws.{numbered-section, numbered-pattern}

@@ -13,7 +13,8 @@ use Rattle.model.specs.Facts.{PatternFacts}
 use Rattle.model.specs.Bytes.{field, caseOf, documentOf, WholeSection, writtenAtFront}
 use Rattle.model.specs.Questions.{selected}
 use Rattle.model.proofs.Bytes.{front-length}
-use Rattle.model.proofs.Questions.{AcceptedCase, DocumentFacts, selected-facts}
+use Rattle.model.proofs.CallFacts.{DocumentFacts}
+use Rattle.model.proofs.CaseFacts.{AcceptedCase, selected-facts}
 use Rattle.format.specs.Tables.{documentFrom, summaryFrom, patternFrom, SummaryRead, PatternRead, DocumentRead}
 use Rattle.format.specs.Given.{patternAt}
 use Rattle.format.proofs.SectionLaws.{summary-count, pattern-count, document-count}

@@ -14,9 +14,9 @@ use Rattle.model.specs.Lists.{upFrom, anyOf, allOf, sameList}
 use Rattle.model.specs.Tree.{IsTree, Document, parentOf, Child, Below, once, down}
 use Rattle.model.specs.Summary.{Summary, asDocument, summaryParent, summaryLabel}
 use Rattle.model.specs.Pattern.{Pattern, noPatternRecord, IsPatternTree, patternParent, patternLabel, descends, labelFits, Embeds}
-use Rattle.model.specs.Embeddings.{belowTest, climbs, edgeTest, imageIn, placements}
+use Rattle.model.specs.Embeddings.{belowTest, climbs, edgeTest, imageIn, summaryEmbeddings}
 use Rattle.model.specs.Bytes.{caseOf, listOf, isWholeList}
-use Rattle.model.specs.Questions.{isPlacement, selected, refusal, caseQuestions}
+use Rattle.model.specs.Questions.{isSummaryEmbedding, selected, refusal, caseQuestions}
 use Rattle.model.proofs.ListLaws.{bool-ext, and-intro, and-left, and-right, any-intro, any-elim, all-below, below-all, same-eq, same-refl}
 use Rattle.model.proofs.TreeLaws.{length-asDocument, test-below, below-test, below-cases, test-edge, edge-test}
 use Rattle.model.proofs.Embeddings.{embeddings-sound, embeddings-complete-list}
@@ -81,21 +81,21 @@ module _ (S : Summary) (P : Pattern) (es : List ℕ) where
         }
 
     -- the list is among the placements exactly when it has an image for each node and each image passes
-    pub listed-by-tests : anyOf (sameList es) (placements S P) ≡ (eqb (length es) (length P) && allOf (imageKept S P es) (upFrom 0 (length P)))
-    listed-by-tests = bool-ext (anyOf (sameList es) (placements S P)) tests forth back
+    pub listed-by-tests : anyOf (sameList es) (summaryEmbeddings S P) ≡ (eqb (length es) (length P) && allOf (imageKept S P es) (upFrom 0 (length P)))
+    listed-by-tests = bool-ext (anyOf (sameList es) (summaryEmbeddings S P)) tests forth back
       where
-        forth : anyOf (sameList es) (placements S P) ≡ true → tests ≡ true
+        forth : anyOf (sameList es) (summaryEmbeddings S P) ≡ true → tests ≡ true
         forth e =
-            let r = any-elim (sameList es) (placements S P) e in
-            let m : List·Memᴰ es (placements S P) = subst (λ (x : List ℕ). List·Memᴰ x (placements S P)) (sym (same-eq es (r .0) (r .2))) (r .1) in
+            let r = any-elim (sameList es) (summaryEmbeddings S P) e in
+            let m : List·Memᴰ es (summaryEmbeddings S P) = subst (λ (x : List ℕ). List·Memᴰ x (summaryEmbeddings S P)) (sym (same-eq es (r .0) (r .2))) (r .1) in
             let k = embeddings-sound t u m in
             and-intro (eq-eqb (length es) (length P) (k .0)) (below-all (imageKept S P es) (length P) (embeds-kept (k .1)))
 
-        back : tests ≡ true → anyOf (sameList es) (placements S P) ≡ true
+        back : tests ≡ true → anyOf (sameList es) (summaryEmbeddings S P) ≡ true
         back e =
             let n : length es ≡ length P = eqb-true (length es) (length P) (and-left _ _ e) in
             let each = all-below (imageKept S P es) (length P) (and-right (eqb (length es) (length P)) _ e) in
-            any-intro (sameList es) es (placements S P) (embeddings-complete-list t u n (kept-embeds each)) (same-refl es)
+            any-intro (sameList es) es (summaryEmbeddings S P) (embeddings-complete-list t u n (kept-embeds each)) (same-refl es)
 
 -- ---- climbing
 
@@ -205,14 +205,14 @@ module _ (b : List ℕ) (s at : ℕ) (l : List ℕ) (accepts : refusal (caseQues
 
   -- 13, by the fields
   pub embedding-asked : (r : Bool) → r ≡ (eqb (length l % 2) 0 && (eqb (length l / 2) (length (patternAt b at)) && allOf (keptIn b at l) (upFrom 0 (length (patternAt b at)))))
-      → r ≡ isPlacement (caseOf b) s l
-  unfolding isPlacement isWholeList
+      → r ≡ isSummaryEmbedding (caseOf b) s l
+  unfolding isSummaryEmbedding isWholeList
   embedding-asked r e =
       let S : Summary = summaryIn b in
       let P : Pattern = patternAt b at in
       let listed = listed-by-tests S P (listOf l) (given-numbered (accepted b accepts) s p .tree) (given-summary (accepted b accepts) .tree) in
-      let same : anyOf (sameList (listOf l)) (placements S (selected (caseOf b) s)) ≡ anyOf (sameList (listOf l)) (placements S P) =
-      ap (λ (Q : Pattern). anyOf (sameList (listOf l)) (placements S Q)) (numbered-pattern b s at p) in
+      let same : anyOf (sameList (listOf l)) (summaryEmbeddings S (selected (caseOf b) s)) ≡ anyOf (sameList (listOf l)) (summaryEmbeddings S P) =
+      ap (λ (Q : Pattern). anyOf (sameList (listOf l)) (summaryEmbeddings S Q)) (numbered-pattern b s at p) in
       let counts = ap (λ (m : ℕ). eqb m (length P) && allOf (imageKept S P (listOf l)) (upFrom 0 (length P))) (list-count l) in
       e ∙ sym (ap (λ (t : Bool). eqb (length l % 2) 0 && t) (same ∙ listed ∙ counts))
 

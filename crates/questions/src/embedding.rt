@@ -10,7 +10,7 @@ ghost use Rattle.model.specs.Lists.{upFrom, allOf};
 ghost use Rattle.model.specs.Summary.{asDocument};
 ghost use Rattle.model.specs.Embeddings.{childTest, belowTest, edgeTest, imageIn};
 ghost use Rattle.model.specs.Bytes.{caseOf, listOf, WholeSection};
-ghost use Rattle.model.specs.Questions.{isPlacement, refusal, caseQuestions};
+ghost use Rattle.model.specs.Questions.{isSummaryEmbedding, refusal, caseQuestions};
 ghost use Rattle.format.specs.Given.{summaryIn, patternAt, SummaryGiven};
 ghost use Rattle.questions.specs.Images.{reachedIn, keptIn, Images};
 use crate::pattern::numbered_at;
@@ -123,7 +123,7 @@ pub fn images_kept(b: &[u8], at: usize, l: &[u8]) -> bool
 // 13. Is the list an embedding of that pattern into the summary? The case is one that questions 3 to 8 accept.
 pub fn is_embedding_list(b: &[u8], number: u64, l: &[u8]) -> bool
     requires { ⌜ refusal (caseQuestions (now b)) ≡ 0 ⌝ }
-    ensures { λ r. ⌜ r ≡ isPlacement (caseOf (now (b .entry))) number (now (l .entry)) ⌝ }
+    ensures { λ r. ⌜ r ≡ isSummaryEmbedding (caseOf (now (b .entry))) number (now (l .entry)) ⌝ }
 {
     let at = numbered_at(b, number);
     let bytes = l.len();

@@ -4,7 +4,7 @@ use native.Mathlib.Omega.{arith}
 use denote.Ref.{now}
 use borrow.Author.Needs.{needs}
 use Rattle.model.specs.Bytes.{caseOf}
-use Rattle.model.proofs.Questions.{AcceptedCase}
+use Rattle.model.proofs.CaseFacts.{AcceptedCase}
 use Rattle.questions.proofs.AcceptedLaws.{SummaryColumns, PatternColumns, accepted-whole, summary-fits, accepted-pattern, pattern-fits, summary-columns, pattern-columns}
 use Rattle.deciding.proofs.CallLaws.{read-lent, read-arity, read-told}
 use Rattle.deciding.proofs.accepted.Statement.{statement}

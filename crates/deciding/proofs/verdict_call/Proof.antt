@@ -6,7 +6,7 @@ use denote.Ref.{now}
 use lib.ListN.{length}
 use borrow.Author.Needs.{needs}
 use Rattle.model.specs.Questions.{verdictRefusal}
-use Rattle.model.proofs.Questions.{accepted-verdict}
+use Rattle.model.proofs.CallFacts.{accepted-verdict}
 use Rattle.deciding.proofs.CallLaws.{answered-refused, tally-fits, answered-accepted}
 use Rattle.deciding.proofs.verdict_call.Statement.{statement}
 use Rattle.deciding.proofs.verdict_call.Tie as tie

@@ -3,7 +3,7 @@
 use borrow.Author.Needs.{needs}
 use mathlib.Core.Path.{sym, _∙_}
 use denote.Ref.{now}
-use Rattle.model.proofs.Questions.{accepted-fits}
+use Rattle.model.proofs.CallFacts.{accepted-fits}
 use Rattle.model.proofs.Calls.{fits-refused, fits-accepted}
 use Rattle.format.proofs.GivenLaws.{given-summary, given-document}
 use Rattle.calls.proofs.AnswerLaws.{answer-refused, answer-given}

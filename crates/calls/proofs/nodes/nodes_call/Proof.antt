@@ -7,12 +7,12 @@ use native.Mathlib.Omega.{arith}
 use lib.ListN.{length, replicate}
 use borrow.Author.Needs.{needs}
 use Rattle.model.specs.Pattern.{Pattern, arity}
-use Rattle.model.proofs.Questions.{NodesFacts, accepted-nodes}
+use Rattle.model.proofs.CallFacts.{NodesFacts, accepted-nodes}
 use Rattle.format.proofs.GivenLaws.{given-document}
-use Rattle.questions.proofs.PatternLaws.{selected-pattern}
+use Rattle.questions.proofs.NumberedLaws.{numbered-pattern}
 use Rattle.questions.proofs.AcceptedLaws.{accepted-whole}
 use Rattle.calls.proofs.NodesLaws.{nodes-few, nodes-fit, nodes-no, nodes-yes}
-use Rattle.calls.proofs.NumberedLaws.{numbered-facts, given-numbered}
+use Rattle.questions.proofs.AcceptedLaws.{numbered-facts, given-numbered}
 use Rattle.calls.proofs.nodes.nodes_call.Statement.{statement}
 use Rattle.calls.proofs.nodes.nodes_call.Tie as tie
 
@@ -26,16 +26,16 @@ facts c =
     let a = c .before .before .before .before .before .args in
     accepted-nodes (a .case .now) (a .number) (a .document .now) (a .position) (length (a .answer .now)) (sym (c .before .nodes-refusal .ensures) ∙ c .if1 .left)
 
-selected-at-requires : tie.Need-selected-at-requires
-selected-at-requires c κs = accepted-whole (facts c .case)
+numbered-at-requires : tie.Need-numbered-at-requires
+numbered-at-requires c κs = accepted-whole (facts c .case)
 
 nodes-at-requires : tie.Need-nodes-at-requires
 nodes-at-requires c κs =
     let a = c .before .before .before .before .before .before .before .args in
     let F = facts (c .before .before) in
-    let e = c .before .selected-at .ensures in (
+    let e = c .before .numbered-at .ensures in (
       (given-numbered (F .case) (a .number) e, numbered-facts (F .case) (a .number) e, given-document (F .document)),
-      (F .positionLow, subst (λ (P : Pattern). a .position ≤ arity P) (selected-pattern (a .case .now) (a .number) _ e) (F .positionHigh), F .document .size),
+      (F .positionLow, subst (λ (P : Pattern). a .position ≤ arity P) (numbered-pattern (a .case .now) (a .number) _ e) (F .positionHigh), F .document .size),
     )
 
 write-counted-requires : tie.Need-write-counted-requires
@@ -51,9 +51,9 @@ returns-2 c =
     let picked = found .before .before in
     let a = picked .before .before .before .before .before .before .args in
     nodes-yes (a .case .now) (a .number) (a .document .now) (a .position) (a .answer .now) (picked .before .before .nodes-refusal .ensures) (picked .before .if1 .left)
-    (replicate 1024 0) (selected-pattern (a .case .now) (a .number) _ (picked .selected-at .ensures)) (found .nodes-at .ensures) (c .before .before .write-counted .ensures .1)
+    (replicate 1024 0) (numbered-pattern (a .case .now) (a .number) _ (picked .numbered-at .ensures)) (found .nodes-at .ensures) (c .before .before .write-counted .ensures .1)
 
 pub nodes-call-spec : {M : Type 1} → statement M
 nodes-call-spec =
-    tie.close (tie.spec (λ c κs. search needs) returns selected-at-requires (λ c. search needs) nodes-at-requires (λ c. search needs)
+    tie.close (tie.spec (λ c κs. search needs) returns numbered-at-requires (λ c. search needs) nodes-at-requires (λ c. search needs)
     write-counted-requires (λ c. search needs) returns-2)

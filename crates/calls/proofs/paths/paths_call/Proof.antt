@@ -3,12 +3,12 @@
 -- what no question refused
 use mathlib.Core.Path.{sym, _∙_}
 use borrow.Author.Needs.{needs}
-use Rattle.model.proofs.Questions.{PathsFacts, accepted-paths}
+use Rattle.model.proofs.CallFacts.{PathsFacts, accepted-paths}
 use Rattle.format.proofs.GivenLaws.{given-summary}
-use Rattle.questions.proofs.PatternLaws.{selected-pattern}
+use Rattle.questions.proofs.NumberedLaws.{numbered-pattern}
 use Rattle.questions.proofs.AcceptedLaws.{accepted-whole}
 use Rattle.calls.proofs.PathLaws.{refused-fields, accepted-fields}
-use Rattle.calls.proofs.NumberedLaws.{given-numbered}
+use Rattle.questions.proofs.AcceptedLaws.{given-numbered}
 use Rattle.calls.proofs.paths.paths_call.Statement.{statement}
 use Rattle.calls.proofs.paths.paths_call.Tie as tie
 
@@ -18,19 +18,19 @@ returns c = let a = c .before .before .before .args in refused-fields (a .case .
 facts : (c : tie.Else1) → PathsFacts (c .before .before .before .args .case .now) (c .before .before .before .args .number)
 facts c = let a = c .before .before .before .args in accepted-paths (a .case .now) (a .number) (sym (c .before .paths-refusal .ensures) ∙ c .if1 .left)
 
-selected-at-requires : tie.Need-selected-at-requires
-selected-at-requires c κs = accepted-whole (facts c .case)
+numbered-at-requires : tie.Need-numbered-at-requires
+numbered-at-requires c κs = accepted-whole (facts c .case)
 
 path-masks-requires : tie.Need-path-masks-requires
-path-masks-requires c κs = let F = facts (c .before) in (given-summary (F .case), given-numbered (F .case) (c .before .before .before .before .args .number) (c .selected-at .ensures))
+path-masks-requires c κs = let F = facts (c .before) in (given-summary (F .case), given-numbered (F .case) (c .before .before .before .before .args .number) (c .numbered-at .ensures))
 
 returns-2 : tie.Need-returns-2
 returns-2 c =
     let picked = c .before .before .before in
     let a = picked .before .before .before .before .args in
     accepted-fields (a .case .now) (a .number) (picked .before .before .paths-refusal .ensures) (picked .before .if1 .left)
-    (selected-pattern (a .case .now) (a .number) _ (picked .selected-at .ensures)) (c .before .before .path-masks .ensures) (c .path-counts .ensures)
+    (numbered-pattern (a .case .now) (a .number) _ (picked .numbered-at .ensures)) (c .before .before .path-masks .ensures) (c .path-counts .ensures)
 
 pub paths-call-spec : {M : Type 1} → statement M
 paths-call-spec =
-    tie.close (tie.spec (λ c κs. search needs) returns selected-at-requires path-masks-requires (λ c κs. search needs) returns-2)
+    tie.close (tie.spec (λ c κs. search needs) returns numbered-at-requires path-masks-requires (λ c κs. search needs) returns-2)

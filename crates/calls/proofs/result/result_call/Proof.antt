@@ -11,13 +11,13 @@ use Rattle.model.specs.Pattern.{Pattern, arity}
 use Rattle.model.specs.Embeddings.{isResult}
 use Rattle.model.specs.Bytes.{documentOf, listOf}
 use Rattle.model.specs.Calls.{resultCall}
-use Rattle.model.proofs.Questions.{ListFacts, ResultFacts, accepted-result}
+use Rattle.model.proofs.CallFacts.{ListFacts, ResultFacts, accepted-result}
 use Rattle.model.proofs.Calls.{result-refused, result-accepted}
 use Rattle.format.proofs.GivenLaws.{given-document}
-use Rattle.questions.proofs.PatternLaws.{selected-pattern}
+use Rattle.questions.proofs.NumberedLaws.{numbered-pattern}
 use Rattle.questions.proofs.AcceptedLaws.{accepted-whole}
 use Rattle.calls.proofs.AnswerLaws.{answer-refused, answer-given}
-use Rattle.calls.proofs.NumberedLaws.{numbered-facts, given-numbered}
+use Rattle.questions.proofs.AcceptedLaws.{numbered-facts, given-numbered}
 use Rattle.calls.proofs.result.result_call.Statement.{statement}
 use Rattle.calls.proofs.result.result_call.Tie as tie
 
@@ -31,16 +31,16 @@ facts c =
     let a = c .before .before .before .before .before .args in
     accepted-result (a .case .now) (a .number) (a .document .now) (a .list .now) (sym (c .before .result-refusal .ensures) ∙ c .if1 .left)
 
-selected-at-requires : tie.Need-selected-at-requires
-selected-at-requires c κs = accepted-whole (facts c .case)
+numbered-at-requires : tie.Need-numbered-at-requires
+numbered-at-requires c κs = accepted-whole (facts c .case)
 
 is-result-requires : tie.Need-is-result-requires
 is-result-requires c κs =
     let a = c .before .before .before .before .before .before .args in
     let F = facts (c .before) in
-    let e = c .selected-at .ensures in (
+    let e = c .numbered-at .ensures in (
       (given-numbered (F .case) (a .number) e, numbered-facts (F .case) (a .number) e, given-document (F .document)),
-      subst (λ (P : Pattern). ListFacts (arity P) (length (documentOf (a .document .now))) (a .list .now)) (selected-pattern (a .case .now) (a .number) _ e) (F .list),
+      subst (λ (P : Pattern). ListFacts (arity P) (length (documentOf (a .document .now))) (a .list .now)) (numbered-pattern (a .case .now) (a .number) _ e) (F .list),
     )
 
 told : (c : tie.After-is-result) {v : Bool} → c .is-result .result ≡ v
@@ -51,7 +51,7 @@ told c p =
     let a = picked .before .before .before .before .before .before .args in
     answer-given _ _ _ (result-accepted (a .case .now) (a .number) (a .document .now) (a .list .now)) (picked .before .before .result-refusal .ensures) (picked .before .if1 .left)
     (c .is-result .ensures
-    ∙ ap (λ (P : Pattern). isResult P (documentOf (a .document .now)) (listOf (a .list .now))) (sym (selected-pattern (a .case .now) (a .number) _ (picked .selected-at .ensures))))
+    ∙ ap (λ (P : Pattern). isResult P (documentOf (a .document .now)) (listOf (a .list .now))) (sym (numbered-pattern (a .case .now) (a .number) _ (picked .numbered-at .ensures))))
     p
 
 returns-2 : tie.Need-returns-2
@@ -61,4 +61,4 @@ returns-3 : tie.Need-returns-3
 returns-3 c = told (c .before) (c .if2 .left)
 
 pub result-call-spec : {M : Type 1} → statement M
-result-call-spec = tie.close (tie.spec (λ c κs. search needs) returns selected-at-requires is-result-requires returns-2 returns-3)
+result-call-spec = tie.close (tie.spec (λ c κs. search needs) returns numbered-at-requires is-result-requires returns-2 returns-3)

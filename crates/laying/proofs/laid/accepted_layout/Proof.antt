@@ -5,7 +5,7 @@ use native.Mathlib.Omega.{arith}
 use denote.Ref.{now}
 use lib.ListN.{getD, replicate}
 use borrow.Author.Needs.{needs}
-use Rattle.model.proofs.Questions.{LayoutFacts, accepted-layout}
+use Rattle.model.proofs.CallFacts.{LayoutFacts, accepted-layout}
 use Rattle.model.specs.Limits.{minTable}
 use Rattle.questions.proofs.AcceptedLaws.{accepted-whole}
 use Rattle.canonical.specs.Given.{Embedded}
@@ -23,8 +23,8 @@ start c = c .before .before .before .before .before
 facts : (s : tie.Start) → LayoutFacts (now (s .args .case)) (s .args .number) (now (s .args .list)) minTable
 facts s = accepted-layout _ _ _ _ (s .pre)
 
-embedded : (c : tie.After-read-list) → Embedded (now (start c .args .case)) (c .before .before .selected-at .result) (c .read-list .last .1 .0)
-embedded c = list-embedded (facts (start c)) (replicate 16 0) (c .before .before .selected-at .ensures) (omega arith) (c .read-list .ensures .1)
+embedded : (c : tie.After-read-list) → Embedded (now (start c .args .case)) (c .before .before .numbered-at .result) (c .read-list .last .1 .0)
+embedded c = list-embedded (facts (start c)) (replicate 16 0) (c .before .before .numbered-at .ensures) (omega arith) (c .read-list .ensures .1)
 
 -- bytes are below 256
 small : (c : tie.After-read-list) (i : ℕ) → getD (now (start c .args .case)) i 0 < 256
@@ -34,8 +34,8 @@ small c i = omega (arith, c .before .before .before .before .shared-slice-known 
 abbrev read : tie.After-lay-out → tie.After-read-list
 read c = c .before .before .before .before .before
 
-selected-at-requires : tie.Need-selected-at-requires
-selected-at-requires c κs = accepted-whole (facts (c .before .before) .case)
+numbered-at-requires : tie.Need-numbered-at-requires
+numbered-at-requires c κs = accepted-whole (facts (c .before .before) .case)
 
 slice-aggregate-read-list : tie.Need-slice-aggregate-read-list
 slice-aggregate-read-list c = search needs
@@ -78,7 +78,7 @@ returns c =
     let r = read o in
     let s = start r in
     let w = o .lay-out .ensures in
-    let at = r .before .before .selected-at .ensures in
+    let at = r .before .before .numbered-at .ensures in
     laid-accepted _ _ _ (s .pre) (laid-count (facts s) (replicate 16 0) at (omega arith) (r .read-list .ensures .1) w) (c .records-of .ensures)
     (laid-read (facts s) (replicate 16 0) at (omega arith) (r .read-list .ensures .1) w (small r))
 
@@ -86,7 +86,7 @@ pub accepted-layout-spec : {M : Type 1} → statement M
 accepted-layout-spec =
     tie.close
     (tie.spec
-    selected-at-requires
+    numbered-at-requires
     slice-aggregate-read-list
     read-list-requires
     slice-aggregate-lay-out

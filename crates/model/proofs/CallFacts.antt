@@ -1,0 +1,189 @@
+-- An accepted call has every fact that its questions ask for: all of its questions are answered yes, and each answer is a test of that
+-- fact. Assumes nothing.
+use Prim.Native.Nat.{ℕ, _+_, _≤_, _<_}
+use mathlib.Core.Path.{_≡_, sym, subst}
+use mathlib.Core.Bool.{true, false, _&&_}
+use mathlib.Core.Logic.{_⊎_, inl, inr, _≢_}
+use mathlib.Core.List.{List, [], _∷_, List·Memᴰ}
+use native.Mathlib.Omega.{arith}
+use lib.Dec.{eqb, ltb}
+use lib.ListN.{length}
+use borrow.Author.Tests.{eqb-true, eqb-false, leb-true, ltb-true}
+use Rattle.model.specs.Lists.{sameList}
+use Rattle.model.specs.Limits.{maxLimit, maxTally, minBuffer, minTable, maxDocument}
+use Rattle.model.specs.Tree.{IsTree, parentOf, labelOf}
+use Rattle.model.specs.Pattern.{arity}
+use Rattle.model.specs.Embeddings.{summaryEmbeddings}
+use Rattle.model.specs.Fitting.{parentRule}
+use Rattle.model.specs.Bytes.{Case, caseOf, documentOf, listOf, isWholeDocument, isWholeList}
+use Rattle.model.specs.Questions.{between, limitInRange, bufferLargeEnough, tableLargeEnough, tallyInRange, documentRecordKept, documentKept, listInRange, patternGiven, selected, positionGiven, isSummaryEmbedding, ask, verdictRefusal, fitsRefusal, resultRefusal, nodesRefusal, pathsRefusal, layoutRefusal}
+use Rattle.model.proofs.ListLaws.{and-left, and-right, true-or-false, all-elim, all-below, any-elim, same-eq}
+use Rattle.model.proofs.Fitting.{rooted}
+use Rattle.model.proofs.CaseFacts.{between-facts, AcceptedCase, asked}
+
+-- ---- the other questions
+
+-- 10: the volume
+pub record DocumentFacts (w : List ℕ) : Type 0 where
+  pub whole : isWholeDocument w ≡ true
+  pub someNodes : 1 ≤ length (documentOf w)
+  pub size : length (documentOf w) ≤ maxDocument
+  pub tree : IsTree (documentOf w)
+  pub labels : (i : ℕ) → i < length (documentOf w) → 0 < labelOf (documentOf w) i
+
+pub document-facts : (w : List ℕ) → documentKept w ≡ true → DocumentFacts w
+unfolding documentKept documentRecordKept
+document-facts w kept =
+    let size = between-facts 1 maxDocument (length (documentOf w)) (and-right (isWholeDocument w) _ (and-left _ _ kept)) in
+    let every : (i : ℕ) → i < length (documentOf w) → documentRecordKept (documentOf w) i ≡ true =
+    all-below (documentRecordKept (documentOf w)) (length (documentOf w))
+    (and-right (isWholeDocument w && between 1 maxDocument (length (documentOf w))) _ kept) in
+    record {
+      whole = and-left _ _ (and-left _ _ kept);
+      someNodes = size .0;
+      size = size .1;
+      tree = rooted (length (documentOf w)) (parentOf (documentOf w)) (size .0) (λ i h. and-left _ _ (every i h));
+      labels = λ i h. ltb-true 0 (labelOf (documentOf w) i) (and-right (parentRule i (parentOf (documentOf w) i)) _ (every i h));
+    }
+
+-- 11: the list
+pub record ListFacts (k n : ℕ) (r : List ℕ) : Type 0 where
+  pub whole : isWholeList r ≡ true
+  pub count : length (listOf r) ≡ k
+  pub below : (v : ℕ) → List·Memᴰ v (listOf r) → v < n
+
+pub list-facts : (k n : ℕ) (r : List ℕ) → listInRange k n r ≡ true → ListFacts k n r
+unfolding listInRange
+list-facts k n r e =
+    record {
+      whole = and-left _ _ (and-left _ _ e);
+      count = eqb-true (length (listOf r)) k (and-right (isWholeList r) _ (and-left _ _ e));
+      below = λ v m. ltb-true v n (all-elim (λ x. ltb x n) (listOf r) (and-right (isWholeList r && eqb (length (listOf r)) k) _ e) v m);
+    }
+
+-- 12: the selection
+pub pattern-given : (s : ℕ) → patternGiven s ≡ true → (s ≡ 1) ⊎ (s ≡ 2)
+unfolding patternGiven
+pattern-given s e = go (true-or-false (eqb s 1)) (between-facts 1 2 s e)
+  where
+    go : (eqb s 1 ≡ true) ⊎ (eqb s 1 ≡ false) → (1 ≤ s) × (s ≤ 2) → (s ≡ 1) ⊎ (s ≡ 2)
+    go (inl y) r = inl (eqb-true s 1 y)
+    go (inr n) r = inr (let f : s ≢ 1 = eqb-false s 1 n in omega arith)
+
+-- 13: the placement
+pub embedding-given : (c : Case) (s : ℕ) (l : List ℕ) → isSummaryEmbedding c s l ≡ true → List·Memᴰ (listOf l) (summaryEmbeddings (c .summary) (selected c s))
+unfolding isSummaryEmbedding
+embedding-given c s l e =
+    let all : List (List ℕ) = summaryEmbeddings (c .summary) (selected c s) in
+    let r = any-elim (sameList (listOf l)) all (and-right (isWholeList l) _ e) in
+    subst (λ (x : List ℕ). List·Memᴰ x all) (sym (same-eq (listOf l) (r .0) (r .2))) (r .1)
+
+-- ---- what each accepted call has
+
+pub record VerdictFacts (b : List ℕ) (L tally bufferBytes : ℕ) : Type 0 where
+  pub case : AcceptedCase b
+  pub limitLow : 1 ≤ L
+  pub limitHigh : L ≤ maxLimit
+  pub buffer : minBuffer ≤ bufferBytes
+  pub tallied : tally + L ≤ maxTally
+
+pub accepted-verdict : (b : List ℕ) (L tally bufferBytes : ℕ) → verdictRefusal b L tally bufferBytes ≡ 0 → VerdictFacts b L tally bufferBytes
+unfolding verdictRefusal limitInRange bufferLargeEnough tallyInRange
+accepted-verdict b L tally bufferBytes e =
+    let y =
+    asked b (ask 1 (limitInRange L) ∷ ask 2 (bufferLargeEnough bufferBytes) ∷ []) (ask 9 (tallyInRange tally L) ∷ [])
+    (omega arith, (omega arith, tt)) (omega arith, tt) e in
+    let limit = between-facts 1 maxLimit L (y .0 .0) in
+    record {
+      case = y .1;
+      limitLow = limit .0;
+      limitHigh = limit .1;
+      buffer = leb-true minBuffer bufferBytes (y .0 .1 .0);
+      tallied = leb-true (tally + L) maxTally (y .2 .0);
+    }
+
+pub record FitsFacts (b w : List ℕ) : Type 0 where
+  pub case : AcceptedCase b
+  pub document : DocumentFacts w
+
+pub accepted-fits : (b w : List ℕ) → fitsRefusal b w ≡ 0 → FitsFacts b w
+unfolding fitsRefusal
+accepted-fits b w e =
+    let y = asked b [] (ask 10 (documentKept w) ∷ []) tt (omega arith, tt) e in
+    record { case = y .1; document = document-facts w (y .2 .0) }
+
+pub record ResultFacts (b : List ℕ) (s : ℕ) (w r : List ℕ) : Type 0 where
+  pub case : AcceptedCase b
+  pub document : DocumentFacts w
+  pub number : (s ≡ 1) ⊎ (s ≡ 2)
+  pub list : ListFacts (arity (selected (caseOf b) s)) (length (documentOf w)) r
+
+pub accepted-result : (b : List ℕ) (s : ℕ) (w r : List ℕ) → resultRefusal b s w r ≡ 0 → ResultFacts b s w r
+unfolding resultRefusal
+accepted-result b s w r e =
+    let k : ℕ = arity (selected (caseOf b) s) in
+    let y =
+    asked b [] (ask 10 (documentKept w) ∷ ask 12 (patternGiven s) ∷ ask 11 (listInRange k (length (documentOf w)) r) ∷ [])
+    tt (omega arith, (omega arith, (omega arith, tt))) e in
+    record {
+      case = y .1;
+      document = document-facts w (y .2 .0);
+      number = pattern-given s (y .2 .1 .0);
+      list = list-facts k (length (documentOf w)) r (y .2 .1 .1 .0);
+    }
+
+pub record NodesFacts (b : List ℕ) (s : ℕ) (w : List ℕ) (p bufferBytes : ℕ) : Type 0 where
+  pub case : AcceptedCase b
+  pub buffer : minBuffer ≤ bufferBytes
+  pub document : DocumentFacts w
+  pub number : (s ≡ 1) ⊎ (s ≡ 2)
+  pub positionLow : 1 ≤ p
+  pub positionHigh : p ≤ arity (selected (caseOf b) s)
+
+pub accepted-nodes : (b : List ℕ) (s : ℕ) (w : List ℕ) (p bufferBytes : ℕ) → nodesRefusal b s w p bufferBytes ≡ 0 → NodesFacts b s w p bufferBytes
+unfolding nodesRefusal bufferLargeEnough positionGiven
+accepted-nodes b s w p bufferBytes e =
+    let y =
+    asked b (ask 2 (bufferLargeEnough bufferBytes) ∷ []) (ask 10 (documentKept w) ∷ ask 12 (positionGiven (caseOf b) s p) ∷ [])
+    (omega arith, tt) (omega arith, (omega arith, tt)) e in
+    let given : positionGiven (caseOf b) s p ≡ true = y .2 .1 .0 in
+    let range = between-facts 1 (arity (selected (caseOf b) s)) p (and-right (patternGiven s) _ given) in
+    record {
+      case = y .1;
+      buffer = leb-true minBuffer bufferBytes (y .0 .0);
+      document = document-facts w (y .2 .0);
+      number = pattern-given s (and-left _ _ given);
+      positionLow = range .0;
+      positionHigh = range .1;
+    }
+
+pub record PathsFacts (b : List ℕ) (s : ℕ) : Type 0 where
+  pub case : AcceptedCase b
+  pub number : (s ≡ 1) ⊎ (s ≡ 2)
+
+pub accepted-paths : (b : List ℕ) (s : ℕ) → pathsRefusal b s ≡ 0 → PathsFacts b s
+unfolding pathsRefusal
+accepted-paths b s e =
+    let y = asked b [] (ask 12 (patternGiven s) ∷ []) tt (omega arith, tt) e in
+    record { case = y .1; number = pattern-given s (y .2 .0) }
+
+pub record LayoutFacts (b : List ℕ) (s : ℕ) (l : List ℕ) (tableRecords : ℕ) : Type 0 where
+  pub case : AcceptedCase b
+  pub table : minTable ≤ tableRecords
+  pub number : (s ≡ 1) ⊎ (s ≡ 2)
+  pub wholeList : isWholeList l ≡ true
+  pub embedding : List·Memᴰ (listOf l) (summaryEmbeddings (caseOf b .summary) (selected (caseOf b) s))
+
+pub accepted-layout : (b : List ℕ) (s : ℕ) (l : List ℕ) (tableRecords : ℕ) → layoutRefusal b s l tableRecords ≡ 0 → LayoutFacts b s l tableRecords
+unfolding layoutRefusal tableLargeEnough isSummaryEmbedding
+accepted-layout b s l tableRecords e =
+    let y =
+    asked b (ask 2 (tableLargeEnough tableRecords) ∷ []) (ask 12 (patternGiven s) ∷ ask 13 (isSummaryEmbedding (caseOf b) s l) ∷ [])
+    (omega arith, tt) (omega arith, (omega arith, tt)) e in
+    record {
+      case = y .1;
+      table = leb-true minTable tableRecords (y .0 .0);
+      number = pattern-given s (y .2 .0);
+      wholeList = and-left _ _ (y .2 .1 .0);
+      embedding = embedding-given (caseOf b) s l (y .2 .1 .0);
+    }
