@@ -22,7 +22,7 @@ pub fn paths_call(case: &[u8], number: u64) -> PathsAnswer
             counts: none,
         };
     }
-    let masks = path_masks(case, numbered_at(case, number));
+    let masks = path_masks(case, case, numbered_at(case, number));
     let counts = path_counts(&masks);
     PathsAnswer {
         refused: 0,

@@ -20,7 +20,7 @@ use Rattle.format.proofs.GivenLaws.{given-summary}
 use Rattle.questions.specs.Numbered.{numberedAt}
 use Rattle.format.proofs.ListLaws.{list-count}
 use Rattle.questions.proofs.NumberedLaws.{numbered-pattern}
-use Rattle.questions.proofs.AcceptedLaws.{selected-size, accepted-pattern}
+use Rattle.questions.proofs.AcceptedLaws.{selected-size, given-numbered}
 use Rattle.canonical.specs.Given.{embeddingIn, Embedded, WrittenOut}
 use Rattle.canonical.specs.declared.LaidOut.{LaidOut}
 use Rattle.canonical.proofs.ReadBackLaws.{back-document}
@@ -53,12 +53,7 @@ module _ {b : List ℕ} {s : ℕ} {l : List ℕ} {k : ℕ} (f : LayoutFacts b s 
         let m = ap (λ (x : List ℕ). length x) read ∙ front-length (listOf l) images₀ (omega arith) in
         record {
           summary = given-summary (f .case);
-          pattern =
-              record {
-                whole = accepted-pattern (f .case) s at here;
-                tree = subst (λ (P : Pattern). IsPatternTree P) same (selected-facts (caseOf b) s (f .case .facts) .tree);
-                few = few;
-              };
+          pattern = given-numbered (f .case) s here;
           enough = omega arith;
           embedding =
               subst (λ (P : Pattern). SummaryEmbedding (caseOf b .summary) P (imageIn (embeddingIn b at images))) same

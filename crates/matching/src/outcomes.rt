@@ -98,17 +98,17 @@ pub fn nodes_at(case: &[u8], at: usize, w: &[u8], position: usize, out: &mut [u1
     nodes_with(&table, document_count(w), node_at(case, at, position), out)
 }
 
-// The paths of each pattern node in the summary, as masks.
-pub fn path_masks(case: &[u8], at: usize) -> [u64; 16]
-    requires { ⌜ SummaryGiven (now case) × PatternGiven (now case) at ⌝ }
-    ensures { λ r. ⌜ r ≡ map (pathMask (summaryIn (now (case .entry))) (patternAt (now (case .entry)) at)) (upFrom 0 16) ⌝ }
+// The paths of each node of the pattern (p, at) in the case's summary, as masks.
+pub fn path_masks(case: &[u8], p: &[u8], at: usize) -> [u64; 16]
+    requires { ⌜ SummaryGiven (now case) × PatternGiven (now p) at ⌝ }
+    ensures { λ r. ⌜ r ≡ map (pathMask (summaryIn (now (case .entry))) (patternAt (now (p .entry)) at)) (upFrom 0 16) ⌝ }
 {
-    let block = wanted_of(case, at);
+    let block = wanted_of(p, at);
     let mut table = [0u16; 64];
     let mut left = [0u16; 64];
     stands(case, SUMMARY_WIDTH, &block, &mut table, &mut left);
     let n = summary_count(case);
-    let m = pattern_count(case, at);
+    let m = pattern_count(p, at);
     let mut r = [0u64; 16];
     for q in 0..m {
         r[q] = stand_mask(&table, n, PatternNode(q));

@@ -18,14 +18,14 @@ use Rattle.matching.proofs.outcomes.path_masks.Statement.{statement}
 use Rattle.matching.proofs.outcomes.path_masks.Tie as tie
 
 abbrev Inv-loop : tie.InvT-loop
-Inv-loop case at table n m r₀ q₀ r q = Filling (pathMask (summaryIn case) (patternAt case at)) (length (patternAt case at)) (replicate 16 0) r q
+Inv-loop case p at table n m r₀ q₀ r q = Filling (pathMask (summaryIn case) (patternAt p at)) (length (patternAt p at)) (replicate 16 0) r q
 
 abbrev μ-loop : tie.MeasureT-loop
-μ-loop case at table n m r₀ q₀ r q = m - q
+μ-loop case p at table n m r₀ q₀ r q = m - q
 
 stands-requires : tie.Need-stands-requires Inv-loop μ-loop
 stands-requires c κs =
-    let d = summary-as-tree (c .before .before .before .before .before .pre .0) in
+    let d = summary-as-tree (c .before .before .before .before .before .before .pre .0) in
     (((maxSummary, d), (_, c .before .before .before .wanted-of .ensures .0), zeros-at 64), (d .few, d .few))
 
 loop-holds : tie.Need-loop-holds Inv-loop μ-loop
@@ -34,25 +34,25 @@ loop-holds c = filling-start _
 stand-mask-requires : tie.Need-stand-mask-requires Inv-loop μ-loop
 stand-mask-requires c κs =
     let counted = c .before .before .before .before in
-    let p = counted .before .before .before .before .before .before .before .before .before .pre in
+    let p = counted .before .before .before .before .before .before .before .before .before .before .pre in
     let n = counted .summary-count .ensures .0 in
     (omega (arith, n, p .0 .few), omega (arith, n, p .0 .few), omega (arith, c .before .before .before .pattern-count .ensures .0, p .1 .few))
 
 array-write-r : tie.Need-array-write-r Inv-loop μ-loop
-array-write-r c = omega (arith, c .before .before .before .before .before .before .before .before .before .before .before .before .before .before .pre .1 .few)
+array-write-r c = omega (arith, c .before .before .before .before .before .before .before .before .before .before .before .before .before .before .before .pre .1 .few)
 
 loop-again : tie.Need-loop-again Inv-loop μ-loop
 loop-again c =
     let counted = c .before .before .before .before .before in
     let made = counted .before .before .before .before .before .before .before in
-    let s = made .before .before in
+    let s = made .before .before .before in
     filling-step _ (c .before .before .before .loop .inv) (s .pre .1 .few) (omega arith)
     (c .stand-mask .ensures ∙ path-read _ (made .wanted-of .ensures .0) summaryWidth (s .args .case .now) _ (made .wanted-of .ensures .1) (tree-summary (s .args .case .now))
     (s .pre .0 .tree) (counted .before .before .before .stands .ensures) (counted .summary-count .ensures .0) (omega arith))
 
 returns : tie.Need-returns Inv-loop μ-loop
 returns c =
-    let s = c .before .before .before .before .before .before .before .before .before .before .before .before in
+    let s = c .before .before .before .before .before .before .before .before .before .before .before .before .before in
     filling-end _ (c .before .loop .inv) (omega arith) ∙ filling-zeros _ _ 16 (s .pre .1 .few) (λ i h l. path-mask-beyond _ _ i h)
 
 pub path-masks-spec : {M : Type 1} → statement M
