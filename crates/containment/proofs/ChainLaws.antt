@@ -6,7 +6,7 @@ use mathlib.Core.Bool.{Bool}
 use mathlib.Core.Logic.{_⊎_, inl, inr}
 use mathlib.Core.List.{List, [], _∷_, _++_}
 use native.Mathlib.Omega.{arith}
-use lib.ListN.{length, getD}
+use lib.ListN.{length}
 use borrow.Author.Tests.{lt-ltb, le-ltb}
 use Rattle.model.specs.Limits.{maxPosition}
 use Rattle.model.specs.Lists.{maskBelow}
@@ -73,7 +73,7 @@ unfolding climbBy
 climb-stop zero T a x h l = refl
 climb-stop (suc k) T a x h l = rw (le-ltb a x l, climbBy)
 
-pub climb-step : (k : ℕ) (T : Sets) (a x h : ℕ) → a < x → climbBy (suc k) T a x h ≡ climbBy k T a (getD (T .up) x 0) (nodeBy T x 0 h)
+pub climb-step : (k : ℕ) (T : Sets) (a x h : ℕ) → a < x → climbBy (suc k) T a x h ≡ climbBy k T a (T .up x) (nodeBy T x 0 h)
 unfolding climbBy
 climb-step k T a x h l = rw (lt-ltb a x l, climbBy)
 
@@ -83,14 +83,14 @@ pub record Climbing (T : Sets) (a whole x h : ℕ) : Type 0 where
   pub enough : x ≤ fuel
   pub same : whole ≡ climbBy fuel T a x h
 
-pub climbing-start : (T : Sets) (a b n g : ℕ) → getD (T .up) b 0 ≤ b → Climbing T a (hangBy T a b n g) (getD (T .up) b 0) (nodeBy T b n g)
+pub climbing-start : (T : Sets) (a b n g : ℕ) → T .up b ≤ b → Climbing T a (hangBy T a b n g) (T .up b) (nodeBy T b n g)
 unfolding hangBy
 climbing-start T a b n g l = record { fuel = b; enough = l; same = refl }
 
-pub climbing-step : (T : Sets) (a whole x h : ℕ) → a < x → getD (T .up) x 0 < x → Climbing T a whole x h → Climbing T a whole (getD (T .up) x 0) (nodeBy T x 0 h)
+pub climbing-step : (T : Sets) (a whole x h : ℕ) → a < x → T .up x < x → Climbing T a whole x h → Climbing T a whole (T .up x) (nodeBy T x 0 h)
 climbing-step T a whole x h l k c = go (c .fuel) (c .enough) (c .same)
   where
-    go : (fuel : ℕ) → x ≤ fuel → whole ≡ climbBy fuel T a x h → Climbing T a whole (getD (T .up) x 0) (nodeBy T x 0 h)
+    go : (fuel : ℕ) → x ≤ fuel → whole ≡ climbBy fuel T a x h → Climbing T a whole (T .up x) (nodeBy T x 0 h)
     go zero e s = absurd (omega arith)
     go (suc fuel) e s = record { fuel = fuel; enough = omega arith; same = s ∙ climb-step fuel T a x h l }
 

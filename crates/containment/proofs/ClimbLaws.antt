@@ -14,7 +14,8 @@ use Rattle.model.specs.Tree.{Document, IsTree, parentOf, Child, Below, once, do
 use Rattle.model.specs.Embeddings.{childTest, belowTest, edgeTest}
 use Rattle.model.proofs.ListLaws.{bool-ext}
 use Rattle.model.proofs.TreeLaws.{test-child, child-test, child-lt, below-lt, below-cases, test-below, below-test}
-use Rattle.containment.specs.Skipping.{cell, joinAt, climbRow}
+use Rattle.containment.specs.Blocks.{cell}
+use Rattle.containment.specs.Skipping.{joinAt, climbRow}
 
 -- ---- what an edge reaches, from the lower end
 
@@ -75,18 +76,18 @@ module _ (join : ℕ → ℕ → ℕ) where
 
 -- ---- a climb's turns
 
-module _ (join pass : ℕ → ℕ → ℕ) (up : List ℕ) (c : ℕ) where
+module _ (join pass : ℕ → ℕ → ℕ) (up : ℕ → ℕ) (c : ℕ) where
   pub climb-none : (far : Bool) (k b h : ℕ) (t : List ℕ) → b ≡ 0 → climbRow join pass up far c k b h t ≡ t
   unfolding climbRow
   climb-none far zero b h t e = refl
   climb-none far (suc k) b h t e = ap (λ (i : ℕ). climbRow join pass up far c (suc k) i h t) e
 
   pub climb-far : (k b h : ℕ) (t : List ℕ) → 0 < b
-      → climbRow join pass up true c (suc k) b h t ≡ climbRow join pass up true c k (getD up b 0) (pass (getD up b 0) h) (joinAt join (cell c (getD up b 0)) h t)
+      → climbRow join pass up true c (suc k) b h t ≡ climbRow join pass up true c k (up b) (pass (up b) h) (joinAt join (cell c (up b)) h t)
   unfolding climbRow
   climb-far k b h t z = rw (lt-ltb 0 b z, climbRow)
 
-  pub climb-near : (k b h : ℕ) (t : List ℕ) → 0 < b → climbRow join pass up false c (suc k) b h t ≡ joinAt join (cell c (getD up b 0)) h t
+  pub climb-near : (k b h : ℕ) (t : List ℕ) → 0 < b → climbRow join pass up false c (suc k) b h t ≡ joinAt join (cell c (up b)) h t
   unfolding climbRow
   climb-near k b h t z = rw (lt-ltb 0 b z, climbRow)
 
@@ -97,7 +98,7 @@ module _ (join pass : ℕ → ℕ → ℕ) (up : List ℕ) (c : ℕ) where
   climb-keeps K one far (suc k) b h t g = go (ltb 0 b) far (λ a i u m. climb-keeps K one true k a i u m)
     where
       a : ℕ
-      a = getD up b 0
+      a = up b
 
       go : (e f : Bool) → ((a i : ℕ) (u : List ℕ) → K u → K (climbRow join pass up true c k a i u))
           → K (elim e as (λ _. List ℕ) [ true ↦ elim f as (λ _. List ℕ) [ true ↦ climbRow join pass up true c k a (pass a h) (joinAt join (cell c a) h t) | false ↦ joinAt join (cell c a) h t ] | false ↦ t ])
@@ -108,38 +109,39 @@ module _ (join pass : ℕ → ℕ → ℕ) (up : List ℕ) (c : ℕ) where
   pub climb-length : (far : Bool) (k b h : ℕ) (t : List ℕ) → length (climbRow join pass up far c k b h t) ≡ length t
   climb-length far k b h t = climb-keeps (λ u. length u ≡ length t) (λ a g u e. join-length join (cell c a) g u ∙ e) far k b h t refl
 
--- ---- entries
-
-module _ (W : Document) (tree : IsTree W) (up : List ℕ) (ups : (b : ℕ) → b < length W → getD up b 0 ≡ parentOf W b) (narrow : length W ≤ 64) (join pass : ℕ → ℕ → ℕ) (c : ℕ) where
-  abbrev row : List ℕ → ℕ → ℕ
-  row t x = getD t (cell c x) 0
-
-  up-lt : (b : ℕ) → 0 < b → b < length W → getD up b 0 < b
-  up-lt b z h = subst (λ (a : ℕ). a < b) (sym (ups b h)) (tree .earlier b z h)
-
-  -- the same, where only nodes of the tree are joined at
-  climb-within : (K : List ℕ → Type 0) → ((a h : ℕ) (t : List ℕ) → a < length W → K t → K (joinAt join (cell c a) h t))
-      → (far : Bool) (k b h : ℕ) (t : List ℕ) → b < length W → K t → K (climbRow join pass up far c k b h t)
+-- what joining keeps at nodes below n, the climb from one of them keeps, where parents come first
+module _ (join pass : ℕ → ℕ → ℕ) (up : ℕ → ℕ) (c n : ℕ) (falls : (b : ℕ) → 0 < b → b < n → up b < b) where
+  pub climb-within : (K : List ℕ → Type 0) → ((a h : ℕ) (t : List ℕ) → a < n → K t → K (joinAt join (cell c a) h t))
+      → (far : Bool) (k b h : ℕ) (t : List ℕ) → b < n → K t → K (climbRow join pass up far c k b h t)
   unfolding climbRow
   climb-within K one far zero b h t l g = g
   climb-within K one far (suc k) b h t l g = go (ltb 0 b) refl far (λ f a i u n m. climb-within K one f k a i u n m)
     where
       a : ℕ
-      a = getD up b 0
+      a = up b
 
-      go : (e : Bool) → ltb 0 b ≡ e → (f : Bool) → ((f : Bool) (a i : ℕ) (u : List ℕ) → a < length W → K u → K (climbRow join pass up f c k a i u))
+      go : (e : Bool) → ltb 0 b ≡ e → (f : Bool) → ((f : Bool) (a i : ℕ) (u : List ℕ) → a < n → K u → K (climbRow join pass up f c k a i u))
           → K (elim e as (λ _. List ℕ) [ true ↦ elim f as (λ _. List ℕ) [ true ↦ climbRow join pass up true c k a (pass a h) (joinAt join (cell c a) h t) | false ↦ joinAt join (cell c a) h t ] | false ↦ t ])
-      go true q true rest = let n : a < b = up-lt b (ltb-true 0 b q) l in rest true a (pass a h) (joinAt join (cell c a) h t) (omega arith) (one a h t (omega arith) g)
-      go true q false rest = let n : a < b = up-lt b (ltb-true 0 b q) l in one a h t (omega arith) g
+      go true q true rest = let m : a < b = falls b (ltb-true 0 b q) l in rest true a (pass a h) (joinAt join (cell c a) h t) (omega arith) (one a h t (omega arith) g)
+      go true q false rest = let m : a < b = falls b (ltb-true 0 b q) l in one a h t (omega arith) g
       go false q f rest = g
+
+-- ---- entries
+
+module _ (W : Document) (tree : IsTree W) (up : ℕ → ℕ) (ups : (b : ℕ) → b < length W → up b ≡ parentOf W b) (narrow : length W ≤ 64) (join pass : ℕ → ℕ → ℕ) (c : ℕ) where
+  abbrev row : List ℕ → ℕ → ℕ
+  row t x = getD t (cell c x) 0
+
+  up-lt : (b : ℕ) → 0 < b → b < length W → up b < b
+  up-lt b z h = subst (λ (a : ℕ). a < b) (sym (ups b h)) (tree .earlier b z h)
 
   -- the other rows are left as they are
   pub climb-other : (far : Bool) (k b h : ℕ) (t : List ℕ) (d y : ℕ) → b < length W → y < length W → (d ≡ c → ⊥) → getD (climbRow join pass up far c k b h t) (cell d y) 0 ≡ getD t (cell d y) 0
   climb-other far k b h t d y l i ne =
-      climb-within (λ u. getD u (cell d y) 0 ≡ getD t (cell d y) 0) (λ a g u n e. join-other join (cell c a) g (cell d y) u (λ q. absurd (ne (omega arith))) ∙ e) far k b h t l refl
+      climb-within join pass up c (length W) up-lt (λ u. getD u (cell d y) 0 ≡ getD t (cell d y) 0) (λ a g u n e. join-other join (cell c a) g (cell d y) u (λ q. absurd (ne (omega arith))) ∙ e) far k b h t l refl
 
-  module _ (value : ℕ → ℕ → ℕ → ℕ) (here : (b h : ℕ) → 0 < b → b < length W → value b h (getD up b 0) ≡ h)
-      (above : (b h x : ℕ) → 0 < b → b < length W → x < getD up b 0 → value b h x ≡ value (getD up b 0) (pass (getD up b 0) h) x) where
+  module _ (value : ℕ → ℕ → ℕ → ℕ) (here : (b h : ℕ) → 0 < b → b < length W → value b h (up b) ≡ h)
+      (above : (b h x : ℕ) → 0 < b → b < length W → x < up b → value b h x ≡ value (up b) (pass (up b) h) x) where
     -- x's entry, where what came up from b is h
     abbrev after : Bool → ℕ → ℕ → List ℕ → ℕ → ℕ
     after far b h t x = choose (edgeTest far W x b) (join (row t x) (value b h x)) (row t x)
@@ -149,7 +151,7 @@ module _ (W : Document) (tree : IsTree W) (up : List ℕ) (ups : (b : ℕ) → b
 
     module _ (b h : ℕ) (t : List ℕ) (x : ℕ) (z : 0 < b) (l : b < length W) (long : 64 * suc c ≤ length t) where
       abbrev a : ℕ
-      a = getD up b 0
+      a = up b
 
       parent : a ≡ parentOf W b
       parent = ups b l
@@ -187,7 +189,7 @@ module _ (W : Document) (tree : IsTree W) (up : List ℕ) (ups : (b : ℕ) → b
     climb-entry far (suc k) b h t x e l long i = go (ltb 0 b) refl far (λ a h u n m o. climb-entry true k a h u x n m o i)
       where
         p : ℕ
-        p = getD up b 0
+        p = up b
 
         u : List ℕ
         u = joinAt join (cell c p) h t

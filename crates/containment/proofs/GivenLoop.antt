@@ -31,8 +31,8 @@ pub record Gathering (parent : ℕ → ℕ) (F : ℕ → ℕ → ℕ) (m : ℕ) 
   pub same : gather parent F (c - 1) t ≡ gather parent F (m - 1) start
 
 module _ {parent : ℕ → ℕ} {F : ℕ → ℕ → ℕ} {m : ℕ} {start : List ℕ} where
-  pub gathering-start : 0 < m → Gathering parent F m start m start
-  gathering-start h = record { low = h; top = omega arith; long = refl; same = refl }
+  pub gathering-start : {c : ℕ} → c ≡ m → 0 < m → Gathering parent F m start c start
+  gathering-start {c} e h = record { low = omega arith; top = omega arith; long = refl; same = ap (λ (k : ℕ). gather parent F (k - 1) start) e }
 
   pub gathering-step : {c : ℕ} {t : List ℕ} (d : ℕ) (s : List ℕ) → Gathering parent F m start c t → 1 < c → d ≡ c - 1 → s ≡ joinUp parent F d t → length s ≡ length t
       → Gathering parent F m start d s

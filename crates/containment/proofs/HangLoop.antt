@@ -1,14 +1,11 @@
 -- The loop that climbs a chain: where it stands, and that each turn keeps it. Assumes nothing.
 use Prim.Native.Nat.{ℕ, _≤_, _<_}
-use mathlib.Core.Path.{_≡_, refl, sym, ap, _∙_, subst₂}
+use mathlib.Core.Path.{_≡_, sym, ap, _∙_, subst₂}
 use mathlib.Core.Logic.{_⊎_, inl, inr}
-use mathlib.Core.List.{List, []}
 use native.Mathlib.Omega.{arith}
 use native.Mathlib.Nat.{eq-zero-or-pos}
-use lib.ListN.{length, getD}
 use Rattle.model.specs.Tree.{Rooted}
-use Rattle.containment.specs.Judging.{Sets, setsOf, nodeBy, hangBy}
-use Rattle.containment.specs.Room.{ChainRoom}
+use Rattle.containment.specs.Judging.{Sets, nodeBy, hangBy}
 use Rattle.containment.proofs.ChainLaws.{Climbing, climbing-start, climbing-step, climbing-end}
 
 -- a parent is no greater
@@ -21,39 +18,27 @@ rooted-le {n} {parent} t x h = go (eq-zero-or-pos x)
 
 -- h is offered to x, which stands on the way up from x₀, to which h₀ was offered
 pub record HangInv (T : Sets) (a h₀ x₀ h x : ℕ) : Type 0 where
-  pub room : ChainRoom (T .up) (T .fitting) (T .closed) (T .allowed) (T .low) (T .high)
-  pub inside : x < length (T .up)
+  pub inside : x < 64
   pub climbs : (whole : ℕ) → Climbing T a whole x₀ h₀ → Climbing T a whole x h
 
--- a node's offer does not look at the parents
-pub node-same : (T : Sets) (x k e : ℕ) → nodeBy (setsOf [] (T .fitting) (T .closed) (T .allowed) (T .low) (T .high) (T .deep)) x k e ≡ nodeBy T x k e
-unfolding nodeBy
-node-same T x k e = refl
+module _ {T : Sets} {a : ℕ} (R : Rooted 64 (T .up)) where
+  pub hang-start : {b h x : ℕ} → b < 64 → x ≡ T .up b → HangInv T a h x h x
+  hang-start {b} {h} {x} l q = let k : T .up b ≤ b = rooted-le R b l in record { inside = omega arith; climbs = λ whole c. c }
 
-module _ {T : Sets} {a : ℕ} where
-  pub hang-start : {b h x : ℕ} → ChainRoom (T .up) (T .fitting) (T .closed) (T .allowed) (T .low) (T .high) → b < length (T .up) → x ≡ getD (T .up) b 0 → HangInv T a h x h x
-  hang-start {b} {h} {x} R l q =
-      let k : getD (T .up) b 0 ≤ b = rooted-le (R .tree) b l in
-      record { room = R; inside = omega arith; climbs = λ whole c. c }
+  pub hang-less : {h₀ x₀ h x y : ℕ} → HangInv T a h₀ x₀ h x → a < x → y ≡ T .up x → y < x
+  hang-less {h₀} {x₀} {h} {x} {y} v l q = let k : T .up x < x = R .earlier x (omega arith) (v .inside) in omega arith
 
-  pub hang-less : {h₀ x₀ h x y : ℕ} → HangInv T a h₀ x₀ h x → a < x → y ≡ getD (T .up) x 0 → y < x
-  hang-less {h₀} {x₀} {h} {x} {y} v l q = let k : getD (T .up) x 0 < x = v .room .tree .earlier x (omega arith) (v .inside) in omega arith
-
-  pub hang-step : {h₀ x₀ h x i y : ℕ} → HangInv T a h₀ x₀ h x → a < x → i ≡ nodeBy (setsOf [] (T .fitting) (T .closed) (T .allowed) (T .low) (T .high) (T .deep)) x 0 h
-      → y ≡ getD (T .up) x 0 → HangInv T a h₀ x₀ i y
+  pub hang-step : {h₀ x₀ h x i y : ℕ} → HangInv T a h₀ x₀ h x → a < x → i ≡ nodeBy T x 0 h → y ≡ T .up x → HangInv T a h₀ x₀ i y
   hang-step {h₀} {x₀} {h} {x} {i} {y} v l p q =
-      let k : getD (T .up) x 0 < x = v .room .tree .earlier x (omega arith) (v .inside) in
-      let m : x < length (T .up) = v .inside in
+      let k : T .up x < x = R .earlier x (omega arith) (v .inside) in
+      let m : x < 64 = v .inside in
       record {
-        room = v .room;
         inside = omega arith;
-        climbs = λ whole c. subst₂ (Climbing T a whole) (sym q) (sym (p ∙ node-same T x 0 h)) (climbing-step T a whole x h l k (v .climbs whole c));
+        climbs = λ whole c. subst₂ (Climbing T a whole) (sym q) (sym p) (climbing-step T a whole x h l k (v .climbs whole c));
       }
 
   -- the climb began above b, which holds position n and from which g hangs
-  pub hang-end : {b h₀ x₀ h x : ℕ} (n g : ℕ) → HangInv T a h₀ x₀ h x → x ≤ a → b < length (T .up)
-      → h₀ ≡ nodeBy (setsOf [] (T .fitting) (T .closed) (T .allowed) (T .low) (T .high) (T .deep)) b n g → x₀ ≡ getD (T .up) b 0 → h ≡ hangBy T a b n g
+  pub hang-end : {b h₀ x₀ h x : ℕ} (n g : ℕ) → HangInv T a h₀ x₀ h x → x ≤ a → b < 64 → h₀ ≡ nodeBy T b n g → x₀ ≡ T .up b → h ≡ hangBy T a b n g
   hang-end {b} {h₀} {x₀} {h} {x} n g v l d p q =
       climbing-end T a (hangBy T a b n g) x h l
-      (v .climbs (hangBy T a b n g)
-      (subst₂ (Climbing T a (hangBy T a b n g)) (sym q) (sym (p ∙ node-same T b n g)) (climbing-start T a b n g (rooted-le (v .room .tree) b d))))
+      (v .climbs (hangBy T a b n g) (subst₂ (Climbing T a (hangBy T a b n g)) (sym q) (sym p) (climbing-start T a b n g (rooted-le R b d))))

@@ -4,20 +4,25 @@ use mathlib.Core.Path.{_≡_, sym, subst}
 use mathlib.Core.List.{List}
 use native.Mathlib.Omega.{arith}
 use lib.ListN.{length, getD}
-use Rattle.containment.specs.Room.{JudgeRoom}
+use Rattle.model.specs.Pattern.{patternParent, position}
+use Rattle.format.specs.Given.{patternAt, PatternGiven}
+use Rattle.containment.specs.Room.{Climbable, Judgeable}
 
-module _ {up fitting closed allowed low high parents positions images : List ℕ} (R : JudgeRoom up fitting closed allowed low high parents positions images) where
-  pub parent-lt : {c j : ℕ} → 0 < c → c < length parents → j ≡ getD parents c 0 → j < c
-  parent-lt {c} {j} z h e = let l : getD parents c 0 < c = R .tree .earlier c z h in omega arith
+-- a parent comes before its children
+pub parent-lt : {p : List ℕ} {at c j : ℕ} → PatternGiven p at → 0 < c → c < length (patternAt p at) → j ≡ patternParent (patternAt p at) c → j < c
+parent-lt {p} {at} {c} {j} R z h e = let l : patternParent (patternAt p at) c < c = R .tree .earlier c z h in omega arith
 
-  pub parent-placed : {c j : ℕ} → 0 < c → c < length parents → j ≡ getD parents c 0 → j < length images
+-- a position is one of a block's
+pub position-lt : {t p : List ℕ} {at c n : ℕ} → Climbable t p at → c < length (patternAt p at) → n ≡ position (patternAt p at) c → n < 16
+position-lt {c = c} R h e = subst (λ (x : ℕ). x < 16) (sym e) (R .range c h)
+
+module _ {t p : List ℕ} {at : ℕ} {images : List ℕ} (R : Judgeable t p at images) where
+  -- a parent has an image, and an image is a summary node
+  pub parent-placed : {c j : ℕ} → 0 < c → c < length (patternAt p at) → j ≡ patternParent (patternAt p at) c → j < length images
   parent-placed {c} {j} z h e =
-      let l : j < c = parent-lt z h e in
-      let n : length images ≡ length parents = R .placed in
+      let l : j < c = parent-lt (R .base .pattern) z h e in
+      let n : length images ≡ length (patternAt p at) = R .placed in
       omega arith
 
-  pub image-lt : {c b : ℕ} → c < length parents → b ≡ getD images c 0 → b < length up
-  image-lt {c} h e = subst (λ (x : ℕ). x < length up) (sym e) (R .inside c h)
-
-  pub position-lt : {c n : ℕ} → c < length parents → n ≡ getD positions c 0 → n < length allowed
-  position-lt {c} h e = subst (λ (x : ℕ). x < length allowed) (sym e) (R .range c h)
+  pub image-lt : {c b : ℕ} → c < length images → b ≡ getD images c 0 → b < 64
+  image-lt {c} h e = subst (λ (x : ℕ). x < 64) (sym e) (R .inside c (subst (λ (n : ℕ). c < n) (R .placed) h))

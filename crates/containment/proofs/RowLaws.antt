@@ -17,7 +17,8 @@ use Rattle.model.specs.Embeddings.{edgeTest}
 use Rattle.model.specs.Skipping.{sumOf, productOf}
 use Rattle.model.proofs.WaysLaws.{cap-sums, cap-products}
 use Rattle.bits.proofs.MaskLaws.{any-cons, mask-agree, mask-or, mask-and}
-use Rattle.containment.specs.Skipping.{cell, fillTurn, fillRows, loop}
+use Rattle.containment.specs.Blocks.{cell}
+use Rattle.containment.specs.Skipping.{fillTurn, fillRows, loop}
 use Rattle.containment.proofs.ClimbLaws.{climb-length, climb-other, climb-entry}
 
 -- ---- rows
@@ -123,7 +124,7 @@ module _ (K : ℕ) (f g : ℕ → ℕ) where
 
 -- ---- one row
 
-module _ (W : Document) (tree : IsTree W) (up : List ℕ) (ups : (b : ℕ) → b < length W → getD up b 0 ≡ parentOf W b) (narrow : length W ≤ 64) (join pass : ℕ → ℕ → ℕ) (start : List ℕ → ℕ → ℕ → ℕ)
+module _ (W : Document) (tree : IsTree W) (up : ℕ → ℕ) (ups : (b : ℕ) → b < length W → up b ≡ parentOf W b) (narrow : length W ≤ 64) (join pass : ℕ → ℕ → ℕ) (start : List ℕ → ℕ → ℕ → ℕ)
     (far : Bool) (c : ℕ) where
   abbrev turn : List ℕ → ℕ → List ℕ
   turn = fillTurn join pass start up far c
@@ -140,8 +141,8 @@ module _ (W : Document) (tree : IsTree W) (up : List ℕ) (ups : (b : ℕ) → b
   row-other ys t d x in-W l ne =
       row-keeps (λ u. getD u (cell d x) 0 ≡ getD t (cell d x) 0) (λ u y h e. climb-other W tree up ups narrow join pass c far y y (start u c y) u d x h l ne ∙ e) ys t in-W refl
 
-  module _ (value : ℕ → ℕ → ℕ → ℕ) (here : (b h : ℕ) → 0 < b → b < length W → value b h (getD up b 0) ≡ h)
-      (above : (b h x : ℕ) → 0 < b → b < length W → x < getD up b 0 → value b h x ≡ value (getD up b 0) (pass (getD up b 0) h) x)
+  module _ (value : ℕ → ℕ → ℕ → ℕ) (here : (b h : ℕ) → 0 < b → b < length W → value b h (up b) ≡ h)
+      (above : (b h x : ℕ) → 0 < b → b < length W → x < up b → value b h x ≡ value (up b) (pass (up b) h) x)
       (m : ℕ) (E : ℕ → ℕ → ℕ) (G : ℕ → ℕ) (starts : (t : List ℕ) (y : ℕ) → y < length W → ((d x : ℕ) → c < d → d < m → x < length W → getD t (cell d x) 0 ≡ E d x) → start t c y ≡ G y) where
     -- the rows after c are right
     abbrev After : List ℕ → Type 0

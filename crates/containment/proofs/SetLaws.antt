@@ -3,12 +3,11 @@
 use Prim.Native.Nat.{ℕ, _+_, _*_, _/_, _%_, _^_, _≤_, _<_}
 use mathlib.Core.Path.{_≡_, sym, ap, ap₂, _∙_}
 use mathlib.Core.Bool.{Bool, _&&_, _||_, not}
-use mathlib.Core.List.{List}
 use native.Mathlib.Omega.{arith}
 use native.Mathlib.Nat.{div-add-mod', lt-of-lt-of-le}
 use lib.Bits.{bitAnd, bitOr, and-shr, and-mod}
 use lib.Dec.{eqb}
-use lib.ListN.{length, getD}
+use lib.ListN.{length}
 use lib.Pow.{pow-mono}
 use borrow.Author.Tests.{eqb-true, eq-eqb}
 use Rattle.model.specs.Limits.{maxPosition}
@@ -19,8 +18,10 @@ use Rattle.model.specs.Quick.{hangsFrom, meets, offers, closed, union}
 use Rattle.model.proofs.ListLaws.{and-intro, and-left, and-right, bool-ext}
 use Rattle.model.proofs.Masks.{mask-lt, mask-below}
 use Rattle.bits.proofs.MaskLaws.{mask-agree, mask-or, mask-and, subset-all}
+use Rattle.matching.specs.Matching.{childrenIn}
 use Rattle.containment.specs.Judging.{fullBy, meetsBy, offersBy, Sets, nodeBy}
-use Rattle.containment.specs.Prepared.{allOffered, mayHold, NodeSets, ChainSets}
+use Rattle.containment.specs.Sets.{mayHold}
+use Rattle.containment.specs.Prepared.{NodeSets, ChainSets}
 
 -- ---- all children, by halves
 
@@ -44,12 +45,12 @@ within-halves a b =
     ∙ ap₂ (λ (u v : Bool). u && v) (ap (λ (z : ℕ). eqb z (a % 256)) (and-mod a b 8)) (ap (λ (z : ℕ). eqb z (a / 256)) (and-shr a b 8))
 
 -- the masks of children, in two halves, give the nodes all of whose children are in a set
-pub full-halves : (Q : Pattern) (low high : List ℕ) → length Q ≤ 16
-    → ((b : ℕ) → b < 256 → getD low b 0 ≡ maskBelow (λ p. eqb (bitAnd (maskBelow (hangsFrom Q p) (length Q) % 256) b) (maskBelow (hangsFrom Q p) (length Q) % 256)) (length Q))
-    → ((b : ℕ) → b < 256 → getD high b 0 ≡ maskBelow (λ p. eqb (bitAnd (maskBelow (hangsFrom Q p) (length Q) / 256) b) (maskBelow (hangsFrom Q p) (length Q) / 256)) (length Q))
-    → (acc : ℕ → Bool) → fullBy low high (maskBelow acc (length Q)) ≡ maskBelow (allOffered Q acc) (length Q)
-unfolding fullBy allOffered
-full-halves Q low high small lows highs acc =
+pub full-halves : (Q : Pattern) (T : Sets) → length Q ≤ 16
+    → ((b : ℕ) → b < 256 → T .low b ≡ maskBelow (λ p. eqb (bitAnd (maskBelow (hangsFrom Q p) (length Q) % 256) b) (maskBelow (hangsFrom Q p) (length Q) % 256)) (length Q))
+    → ((b : ℕ) → b < 256 → T .high b ≡ maskBelow (λ p. eqb (bitAnd (maskBelow (hangsFrom Q p) (length Q) / 256) b) (maskBelow (hangsFrom Q p) (length Q) / 256)) (length Q))
+    → (acc : ℕ → Bool) → fullBy T (maskBelow acc (length Q)) ≡ maskBelow (childrenIn Q acc) (length Q)
+unfolding fullBy childrenIn
+full-halves Q T small lows highs acc =
     ap₂ bitAnd (lows (a % 256) (omega arith)) (highs (a / 256) (omega (arith, bound)))
     ∙ mask-and (λ p. within (kids p % 256) (a % 256)) (λ p. within (kids p / 256) (a / 256)) (length Q)
     ∙ mask-agree (λ p. within (kids p % 256) (a % 256) && within (kids p / 256) (a / 256)) (λ p. allOf (λ c. not (hangsFrom Q p c) || acc c) (upFrom 0 (length Q))) (length Q)
@@ -66,19 +67,19 @@ full-halves Q low high small lows highs acc =
 
 -- ---- one node
 
-module _ (S : Summary) (Q : Pattern) (fitting allowed low high : List ℕ) (deep : ℕ) (N : NodeSets S Q fitting allowed low high deep) where
+module _ (S : Summary) (Q : Pattern) (T : Sets) (N : NodeSets S Q T) where
   pub meets-mask : (x n : ℕ) (acc : ℕ → Bool) → x < length S → n ≤ maxPosition
-      → meetsBy fitting allowed low high x n (maskBelow acc (length Q)) ≡ maskBelow (meets S Q x n acc) (length Q)
-  unfolding meetsBy meets allOffered
+      → meetsBy T x n (maskBelow acc (length Q)) ≡ maskBelow (meets S Q x n acc) (length Q)
+  unfolding meetsBy meets childrenIn
   meets-mask x n acc h k =
       ap₂ bitAnd (ap₂ bitAnd (N .fits x h) (N .may n k) ∙ mask-and fit (mayHold Q n) (length Q)) (N .full acc)
-      ∙ mask-and (λ p. fit p && mayHold Q n p) (allOffered Q acc) (length Q)
+      ∙ mask-and (λ p. fit p && mayHold Q n p) (childrenIn Q acc) (length Q)
     where
       fit : ℕ → Bool
       fit p = labelFits (patternLabel Q p) (summaryLabel S x)
 
   pub offers-mask : (x n : ℕ) (acc : ℕ → Bool) → x < length S → n ≤ maxPosition
-      → offersBy fitting allowed low high deep x n (maskBelow acc (length Q)) ≡ maskBelow (offers S Q x n acc) (length Q)
+      → offersBy T x n (maskBelow acc (length Q)) ≡ maskBelow (offers S Q x n acc) (length Q)
   unfolding offersBy offers
   offers-mask x n acc h k =
       ap₂ bitOr (meets-mask x n acc h k) (ap (λ (d : ℕ). bitAnd d (maskBelow acc (length Q))) (N .deeps) ∙ mask-and (descends Q) acc (length Q))
@@ -89,6 +90,6 @@ pub node-mask : (S : Summary) (Q : Pattern) (T : Sets) → ChainSets S Q T → (
     → nodeBy T x n (maskBelow g (length Q)) ≡ maskBelow (offers S Q x n (union (closed S Q x) g)) (length Q)
 unfolding nodeBy
 node-mask S Q T C x n g h k =
-    ap (offersBy (T .fitting) (T .allowed) (T .low) (T .high) (T .deep) x n)
+    ap (offersBy T x n)
     (ap (λ (d : ℕ). bitOr d (maskBelow g (length Q))) (C .closes x h) ∙ mask-or (closed S Q x) g (length Q))
-    ∙ offers-mask S Q (T .fitting) (T .allowed) (T .low) (T .high) (T .deep) (C .node) x n (union (closed S Q x) g) h k
+    ∙ offers-mask S Q T (C .node) x n (union (closed S Q x) g) h k

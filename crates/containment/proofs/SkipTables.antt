@@ -8,13 +8,14 @@ use native.Mathlib.Omega.{arith}
 use native.Mathlib.Nat.{one-mul, zero-add}
 use lib.Bits.{bitOr, bitAnd}
 use lib.Dec.{eqb, ltb}
-use lib.ListN.{length, getD, replicate, length-replicate, getD-replicate}
+use lib.ListN.{length, getD}
 use lib.Pow.{suc-ones}
 use borrow.Author.Tests.{ltb-true, ltb-false, lt-ltb}
 use Rattle.model.specs.Lists.{upFrom, keep, anyOf, allOf, maskBelow}
-use Rattle.model.specs.Tree.{Rooted, Document, IsTree, parentOf, Below}
+use Rattle.model.specs.Limits.{maxPosition}
+use Rattle.model.specs.Tree.{Document, IsTree, parentOf, Below}
 use Rattle.model.specs.Summary.{Summary, asDocument}
-use Rattle.model.specs.Pattern.{Pattern, IsPatternTree, position}
+use Rattle.model.specs.Pattern.{Pattern, IsPatternTree, patternParent, descends, position}
 use Rattle.model.specs.Embeddings.{edgeTest}
 use Rattle.model.specs.Canonical.{chain}
 use Rattle.model.specs.Quick.{hangsFrom, hang}
@@ -25,116 +26,94 @@ use Rattle.model.proofs.WaysLaws.{children-later, children-after, ways-equation
 use Rattle.model.proofs.Skipping.{low-equation}
 use Rattle.bits.proofs.MaskLaws.{mask-agree}
 use Rattle.containment.specs.Judging.{Sets, nodeBy, climbBy, hangBy}
-use Rattle.containment.specs.Prepared.{ChainSets, Columns}
-use Rattle.containment.specs.Stepping.{members}
-use Rattle.containment.specs.Skipping.{loop, cell, childTurn, childLoop, underBy, offerBy, lowRow, lowTable, timesBy, waysRow, waysTable}
+use Rattle.containment.specs.Prepared.{ChainSets}
+use Rattle.containment.specs.Blocks.{cell}
+use Rattle.containment.specs.Stepping.{members, Candidates, placesBy}
+use Rattle.containment.specs.Skipping.{loop, childTurn, childLoop, underBy, offerBy, lowRow, lowTable, timesBy, waysRow, waysTable}
 use Rattle.containment.proofs.KeepLaws.{keep-agree}
 use Rattle.containment.proofs.ChainLaws.{climb-stop, climb-step, hang-mask}
 use Rattle.containment.proofs.GatherLaws.{any-keep}
 use Rattle.containment.proofs.RowLaws.{rows-entries, row-length, row-other, row-entry, loop-keep, loop-or, loop-and, loop-sum, loop-product}
 
--- the columns' parents are the pattern's
-pub columns-rooted : (P : Pattern) (parents positions : List ℕ) → Columns P parents positions → IsPatternTree P → Rooted (length P) (λ c. getD parents c 0)
-columns-rooted P parents positions C p =
-    record {
-      inhabited = p .inhabited;
-      root = C .parent 0 (p .inhabited) ∙ p .root;
-      earlier = λ c z h. subst (λ (j : ℕ). j < c) (sym (C .parent c h)) (p .earlier c z h);
-    }
-
-table-long : (m v : ℕ) → m ≤ 16 → 64 * m ≤ length {A = ℕ} (replicate 1024 v)
-table-long m v h =
-    let l : length {A = ℕ} (replicate 1024 v) ≡ 1024 = length-replicate {A = ℕ} 1024 v in
-    omega arith
-
 -- a climb with more room gives the same
-climb-fuel : (T : Sets) (n : ℕ) → ((x : ℕ) → 0 < x → x < n → getD (T .up) x 0 < x) → (k l a x h : ℕ) → x ≤ k → x ≤ l → x < n → climbBy k T a x h ≡ climbBy l T a x h
+climb-fuel : (T : Sets) (n : ℕ) → ((x : ℕ) → 0 < x → x < n → T .up x < x) → (k l a x h : ℕ) → x ≤ k → x ≤ l → x < n → climbBy k T a x h ≡ climbBy l T a x h
 climb-fuel T n falls zero l a x h p q i = climb-stop zero T a x h (omega arith) ∙ sym (climb-stop l T a x h (omega arith))
 climb-fuel T n falls (suc k) zero a x h p q i = climb-stop (suc k) T a x h (omega arith) ∙ sym (climb-stop zero T a x h (omega arith))
-climb-fuel T n falls (suc k) (suc l) a x h p q i = go (ltb a x) refl (λ p q z. climb-fuel T n falls k l a (getD (T .up) x 0) (nodeBy T x 0 h) p q z)
+climb-fuel T n falls (suc k) (suc l) a x h p q i = go (ltb a x) refl (λ p q z. climb-fuel T n falls k l a (T .up x) (nodeBy T x 0 h) p q z)
   where
     go : (b : Bool) → ltb a x ≡ b
-        → (getD (T .up) x 0 ≤ k → getD (T .up) x 0 ≤ l → getD (T .up) x 0 < n → climbBy k T a (getD (T .up) x 0) (nodeBy T x 0 h) ≡ climbBy l T a (getD (T .up) x 0) (nodeBy T x 0 h))
+        → (T .up x ≤ k → T .up x ≤ l → T .up x < n → climbBy k T a (T .up x) (nodeBy T x 0 h) ≡ climbBy l T a (T .up x) (nodeBy T x 0 h))
         → climbBy (suc k) T a x h ≡ climbBy (suc l) T a x h
     go false e rest = let z : x ≤ a = ltb-false a x e in climb-stop (suc k) T a x h z ∙ sym (climb-stop (suc l) T a x h z)
     go true e rest =
         let z : a < x = ltb-true a x e in
-        let f : getD (T .up) x 0 < x = falls x (omega arith) i in
+        let f : T .up x < x = falls x (omega arith) i in
         climb-step k T a x h z ∙ rest (omega arith) (omega arith) (omega arith) ∙ sym (climb-step l T a x h z)
 
--- a table's entries as it begins
-table-start : (v m n d y : ℕ) → m ≤ 16 → n ≤ 64 → d < m → y < n → getD (replicate 1024 v) (cell d y) 0 ≡ v
-table-start v m n d y small narrow h l = getD-replicate {A = ℕ} 1024 (cell d y) v 0 (omega arith)
-
-module _ (m : ℕ) (parents : List ℕ) (T : Rooted m (λ c. getD parents c 0)) where
-  abbrev parent : ℕ → ℕ
-  parent c = getD parents c 0
-
+module _ (P : Pattern) (T : IsPatternTree P) where
   -- a loop over the nodes after c that takes the children of c
-  child-loop : (places : ℕ → ℕ → List ℕ) (join : ℕ → ℕ → ℕ) (start : ℕ) (t : List ℕ) (c y : ℕ) → c < m
-      → childLoop join start parents m t c y ≡ loop (λ acc d. join acc (getD t (cell d y) 0)) start (childrenOf m parent c)
+  child-loop : (places : ℕ → ℕ → List ℕ) (join : ℕ → ℕ → ℕ) (start : ℕ) (t : List ℕ) (c y : ℕ) → c < length P
+      → childLoop join start P t c y ≡ loop (λ acc d. join acc (getD t (cell d y) 0)) start (childrenOf (length P) (patternParent P) c)
   unfolding childLoop childTurn
   child-loop places join start t c y h =
-      loop-keep (λ d. eqb (parent d) c) (λ acc d. join acc (getD t (cell d y) 0)) start range
+      loop-keep (λ d. eqb (patternParent P d) c) (λ acc d. join acc (getD t (cell d y) 0)) start range
       ∙ ap (loop (λ acc d. join acc (getD t (cell d y) 0)) start)
-      (keep-agree (λ d. eqb (parent d) c) (λ d. ltb 0 d && eqb (parent d) c) range (λ d k. (let u = upFrom-mem (suc c) (m - suc c) d k in sym (ap (λ (b : Bool). b && eqb (parent d) c) (lt-ltb 0 d (omega arith))))) ∙ sym (children-after m parent places T c h))
+      (keep-agree (λ d. eqb (patternParent P d) c) (λ d. ltb 0 d && eqb (patternParent P d) c) range (λ d k. (let u = upFrom-mem (suc c) (length P - suc c) d k in sym (ap (λ (b : Bool). b && eqb (patternParent P d) c) (lt-ltb 0 d (omega arith))))) ∙ sym (children-after (length P) (patternParent P) places T c h))
     where
       range : List ℕ
-      range = upFrom (suc c) (m - suc c)
+      range = upFrom (suc c) (length P - suc c)
 
 -- the places of a node from x are those of its paths that its edge reaches from there
-module _ (W : Document) (tree : IsTree W) (narrow : length W ≤ 64) (up parents edges parts : List ℕ) (masks : ℕ → ℕ → ℕ) (m : ℕ) (small : m ≤ 16) (R : Rooted m (λ c. getD parents c 0))
-    (ups : (b : ℕ) → b < length W → getD up b 0 ≡ parentOf W b) (inside : (c y : ℕ) → c < m → List·Memᴰ y (members (getD parts c 0)) → y < length W)
-    (reach : (c x : ℕ) → c < m → x < length W → keep (edgeTest (eqb (getD edges c 0) 1) W x) (members (getD parts c 0)) ≡ members (masks c x)) where
-  abbrev far : ℕ → Bool
-  far c = eqb (getD edges c 0) 1
-
+module _ (W : Document) (tree : IsTree W) (narrow : length W ≤ 64) (up : ℕ → ℕ) (P : Pattern) (M : Candidates) (R : IsPatternTree P)
+    (ups : (b : ℕ) → b < length W → up b ≡ parentOf W b) (inside : (c y : ℕ) → c < length P → List·Memᴰ y (members (M .parts c)) → y < length W)
+    (reach : (c x : ℕ) → c < length P → x < length W → keep (edgeTest (descends P c) W x) (members (M .parts c)) ≡ members (placesBy P M c x)) where
   abbrev places : ℕ → ℕ → List ℕ
-  places c x = members (masks c x)
+  places c x = members (placesBy P M c x)
 
-  up-falls : (b : ℕ) → 0 < b → b < length W → getD up b 0 < b
+  up-falls : (b : ℕ) → 0 < b → b < length W → up b < b
   up-falls b z h = subst (λ (a : ℕ). a < b) (sym (ups b h)) (tree .earlier b z h)
 
-  long : (c : ℕ) (t : List ℕ) → c < m → 64 * m ≤ length t → 64 * suc c ≤ length t
+  long : (c : ℕ) (t : List ℕ) → c < length P → 64 * length P ≤ length t → 64 * suc c ≤ length t
   long c t h l = omega arith
 
   -- ---- in how many ways
 
   module _ (K : ℕ) (some : 0 < K) where
     abbrev count : ℕ → ℕ → ℕ
-    count = ways m (parent m parents R) places
+    count = ways (length P) (patternParent P) places
 
     -- all below c, where it stands at y
     abbrev times : ℕ → ℕ → ℕ
-    times c y = productOf (λ d. count d y) (childrenOf m (parent m parents R) c)
+    times c y = productOf (λ d. count d y) (childrenOf (length P) (patternParent P) c)
 
-    times-right : (c : ℕ) → c < m → (t : List ℕ) (y : ℕ) → y < length W → ((d x : ℕ) → c < d → d < m → x < length W → getD t (cell d x) 0 ≡ min K (count d x)) → timesBy K parents m t c y ≡ min K (times c y)
+    times-right : (c : ℕ) → c < length P → (t : List ℕ) (y : ℕ) → y < length W → ((d x : ℕ) → c < d → d < length P → x < length W → getD t (cell d x) 0 ≡ min K (count d x)) → timesBy K P t c y ≡ min K (times c y)
     unfolding timesBy
     times-right c h t y l right =
         let one : 1 ≡ min K 1 = omega arith in
-        child-loop m parents R places (λ acc e. min K (acc * e)) 1 t c y h ∙ ap (λ (a : ℕ). loop (λ acc d. min K (acc * getD t (cell d y) 0)) a (childrenOf m (parent m parents R) c)) one
-        ∙ loop-product K (λ d. getD t (cell d y) 0) (λ d. count d y) 1 (childrenOf m (parent m parents R) c) (λ d k. (let r = children-later m (parent m parents R) places R c d k in right d y (r .0) (r .1) l))
+        child-loop P R places (λ acc e. min K (acc * e)) 1 t c y h ∙ ap (λ (a : ℕ). loop (λ acc d. min K (acc * getD t (cell d y) 0)) a (childrenOf (length P) (patternParent P) c)) one
+        ∙ loop-product K (λ d. getD t (cell d y) 0) (λ d. count d y) 1 (childrenOf (length P) (patternParent P) c) (λ d k. (let r = children-later (length P) (patternParent P) places R c d k in right d y (r .0) (r .1) l))
         ∙ ap (min K) (one-mul (times c y))
 
-    ways-right : (c x : ℕ) (t : List ℕ) → 0 < c → c < m → x < length W → 64 * m ≤ length t → ((d y : ℕ) → c < d → d < m → y < length W → getD t (cell d y) 0 ≡ min K (count d y)) → getD t (cell c x) 0 ≡ 0
-        → getD (waysRow K up parents edges parts m c t) (cell c x) 0 ≡ min K (count c x)
+    ways-right : (c x : ℕ) (t : List ℕ) → 0 < c → c < length P → x < length W → 64 * length P ≤ length t → ((d y : ℕ) → c < d → d < length P → y < length W → getD t (cell d y) 0 ≡ min K (count d y)) → getD t (cell c x) 0 ≡ 0
+        → getD (waysRow K up P M c t) (cell c x) 0 ≡ min K (count c x)
     unfolding waysRow
     ways-right c x t z h l e right first =
         let none : 0 ≡ min K 0 = omega arith in
-        row-entry W tree up ups narrow (λ acc n. min K (acc + n)) (λ x n. n) (timesBy K parents m) (far c) c (λ b n x. n) (λ b n z i. refl) (λ b n x z i j. refl) m (λ d y. min K (count d y)) (λ y. min K (times c y)) (times-right c h)
-        (members (getD parts c 0)) t x (λ y k. inside c y h k) (long c t h e) right l
-        ∙ ap (λ (a : ℕ). loop (λ acc y. min K (acc + min K (times c y))) a (keep (edgeTest (far c) W x) (members (getD parts c 0)))) (first ∙ none)
+        row-entry W tree up ups narrow (λ acc n. min K (acc + n)) (λ x n. n) (timesBy K P) (descends P c) c (λ b n x. n) (λ b n z i. refl) (λ b n x z i j. refl) (length P) (λ d y. min K (count d y)) (λ y. min K (times c y)) (times-right c h)
+        (members (M .parts c)) t x (λ y k. inside c y h k) (long c t h e) right l
+        ∙ ap (λ (a : ℕ). loop (λ acc y. min K (acc + min K (times c y))) a (keep (edgeTest (descends P c) W x) (members (M .parts c)))) (first ∙ none)
         ∙ ap (loop (λ acc y. min K (acc + min K (times c y))) (min K 0)) (reach c x h l)
         ∙ loop-sum K (λ y. min K (times c y)) (times c) 0 (places c x) (λ y k. refl)
-        ∙ ap (min K) (zero-add (sumOf (times c) (places c x)) ∙ sym (ways-equation m (parent m parents R) places R c x h))
+        ∙ ap (min K) (zero-add (sumOf (times c) (places c x)) ∙ sym (ways-equation (length P) (patternParent P) places R c x h))
 
     -- the table of counts, each cut at the cap
-    pub ways-table : (c x : ℕ) → 0 < c → c < m → x < length W → getD (waysTable K up parents edges parts m) (cell c x) 0 ≡ min K (ways m (λ c. getD parents c 0) (λ c x. members (masks c x)) c x)
+    pub ways-table : (t : List ℕ) → 64 * length P ≤ length t → ((d y : ℕ) → d < length P → y < length W → getD t (cell d y) 0 ≡ 0) → (c x : ℕ) → 0 < c → c < length P → x < length W
+        → getD (waysTable K up P M t) (cell c x) 0 ≡ min K (ways (length P) (patternParent P) (λ c x. members (placesBy P M c x)) c x)
     unfolding waysRow
-    ways-table c x z h l =
-        rows-entries m (length W) 0 (waysRow K up parents edges parts m) (λ c x. min K (count c x)) (λ c t h. row-length W tree up ups narrow (λ acc n. min K (acc + n)) (λ x n. n) (timesBy K parents m) (far c) c (members (getD parts c 0)) t (λ y k. inside c y h k))
-        (λ c d y t h l ne. row-other W tree up ups narrow (λ acc n. min K (acc + n)) (λ x n. n) (timesBy K parents m) (far c) c (members (getD parts c 0)) t d y (λ y k. inside c y h k) l ne)
-        ways-right (replicate 1024 0) c x (table-long m 0 small) (λ d y i j. table-start 0 m (length W) d y small narrow i j) z h l
+    ways-table t long-t begins c x z h l =
+        rows-entries (length P) (length W) 0 (waysRow K up P M) (λ c x. min K (count c x)) (λ c t h. row-length W tree up ups narrow (λ acc n. min K (acc + n)) (λ x n. n) (timesBy K P) (descends P c) c (members (M .parts c)) t (λ y k. inside c y h k))
+        (λ c d y t h l ne. row-other W tree up ups narrow (λ acc n. min K (acc + n)) (λ x n. n) (timesBy K P) (descends P c) c (members (M .parts c)) t d y (λ y k. inside c y h k) l ne)
+        ways-right t c x long-t begins z h l
 
 -- ---- what is offered at least
 
@@ -148,16 +127,16 @@ all-mask (suc n) =
     let d : 2 ^ suc n ≡ 2 ^ n + 2 ^ n = omega arith in
     omega arith
 
-module _ (S : Summary) (P Q : Pattern) (T : Sets) (parents edges positions parts : List ℕ) (masks : ℕ → ℕ → ℕ) (C : ChainSets S Q T) (K : Columns P parents positions) (t : IsTree (asDocument S)) (p : IsPatternTree P)
-    (narrow : length (asDocument S) ≤ 64) (small : length P ≤ 16) (ups : (b : ℕ) → b < length (asDocument S) → getD (T .up) b 0 ≡ parentOf (asDocument S) b)
-    (inside : (c y : ℕ) → c < length P → List·Memᴰ y (members (getD parts c 0)) → y < length (asDocument S))
-    (reach : (c x : ℕ) → c < length P → x < length (asDocument S) → keep (edgeTest (eqb (getD edges c 0) 1) (asDocument S) x) (members (getD parts c 0)) ≡ members (masks c x))
-    (reached : (c x y : ℕ) → 0 < c → c < length P → x < length (asDocument S) → List·Memᴰ y (members (masks c x)) → Below (asDocument S) x y) where
+module _ (S : Summary) (P Q : Pattern) (T : Sets) (M : Candidates) (C : ChainSets S Q T) (t : IsTree (asDocument S)) (p : IsPatternTree P)
+    (range : (c : ℕ) → c < length P → position P c ≤ maxPosition) (narrow : length (asDocument S) ≤ 64) (ups : (b : ℕ) → b < length (asDocument S) → T .up b ≡ parentOf (asDocument S) b)
+    (inside : (c y : ℕ) → c < length P → List·Memᴰ y (members (M .parts c)) → y < length (asDocument S))
+    (reach : (c x : ℕ) → c < length P → x < length (asDocument S) → keep (edgeTest (descends P c) (asDocument S) x) (members (M .parts c)) ≡ members (placesBy P M c x))
+    (reached : (c x y : ℕ) → 0 < c → c < length P → x < length (asDocument S) → List·Memᴰ y (members (placesBy P M c x)) → Below (asDocument S) x y) where
   abbrev W : Document
   W = asDocument S
 
   abbrev placed : ℕ → ℕ → List ℕ
-  placed c x = members (masks c x)
+  placed c x = members (placesBy P M c x)
 
   -- what is offered at least, by the model
   abbrev least : ℕ → ℕ → ℕ → Bool
@@ -170,63 +149,58 @@ module _ (S : Summary) (P Q : Pattern) (T : Sets) (parents edges positions parts
   abbrev Offered : List ℕ → ℕ → Type 0
   Offered u c = (d y : ℕ) → c < d → d < length P → y < length W → getD u (cell d y) 0 ≡ maskBelow (least d y) (length Q)
 
-  rooted : Rooted (length P) (λ c. getD parents c 0)
-  rooted = columns-rooted P parents positions K p
-
-  under-right : (c : ℕ) → c < length P → (u : List ℕ) (y : ℕ) → y < length W → Offered u c → underBy parents (length P) u c y ≡ maskBelow (under c y) (length Q)
+  under-right : (c : ℕ) → c < length P → (u : List ℕ) (y : ℕ) → y < length W → Offered u c → underBy P u c y ≡ maskBelow (under c y) (length Q)
   unfolding underBy childrenOf hangsFrom
   under-right c h u y l right =
-      child-loop (length P) parents rooted placed bitOr 0 u c y h
+      child-loop P p placed bitOr 0 u c y h
       ∙ ap (λ (a : ℕ). loop (λ acc d. bitOr acc (getD u (cell d y) 0)) a kids) (sym (mask-none (λ _. false) (length Q) (λ r k. refl)))
-      ∙ loop-or (length Q) (λ d. getD u (cell d y) 0) (λ d. least d y) (λ _. false) kids (λ d k. (let r = children-later (length P) (λ c. getD parents c 0) placed rooted c d k in right d y (r .0) (r .1) l))
-      ∙ mask-agree (λ r. false || anyOf (λ d. least d y r) kids) (under c y) (length Q) (λ r k. any-keep (λ d. least d y r) (λ d. ltb 0 d && eqb (getD parents d 0) c) (upFrom 0 (length P)) ∙ any-agree (λ d. ltb 0 d && eqb (getD parents d 0) c && least d y r) (λ d. hangsFrom P c d && least d y r) (upFrom 0 (length P)) (λ d m. (let v = upFrom-mem 0 (length P) d m in ap (λ (j : ℕ). ltb 0 d && eqb j c && least d y r) (K .parent d (omega arith)))))
+      ∙ loop-or (length Q) (λ d. getD u (cell d y) 0) (λ d. least d y) (λ _. false) kids (λ d k. (let r = children-later (length P) (patternParent P) placed p c d k in right d y (r .0) (r .1) l))
+      ∙ mask-agree (λ r. false || anyOf (λ d. least d y r) kids) (under c y) (length Q) (λ r k. any-keep (λ d. least d y r) (λ d. ltb 0 d && eqb (patternParent P d) c) (upFrom 0 (length P)))
     where
       kids : List ℕ
-      kids = childrenOf (length P) (λ c. getD parents c 0) c
+      kids = childrenOf (length P) (patternParent P) c
 
   -- what c itself offers at y
   abbrev own : ℕ → ℕ → ℕ
-  own c y = nodeBy T y (getD positions c 0) (maskBelow (under c y) (length Q))
+  own c y = nodeBy T y (position P c) (maskBelow (under c y) (length Q))
 
-  offer-right : (c : ℕ) → c < length P → (u : List ℕ) (y : ℕ) → y < length W → Offered u c → offerBy T parents positions (length P) u c y ≡ own c y
+  offer-right : (c : ℕ) → c < length P → (u : List ℕ) (y : ℕ) → y < length W → Offered u c → offerBy T P u c y ≡ own c y
   unfolding offerBy
-  offer-right c h u y l right = ap (nodeBy T y (getD positions c 0)) (under-right c h u y l right)
+  offer-right c h u y l right = ap (nodeBy T y (position P c)) (under-right c h u y l right)
 
   -- what becomes of h on its way from b up to x
   abbrev hung : ℕ → ℕ → ℕ → ℕ
-  hung b h x = climbBy b T x (getD (T .up) b 0) h
+  hung b h x = climbBy b T x (T .up b) h
 
-  hung-above : (b h x : ℕ) → 0 < b → b < length W → x < getD (T .up) b 0 → hung b h x ≡ hung (getD (T .up) b 0) (nodeBy T (getD (T .up) b 0) 0 h) x
+  hung-above : (b h x : ℕ) → 0 < b → b < length W → x < T .up b → hung b h x ≡ hung (T .up b) (nodeBy T (T .up b) 0 h) x
   hung-above zero h x z i l = absurd (omega arith)
   hung-above (suc b) h x z i l =
-      let f : getD (T .up) (suc b) 0 < suc b = up-falls W t narrow (T .up) parents edges parts masks (length P) small rooted ups inside reach (suc b) z i in
-      let g : getD (T .up) (getD (T .up) (suc b) 0) 0 < getD (T .up) (suc b) 0 = up-falls W t narrow (T .up) parents edges parts masks (length P) small rooted ups inside reach (getD (T .up) (suc b) 0) (omega arith) (omega arith) in
-      climb-step b T x (getD (T .up) (suc b) 0) h l
-      ∙ climb-fuel T (length W) (up-falls W t narrow (T .up) parents edges parts masks (length P) small rooted ups inside reach) b (getD (T .up) (suc b) 0) x (getD (T .up) (getD (T .up) (suc b) 0) 0) (nodeBy T (getD (T .up) (suc b) 0) 0 h) (omega arith) (omega arith) (omega arith)
+      let f : T .up (suc b) < suc b = up-falls W t narrow (T .up) P M p ups inside reach (suc b) z i in
+      let g : T .up (T .up (suc b)) < T .up (suc b) = up-falls W t narrow (T .up) P M p ups inside reach (T .up (suc b)) (omega arith) (omega arith) in
+      climb-step b T x (T .up (suc b)) h l
+      ∙ climb-fuel T (length W) (up-falls W t narrow (T .up) P M p ups inside reach) b (T .up (suc b)) x (T .up (T .up (suc b))) (nodeBy T (T .up (suc b)) 0 h) (omega arith) (omega arith) (omega arith)
 
   hung-mask : (c x y : ℕ) → 0 < c → c < length P → x < length W → List·Memᴰ y (placed c x) → hung y (own c y) x ≡ maskBelow (hang S Q (position P c) (under c y) (chain S x y)) (length Q)
   unfolding hangBy
-  hung-mask c x y z h l m =
-      ap (λ (k : ℕ). climbBy y T x (getD (T .up) y 0) (nodeBy T y k (maskBelow (under c y) (length Q)))) (K .place c h)
-      ∙ hang-mask S Q T C t x y (position P c) (under c y) (reached c x y z h l m) (K .range c h)
+  hung-mask c x y z h l m = hang-mask S Q T C t x y (position P c) (under c y) (reached c x y z h l m) (range c h)
 
   low-right : (c x : ℕ) (u : List ℕ) → 0 < c → c < length P → x < length W → 64 * length P ≤ length u → Offered u c → getD u (cell c x) 0 ≡ 2 ^ length Q - 1
-      → getD (lowRow T parents edges positions parts (length P) c u) (cell c x) 0 ≡ maskBelow (least c x) (length Q)
+      → getD (lowRow T P M c u) (cell c x) 0 ≡ maskBelow (least c x) (length Q)
   unfolding lowRow
   low-right c x u z h l e right first =
-      row-entry W t (T .up) ups narrow bitAnd (λ x h. nodeBy T x 0 h) (offerBy T parents positions (length P)) (eqb (getD edges c 0) 1) c hung (λ b h z i. climb-stop b T (getD (T .up) b 0) (getD (T .up) b 0) h (omega arith)) hung-above (length P) (λ d y. maskBelow (least d y) (length Q)) (own c) (offer-right c h)
-      (members (getD parts c 0)) u x (λ y k. inside c y h k) (omega arith) right l
-      ∙ ap (λ (a : ℕ). loop (λ acc y. bitAnd acc (hung y (own c y) x)) a (keep (edgeTest (eqb (getD edges c 0) 1) W x) (members (getD parts c 0)))) (first ∙ all-mask (length Q))
+      row-entry W t (T .up) ups narrow bitAnd (λ x h. nodeBy T x 0 h) (offerBy T P) (descends P c) c hung (λ b h z i. climb-stop b T (T .up b) (T .up b) h (omega arith)) hung-above (length P) (λ d y. maskBelow (least d y) (length Q)) (own c) (offer-right c h)
+      (members (M .parts c)) u x (λ y k. inside c y h k) (omega arith) right l
+      ∙ ap (λ (a : ℕ). loop (λ acc y. bitAnd acc (hung y (own c y) x)) a (keep (edgeTest (descends P c) W x) (members (M .parts c)))) (first ∙ all-mask (length Q))
       ∙ ap (loop (λ acc y. bitAnd acc (hung y (own c y) x)) (maskBelow (λ _. true) (length Q))) (reach c x h l)
       ∙ loop-and (length Q) (λ y. hung y (own c y) x) (λ y. hang S Q (position P c) (under c y) (chain S x y)) (λ _. true) (placed c x) (λ y k. hung-mask c x y z h l k)
       ∙ mask-agree (λ q. true && allOf (λ y. hang S Q (position P c) (under c y) (chain S x y) q) (placed c x)) (least c x) (length Q) (λ q k. sym (low-equation S P Q placed p c x q h))
 
   -- the table of least offers
-  pub low-table : (c x : ℕ) → 0 < c → c < length P → x < length (asDocument S)
-      → getD (lowTable T parents edges positions parts (length P) (length Q)) (cell c x) 0 ≡ maskBelow (low S P Q (λ c x. members (masks c x)) c x) (length Q)
+  pub low-table : (u : List ℕ) → 64 * length P ≤ length u → ((d y : ℕ) → d < length P → y < length (asDocument S) → getD u (cell d y) 0 ≡ 2 ^ length Q - 1) → (c x : ℕ) → 0 < c → c < length P
+      → x < length (asDocument S) → getD (lowTable T P M u) (cell c x) 0 ≡ maskBelow (low S P Q (λ c x. members (placesBy P M c x)) c x) (length Q)
   unfolding lowRow
-  low-table c x z h l =
-      rows-entries (length P) (length W) (2 ^ length Q - 1) (lowRow T parents edges positions parts (length P)) (λ c x. maskBelow (least c x) (length Q))
-      (λ c u h. row-length W t (T .up) ups narrow bitAnd (λ x h. nodeBy T x 0 h) (offerBy T parents positions (length P)) (eqb (getD edges c 0) 1) c (members (getD parts c 0)) u (λ y k. inside c y h k))
-      (λ c d y u h l ne. row-other W t (T .up) ups narrow bitAnd (λ x h. nodeBy T x 0 h) (offerBy T parents positions (length P)) (eqb (getD edges c 0) 1) c (members (getD parts c 0)) u d y (λ y k. inside c y h k) l ne)
-      low-right (replicate 1024 (2 ^ length Q - 1)) c x (table-long (length P) (2 ^ length Q - 1) small) (λ d y i j. table-start (2 ^ length Q - 1) (length P) (length W) d y small narrow i j) z h l
+  low-table u long-u begins c x z h l =
+      rows-entries (length P) (length W) (2 ^ length Q - 1) (lowRow T P M) (λ c x. maskBelow (least c x) (length Q))
+      (λ c u h. row-length W t (T .up) ups narrow bitAnd (λ x h. nodeBy T x 0 h) (offerBy T P) (descends P c) c (members (M .parts c)) u (λ y k. inside c y h k))
+      (λ c d y u h l ne. row-other W t (T .up) ups narrow bitAnd (λ x h. nodeBy T x 0 h) (offerBy T P) (descends P c) c (members (M .parts c)) u d y (λ y k. inside c y h k) l ne)
+      low-right u c x long-u begins z h l

@@ -1,6 +1,6 @@
 -- Skipping by the tables is the model's. The places that stepping takes are the model's places, so what it lists are the completions;
 -- by the tables what each node passes on at least is the model's, and so is the number of completions up to the cap. Assumes nothing.
-use Prim.Native.Nat.{ℕ, zero, suc, _+_, _-_, _*_, _≤_, _<_, min}
+use Prim.Native.Nat.{ℕ, zero, suc, _+_, _-_, _*_, _^_, _≤_, _<_, min}
 use mathlib.Core.Path.{_≡_, refl, sym, ap, ap₂, _∙_, subst}
 use mathlib.Core.Bool.{Bool, true, false, _&&_}
 use mathlib.Core.Logic.{_⊎_, inl, inr}
@@ -13,7 +13,8 @@ use lib.ListN.{length, getD, take}
 use lib.Seq.{length-take-le, getD-take}
 use borrow.Author.Tests.{ltb-true, ltb-false}
 use Rattle.model.specs.Lists.{upFrom, keep, anyOf, maskBelow}
-use Rattle.model.specs.Tree.{Rooted, parentOf, Edge, Below}
+use Rattle.model.specs.Limits.{maxPosition}
+use Rattle.model.specs.Tree.{parentOf, Edge, Below}
 use Rattle.model.specs.Summary.{Summary, asDocument}
 use Rattle.model.specs.Pattern.{Pattern, IsPatternTree, patternParent, descends, position, Embeds}
 use Rattle.model.specs.Embeddings.{edgeTest, imageIn, isPath}
@@ -30,33 +31,36 @@ use Rattle.model.proofs.WaysLaws.{product-agree, length-completions}
 use Rattle.model.proofs.Skipping.{Completes, completions-sound, passed, sure-equation, surely-completed, run-skip, skip-capped}
 use Rattle.bits.proofs.MaskLaws.{mask-and}
 use Rattle.containment.specs.Judging.{Sets, passBy, judgeBy}
-use Rattle.containment.specs.Prepared.{ChainSets, Columns, StepSets}
-use Rattle.containment.specs.Stepping.{members, stepFrom, sitesBy}
-use Rattle.containment.specs.Skipping.{placesBy, loop, cell, lowTable, waysTable, sureBy, sureGiven, surelyBy, leftTurn, leftBy, PlacedBy, MaySkip}
+use Rattle.containment.specs.Prepared.{ChainSets, StepSets}
+use Rattle.containment.specs.Blocks.{cell}
+use Rattle.containment.specs.Stepping.{members, stepFrom, Candidates, placesBy, sitesBy}
+use Rattle.containment.specs.Skipping.{loop, lowTable, waysTable, sureBy, sureGiven, surelyBy, leftTurn, leftBy, PlacedBy, MaySkip}
 use Rattle.containment.proofs.KeepLaws.{keep-keep, flat-agree}
 use Rattle.containment.proofs.MemberLaws.{members-mask}
 use Rattle.containment.proofs.Judging.{pass-mask, at-parent, gathered-meets, judge-quick}
 use Rattle.containment.proofs.Deciding.{reach-mask, path-parts}
 use Rattle.containment.proofs.RowLaws.{loop-keep, loop-product}
-use Rattle.containment.proofs.SkipTables.{columns-rooted, ways-table, low-table}
+use Rattle.containment.proofs.SkipTables.{ways-table, low-table}
 
 -- ---- completions
 
 -- stepping goes through the completions
-pub steps-completions : (parents edges children descendants parts : List ℕ) (n : ℕ) (es : List ℕ)
-    → stepFrom (sitesBy parents edges children descendants parts) n es ≡ completions (λ c. getD parents c 0) (λ c x. members (placesBy edges children descendants parts c x)) n es
-unfolding stepFrom completions sitesBy placesBy
-steps-completions parents edges children descendants parts zero es = refl
-steps-completions parents edges children descendants parts (suc n) es =
-    flat-agree (λ v. stepFrom (sitesBy parents edges children descendants parts) n (es ++ v ∷ [])) (λ v. completions (λ c. getD parents c 0) (λ c x. members (placesBy edges children descendants parts c x)) n (es ++ v ∷ []))
-    (members (sitesBy parents edges children descendants parts es)) (λ v k. steps-completions parents edges children descendants parts n (es ++ v ∷ []))
+steps-completions : (P : Pattern) (M : Candidates) (n : ℕ) (es : List ℕ) → stepFrom (sitesBy P M) n es ≡ completions (patternParent P) (λ c x. members (placesBy P M c x)) n es
+unfolding stepFrom completions sitesBy
+steps-completions P M zero es = refl
+steps-completions P M (suc n) es =
+    flat-agree (λ v. stepFrom (sitesBy P M) n (es ++ v ∷ [])) (λ v. completions (patternParent P) (λ c x. members (placesBy P M c x)) n (es ++ v ∷ [])) (members (sitesBy P M es))
+    (λ v k. steps-completions P M n (es ++ v ∷ []))
 
 -- ---- how many
 
-module _ (m n : ℕ) (parents counts : List ℕ) (places : ℕ → ℕ → List ℕ) (K : ℕ) (some : 0 < K)
-    (counted : (c x : ℕ) → 0 < c → c < m → x < n → getD counts (cell c x) 0 ≡ min K (ways m (λ c. getD parents c 0) places c x)) where
+module _ (P : Pattern) (n : ℕ) (counts : List ℕ) (places : ℕ → ℕ → List ℕ) (K : ℕ) (some : 0 < K)
+    (counted : (c x : ℕ) → 0 < c → c < length P → x < n → getD counts (cell c x) 0 ≡ min K (ways (length P) (patternParent P) places c x)) where
   abbrev up : ℕ → ℕ
-  up c = getD parents c 0
+  up = patternParent P
+
+  abbrev m : ℕ
+  m = length P
 
   -- the nodes from q on whose parent is placed
   abbrev free : ℕ → List ℕ
@@ -68,7 +72,7 @@ module _ (m n : ℕ) (parents counts : List ℕ) (places : ℕ → ℕ → List 
       let u = upFrom-mem q (m - q) c (r .0) in
       (u .0, omega arith, ltb-true (up c) q (r .1))
 
-  pub left-right : (q : ℕ) (es : List ℕ) → 0 < q → q ≤ m → ((j : ℕ) → j < q → getD es j 0 < n) → leftBy K parents counts m q es ≡ min K (waysLeft m up places q es)
+  pub left-right : (q : ℕ) (es : List ℕ) → 0 < q → q ≤ m → ((j : ℕ) → j < q → getD es j 0 < n) → leftBy K P counts q es ≡ min K (waysLeft m up places q es)
   unfolding leftBy leftTurn waysLeft
   left-right q es z l inside =
       let one : 1 ≡ min K 1 = omega arith in
@@ -86,19 +90,13 @@ module _ (m n : ℕ) (parents counts : List ℕ) (places : ℕ → ℕ → List 
 
 -- ---- with the right tables
 
-module _ (S : Summary) (P Q : Pattern) (T : Sets) (parents edges positions children descendants parts : List ℕ) (C : ChainSets S Q T) (K : Columns P parents positions)
-    (Z : StepSets S P edges children descendants parts) (s : SummaryFacts S) (p : IsPatternTree P) (narrow : length S ≤ 64) (small : length P ≤ 16) where
+module _ (S : Summary) (P Q : Pattern) (T : Sets) (M : Candidates) (C : ChainSets S Q T) (Z : StepSets S P M) (s : SummaryFacts S) (p : IsPatternTree P)
+    (range : (c : ℕ) → c < length P → position P c ≤ maxPosition) (narrow : length S ≤ 64) (small : length P ≤ 16) where
   abbrev parent : ℕ → ℕ
-  parent c = getD parents c 0
-
-  abbrev masks : ℕ → ℕ → ℕ
-  masks = placesBy edges children descendants parts
+  parent = patternParent P
 
   abbrev places : ℕ → ℕ → List ℕ
-  places c x = members (masks c x)
-
-  rooted : Rooted (length P) parent
-  rooted = columns-rooted P parents positions K p
+  places c x = members (placesBy P M c x)
 
   -- what a place says
   record Place (c x y : ℕ) : Type 0 where
@@ -106,13 +104,13 @@ module _ (S : Summary) (P Q : Pattern) (T : Sets) (parents edges positions child
     path : isPath S P c y ≡ true
     inside : y < length S
 
-  place-mask : (c x : ℕ) → c < length P → x < length S → masks c x ≡ maskBelow (λ y. edgeTest (descends P c) (asDocument S) x y && isPath S P c y) (length S)
+  place-mask : (c x : ℕ) → c < length P → x < length S → placesBy P M c x ≡ maskBelow (λ y. edgeTest (descends P c) (asDocument S) x y && isPath S P c y) (length S)
   unfolding placesBy
   place-mask c x h l =
-      ap₂ bitAnd (reach-mask S P parents edges positions children descendants parts K Z x c l h) (Z .part c h) ∙ mask-and (edgeTest (descends P c) (asDocument S) x) (isPath S P c) (length S)
+      ap₂ bitAnd (reach-mask S P M Z x (descends P c) l) (Z .part c h) ∙ mask-and (edgeTest (descends P c) (asDocument S) x) (isPath S P c) (length S)
 
   -- the places by masks are the model's
-  pub places-right : (c x : ℕ) → c < length P → x < length S → members (placesBy edges children descendants parts c x) ≡ placesOf S P c x
+  pub places-right : (c x : ℕ) → c < length P → x < length S → members (placesBy P M c x) ≡ placesOf S P c x
   unfolding placesOf
   places-right c x h l = ap members (place-mask c x h l) ∙ members-mask (λ y. edgeTest (descends P c) (asDocument S) x y && isPath S P c y) (length S) narrow
 
@@ -146,7 +144,7 @@ module _ (S : Summary) (P Q : Pattern) (T : Sets) (parents edges positions child
         go : (c ≡ 0) ⊎ (0 < c) → ((j : ℕ) → j < n → j < q → imageIn es j < length S) → imageIn es c < length S
         go (inl e) rest = subst (λ (x : ℕ). x < length S) (sym (ap (imageIn es) e ∙ root)) root-inside
         go (inr z) rest =
-            let l : parent c < c = rooted .earlier c z (omega arith) in
+            let l : parent c < c = p .earlier c z (omega arith) in
             place-says c (imageIn es (parent c)) (imageIn es c) (omega arith) (rest (parent c) (omega arith) (omega arith)) (chosen c z h) .inside
 
     images-inside : (c : ℕ) → c < q → imageIn es c < length S
@@ -154,7 +152,7 @@ module _ (S : Summary) (P Q : Pattern) (T : Sets) (parents edges positions child
 
     images-place : (c : ℕ) → 0 < c → c < q → Place c (imageIn es (parent c)) (imageIn es c)
     images-place c z h =
-        let l : parent c < c = rooted .earlier c z (omega arith) in
+        let l : parent c < c = p .earlier c z (omega arith) in
         place-says c (imageIn es (parent c)) (imageIn es c) (omega arith) (images-inside (parent c) (omega arith)) (chosen c z h)
 
     -- what every node passes on at least
@@ -167,7 +165,7 @@ module _ (S : Summary) (P Q : Pattern) (T : Sets) (parents edges positions child
       abbrev handed : ℕ → ℕ → Bool
       handed c = passed S P Q places p sures q es (parent c) c
 
-      passes : (c : ℕ) → 0 < c → c < length P → sureBy T parents positions lows q es c (maskBelow (sures c) (length Q)) ≡ maskBelow (handed c) (length Q)
+      passes : (c : ℕ) → 0 < c → c < length P → sureBy T P lows q es c (maskBelow (sures c) (length Q)) ≡ maskBelow (handed c) (length Q)
       unfolding sureBy
       passes c z h = go (ltb c q) refl
         where
@@ -177,31 +175,31 @@ module _ (S : Summary) (P Q : Pattern) (T : Sets) (parents edges positions child
           lower false e = sym (mask-none (λ _. false) (length Q) (λ r k. refl))
 
           go : (b : Bool) → ltb c q ≡ b
-              → (elim b as (λ _. ℕ) [ true ↦ passBy T parents positions es c (maskBelow (sures c) (length Q)) | false ↦ elim (ltb (parent c) q) as (λ _. ℕ) [ true ↦ getD lows (cell c (imageIn es (parent c))) 0 | false ↦ 0 ] ])
+              → (elim b as (λ _. ℕ) [ true ↦ passBy T P es c (maskBelow (sures c) (length Q)) | false ↦ elim (ltb (parent c) q) as (λ _. ℕ) [ true ↦ getD lows (cell c (imageIn es (parent c))) 0 | false ↦ 0 ] ])
               ≡ maskBelow (λ r. elim b as (λ _. Bool) [ true ↦ hang S Q (position P c) (sures c) (chain S (imageIn es (parent c)) (imageIn es c)) r | false ↦ ltb (parent c) q && low S P Q places c (imageIn es (parent c)) r ]) (length Q)
           go true e =
               let k : c < q = ltb-true c q e in
-              pass-mask S P Q T parents positions C K (s .tree) p small es c (sures c) h (edge-below (descends P c) (asDocument S) (imageIn es (parent c)) (imageIn es c) (images-place c z k .edge))
+              pass-mask S P Q T C (s .tree) p small range es c (sures c) h (edge-below (descends P c) (asDocument S) (imageIn es (parent c)) (imageIn es c) (images-place c z k .edge))
           go false e = lower (ltb (parent c) q) refl
 
       sum : (j r : ℕ) → j < length P → sures j r ≡ anyOf (λ c. ltb 0 c && eqb (parent c) j && handed c r) (upFrom 0 (length P))
       sum j r h =
           sure-equation S P Q places p q es j r h
           ∙ any-agree (λ c. hangsFrom P j c && passed S P Q places p sures q es j c r) (λ c. ltb 0 c && eqb (parent c) j && handed c r) (upFrom 0 (length P))
-          (λ c m. (let k = upFrom-mem 0 (length P) c m in at-parent S P Q T parents positions C K (s .tree) p small (λ i. passed S P Q places p sures q es i c r) j c (omega arith)))
+          (λ c m. (let k = upFrom-mem 0 (length P) c m in at-parent S P Q T C (s .tree) p small range (λ i. passed S P Q places p sures q es i c r) j c (omega arith)))
 
       -- the test by masks is the model's
-      pub surely-right : 0 < length Q → surelyBy T parents positions lows (length P) q es ≡ surely S P Q places q es
+      pub surely-right : 0 < length Q → surelyBy T P lows q es ≡ surely S P Q places q es
       unfolding surelyBy sureGiven surely
-      surely-right z = gathered-meets S P Q T parents positions C K (s .tree) p small (sureBy T parents positions lows q es) sures handed passes sum z
+      surely-right z = gathered-meets S P Q T C (s .tree) p small range (sureBy T P lows q es) sures handed passes sum z
 
   -- ---- all completions pass, and are so many
 
-  module _ (q : ℕ) (es : List ℕ) (z : 0 < q) (le : q ≤ length P) (long : q ≤ length es) (G : PlacedBy parents masks (getD parts 0 0) q es) where
+  module _ (q : ℕ) (es : List ℕ) (z : 0 < q) (le : q ≤ length P) (long : q ≤ length es) (G : PlacedBy P M q es) where
     -- a completion's images stand at places of theirs, so it is an embedding
-    module _ (fs : List ℕ) (M : Completes (length P) parent places q es fs) where
+    module _ (fs : List ℕ) (N : Completes (length P) parent places q es fs) where
       root-kept : imageIn fs 0 ≡ 0
-      root-kept = M .kept 0 z ∙ G .first
+      root-kept = N .kept 0 z ∙ G .first
 
       all-chosen : (c : ℕ) → 0 < c → c < length P → List·Memᴰ (imageIn fs c) (places c (imageIn fs (parent c)))
       all-chosen c i h = go (ltb c q) refl
@@ -209,10 +207,10 @@ module _ (S : Summary) (P Q : Pattern) (T : Sets) (parents edges positions child
           go : (b : Bool) → ltb c q ≡ b → List·Memᴰ (imageIn fs c) (places c (imageIn fs (parent c)))
           go true e =
               let k : c < q = ltb-true c q e in
-              let l : parent c < c = rooted .earlier c i h in
-              subst (λ (y : ℕ). List·Memᴰ y (places c (imageIn fs (parent c)))) (sym (M .kept c k))
-              (subst (λ (x : ℕ). List·Memᴰ (imageIn es c) (places c x)) (sym (M .kept (parent c) (omega arith))) (G .placed c i k))
-          go false e = M .placed c (ltb-false c q e) h
+              let l : parent c < c = p .earlier c i h in
+              subst (λ (y : ℕ). List·Memᴰ y (places c (imageIn fs (parent c)))) (sym (N .kept c k))
+              (subst (λ (x : ℕ). List·Memᴰ (imageIn es c) (places c x)) (sym (N .kept (parent c) (omega arith))) (G .placed c i k))
+          go false e = N .placed c (ltb-false c q e) h
 
       stands : (c : ℕ) → 0 < c → c < length P → Place c (imageIn fs (parent c)) (imageIn fs c)
       stands = images-place (length P) fs (omega arith) root-kept all-chosen
@@ -232,38 +230,34 @@ module _ (S : Summary) (P Q : Pattern) (T : Sets) (parents edges positions child
             inside = within;
             root = root-kept;
             labels = λ c h. path-parts S P s p .label c (imageIn fs c) h (within c h) (path c h);
-            edges = λ c i h. subst (λ (j : ℕ). Edge (descends P c) (asDocument S) (imageIn fs j) (imageIn fs c)) (K .parent c h) (stands c i h .edge);
+            edges = λ c i h. stands c i h .edge;
           }
-
-      -- by the model's parents
-      completed : Completes (length P) (patternParent P) places q es fs
-      completed = record { kept = M .kept; placed = λ c l h. subst (λ (j : ℕ). List·Memᴰ (imageIn fs c) (places c (imageIn fs j))) (K .parent c h) (M .placed c l h) }
 
     -- what stepping lists
     listed : (fs : List ℕ) → List·Memᴰ fs (completions parent places (length P - q) (take q es)) → Completes (length P) parent places q es fs
     listed fs k =
         let n : length (take q es) ≡ q = length-take-le q es long in
-        let m = completions-sound rooted (length P - q) (take q es) fs (omega arith) (omega arith) k in
+        let m = completions-sound p (length P - q) (take q es) fs (omega arith) (omega arith) k in
         record {
           kept = λ c h. m .kept c (omega arith) ∙ getD-take q es c 0 h;
           placed = λ c l h. m .placed c (omega arith) h;
         }
 
     module _ (lows : List ℕ) (lowest : (c x : ℕ) → 0 < c → c < length P → x < length S → getD lows (cell c x) 0 ≡ maskBelow (low S P Q places c x) (length Q)) (y : 0 < length Q) where
-      pub surely-all : surelyBy T parents positions lows (length P) q es ≡ true → AllPass (judgeBy T parents positions (length P)) (completions parent places (length P - q) (take q es))
+      pub surely-all : surelyBy T P lows q es ≡ true → AllPass (judgeBy T P) (completions parent places (length P - q) (take q es))
       surely-all e fs k =
           let m = listed fs k in
-          judge-quick S P Q T parents positions fs C K (s .tree) p small (completed-embeds fs m) y
-          ∙ surely-completed S P Q places p q es fs (completed fs m) z (sym (surely-right q es le (G .first) (G .placed) lows lowest y) ∙ e)
+          judge-quick S P Q T fs C (s .tree) p small range (completed-embeds fs m) y
+          ∙ surely-completed S P Q places p q es fs m z (sym (surely-right q es le (G .first) (G .placed) lows lowest y) ∙ e)
 
     -- their number, up to the cap
     module _ (cap : ℕ) (counts : List ℕ) (some : 0 < cap) (counted : (c x : ℕ) → 0 < c → c < length P → x < length S → getD counts (cell c x) 0 ≡ min cap (ways (length P) parent places c x)) where
-      pub count-all : min cap (length (completions parent places (length P - q) (take q es))) ≡ leftBy cap parents counts (length P) q es
+      pub count-all : min cap (length (completions parent places (length P - q) (take q es))) ≡ leftBy cap P counts q es
       count-all =
           let n : length (take q es) ≡ q = length-take-le q es long in
-          ap (min cap) (length-completions (length P) parent places rooted (length P - q) (take q es) (omega arith) (omega arith)
-          ∙ ap (λ (i : ℕ). waysLeft (length P) parent places i (take q es)) n ∙ left-take (length P) (length S) parents counts places cap some counted q es le)
-          ∙ sym (left-right (length P) (length S) parents counts places cap some counted q es z le (images-inside q es le (G .first) (G .placed)))
+          ap (min cap) (length-completions (length P) parent places p (length P - q) (take q es) (omega arith) (omega arith)
+          ∙ ap (λ (i : ℕ). waysLeft (length P) parent places i (take q es)) n ∙ left-take P (length S) counts places cap some counted q es le)
+          ∙ sym (left-right P (length S) counts places cap some counted q es z le (images-inside q es le (G .first) (G .placed)))
 
   -- ---- the tables of a case
 
@@ -274,49 +268,43 @@ module _ (S : Summary) (P Q : Pattern) (T : Sets) (parents edges positions child
   back {x} l = subst (λ (n : ℕ). x < n) (length-asDocument S) l
 
   -- a node's paths
-  paths : (c : ℕ) → c < length P → members (getD parts c 0) ≡ keep (isPath S P c) (upFrom 0 (length S))
+  paths : (c : ℕ) → c < length P → members (M .parts c) ≡ keep (isPath S P c) (upFrom 0 (length S))
   paths c h = ap members (Z .part c h) ∙ members-mask (isPath S P c) (length S) narrow
 
-  paths-inside : (c y : ℕ) → c < length P → List·Memᴰ y (members (getD parts c 0)) → y < length (asDocument S)
+  paths-inside : (c y : ℕ) → c < length P → List·Memᴰ y (members (M .parts c)) → y < length (asDocument S)
   paths-inside c y h k =
       let r = keep-elim (isPath S P c) y (upFrom 0 (length S)) (subst (λ (ys : List ℕ). List·Memᴰ y ys) (paths c h) k) in
       let u = upFrom-mem 0 (length S) y (r .0) in
       across (omega arith)
 
   -- those that the edge reaches from x are the places
-  paths-reached : (c x : ℕ) → c < length P → x < length (asDocument S) → keep (edgeTest (eqb (getD edges c 0) 1) (asDocument S) x) (members (getD parts c 0)) ≡ members (placesBy edges children descendants parts c x)
+  paths-reached : (c x : ℕ) → c < length P → x < length (asDocument S) → keep (edgeTest (descends P c) (asDocument S) x) (members (M .parts c)) ≡ members (placesBy P M c x)
   unfolding placesOf
   paths-reached c x h l =
-      ap (λ (b : Bool). keep (edgeTest b (asDocument S) x) (members (getD parts c 0))) (Z .edge c h)
-      ∙ ap (keep (edgeTest (descends P c) (asDocument S) x)) (paths c h)
+      ap (keep (edgeTest (descends P c) (asDocument S) x)) (paths c h)
       ∙ keep-keep (edgeTest (descends P c) (asDocument S) x) (isPath S P c) (upFrom 0 (length S))
       ∙ sym (places-right c x h (back l))
 
-  up-parents : (b : ℕ) → b < length (asDocument S) → getD (T .up) b 0 ≡ parentOf (asDocument S) b
+  up-parents : (b : ℕ) → b < length (asDocument S) → T .up b ≡ parentOf (asDocument S) b
   up-parents b l = C .ups b (back l)
 
-  abbrev lowsOf : List ℕ
-  lowsOf = lowTable T parents edges positions parts (length P) (length Q)
-
-  abbrev countsOf : ℕ → List ℕ
-  countsOf K = waysTable K (T .up) parents edges parts (length P)
-
-  -- with them the run may be skipped
-  pub may-skip : (cap : ℕ) → 0 < cap → 0 < length Q
-      → MaySkip T parents positions (lowTable T parents edges positions parts (length P) (length Q)) (waysTable cap (T .up) parents edges parts (length P)) (sitesBy parents edges children descendants parts) (placesBy edges children descendants parts) (getD parts 0 0) cap (length P)
-  may-skip cap some y =
+  -- from tables as they begin, of least offers and of counts, the run may be skipped with those that are filled
+  pub may-skip : (K : ℕ) (lows₀ counts₀ : List ℕ) → 0 < K → 0 < length Q → 1024 ≤ length lows₀ → 1024 ≤ length counts₀
+      → ((i : ℕ) → i < 1024 → getD lows₀ i 0 ≡ 2 ^ length Q - 1) → ((i : ℕ) → i < 1024 → getD counts₀ i 0 ≡ 0)
+      → MaySkip T P M (lowTable T P M lows₀) (waysTable K (T .up) P M counts₀) K
+  may-skip K lows₀ counts₀ some y room-l room-c all none =
       record {
         skipped = λ q left tried es z le long h G e.
-            ap (run (judgeBy T parents positions (length P)) (going left tried)) (steps-completions parents edges children descendants parts (length P - q) (take q es))
-            ∙ run-skip (judgeBy T parents positions (length P)) left tried (completions parent places (length P - q) (take q es)) (surely-all q es z le long G lowsOf lowest y e)
-            ∙ sym (skip-capped cap left tried (length (completions parent places (length P - q) (take q es))) h) ∙ ap (skip left tried) (count-all q es z le long G cap (countsOf cap) some counted);
+            ap (run (judgeBy T P) (going left tried)) (steps-completions P M (length P - q) (take q es))
+            ∙ run-skip (judgeBy T P) left tried (completions parent places (length P - q) (take q es)) (surely-all q es z le long G (lowTable T P M lows₀) lowest y e)
+            ∙ sym (skip-capped K left tried (length (completions parent places (length P - q) (take q es))) h) ∙ ap (skip left tried) (count-all q es z le long G K (waysTable K (T .up) P M counts₀) some counted);
       }
     where
       wide : length (asDocument S) ≤ 64
       wide = subst (λ (n : ℕ). n ≤ 64) (sym (length-asDocument S)) narrow
 
-      lowest : (c x : ℕ) → 0 < c → c < length P → x < length S → getD lowsOf (cell c x) 0 ≡ maskBelow (low S P Q places c x) (length Q)
-      lowest c x z h l = low-table S P Q T parents edges positions parts masks C K (s .tree) p wide small up-parents paths-inside paths-reached (λ c x y z h l m. reached c x y z h (back l) m) c x z h (across l)
+      lowest : (c x : ℕ) → 0 < c → c < length P → x < length S → getD (lowTable T P M lows₀) (cell c x) 0 ≡ maskBelow (low S P Q places c x) (length Q)
+      lowest c x z h l = low-table S P Q T M C (s .tree) p range wide up-parents paths-inside paths-reached (λ c x y z h l m. reached c x y z h (back l) m) lows₀ (omega arith) (λ d y i j. all (cell d y) (let w = wide in omega arith)) c x z h (across l)
 
-      counted : (c x : ℕ) → 0 < c → c < length P → x < length S → getD (countsOf cap) (cell c x) 0 ≡ min cap (ways (length P) parent places c x)
-      counted c x z h l = ways-table (asDocument S) (s .tree) wide (T .up) parents edges parts masks (length P) small rooted up-parents paths-inside paths-reached cap some c x z h (across l)
+      counted : (c x : ℕ) → 0 < c → c < length P → x < length S → getD (waysTable K (T .up) P M counts₀) (cell c x) 0 ≡ min K (ways (length P) parent places c x)
+      counted c x z h l = ways-table (asDocument S) (s .tree) wide (T .up) P M p up-parents paths-inside paths-reached K some counts₀ (omega arith) (λ d y i j. none (cell d y) (let w = wide in omega arith)) c x z h (across l)

@@ -3,22 +3,19 @@
 use Prim.Native.Nat.{ℕ, zero, suc, _+_, _-_, _*_, _^_, _≤_, _<_, min}
 use mathlib.Core.Path.{_≡_, refl, sym, ap, ap₂, _∙_, subst}
 use mathlib.Core.Bool.{Bool, true, false}
-use mathlib.Core.List.{List, [], _∷_}
+use mathlib.Core.List.{List}
 use native.Mathlib.Omega.{arith}
-use native.Mathlib.Nat.{mul-le-mul, min-le-left}
 use native.Mathlib.Numerals.{add-one}
 use lib.Count.{trailingZeros}
-use lib.Dec.{eqb, ltb}
-use lib.ListN.{length, getD, set, length-set}
-use lib.Seq.{set-out, getD-set-same, getD-set-other}
-use borrow.Author.Tests.{eqb-true, eqb-false, eq-eqb, ne-eqb, ltb-true, ltb-false, lt-ltb, le-ltb}
+use lib.ListN.{length, getD}
+use borrow.Author.Tests.{eq-eqb, ne-eqb, lt-ltb, le-ltb}
 use Rattle.model.specs.Lists.{upFrom}
-use Rattle.containment.specs.Room.{CountRoom}
+use Rattle.model.specs.Pattern.{Pattern, patternParent}
+use Rattle.containment.specs.Blocks.{cell}
 use Rattle.containment.specs.Stepping.{members}
-use Rattle.containment.specs.Skipping.{loop, cell, joinAt, climbRow, fillRows, childTurn, childLoop, timesBy, waysTurn, waysRow, leftTurn, leftBy}
-use Rattle.containment.proofs.MemberLaws.{members-none}
-use Rattle.containment.proofs.StepLoop.{first-left}
-use Rattle.containment.proofs.ClimbLaws.{climb-none, climb-far, climb-near, climb-keeps}
+use Rattle.containment.specs.Skipping.{loop, joinAt, climbRow, fillRows, childTurn, childLoop, leftTurn, leftBy}
+use Rattle.containment.proofs.MemberLaws.{members-none, first-left}
+use Rattle.containment.proofs.ClimbLaws.{climb-none, climb-far, climb-near}
 
 -- ---- over a range
 
@@ -28,7 +25,7 @@ pub record Ranging (turn : ℕ → ℕ → ℕ) (whole m acc d : ℕ) : Type 0 w
   pub same : loop turn acc (upFrom d (m - d)) ≡ whole
 
 module _ {turn : ℕ → ℕ → ℕ} where
-  pub ranging-start : {m acc d e : ℕ} → e ≡ d → d ≤ m → Ranging turn (loop turn acc (upFrom d (m - d))) m acc e
+  ranging-start : {m acc d e : ℕ} → e ≡ d → d ≤ m → Ranging turn (loop turn acc (upFrom d (m - d))) m acc e
   ranging-start {m} {acc} {d} {e} p h = record { top = omega arith; same = ap (λ (i : ℕ). loop turn acc (upFrom i (m - i))) p }
 
   pub ranging-step : {whole m acc d acc′ : ℕ} → Ranging turn whole m acc d → d < m → acc′ ≡ turn acc d → Ranging turn whole m acc′ (d + 1)
@@ -49,14 +46,14 @@ module _ {turn : ℕ → ℕ → ℕ} where
       ap (λ (k : ℕ). loop turn acc (upFrom d k)) n ∙ v .same
 
 -- over the children of a node
-pub child-start : (join : ℕ → ℕ → ℕ) (start : ℕ) (parents t : List ℕ) (m c y : ℕ) → c < m → Ranging (childTurn join parents t c y) (childLoop join start parents m t c y) m start (c + 1)
+pub child-start : (join : ℕ → ℕ → ℕ) (start : ℕ) (P : Pattern) (t : List ℕ) (c y : ℕ) {m : ℕ} → m ≡ length P → c < length P → Ranging (childTurn join P t c y) (childLoop join start P t c y) m start (c + 1)
 unfolding childLoop
-child-start join start parents t m c y h = ranging-start (add-one c) h
+child-start join start P t c y e h = subst (λ (n : ℕ). Ranging (childTurn join P t c y) (childLoop join start P t c y) n start (c + 1)) (sym e) (ranging-start (add-one c) h)
 
 -- over the nodes left
-pub left-start : (K : ℕ) (parents counts : List ℕ) (m q : ℕ) (es : List ℕ) → q ≤ m → Ranging (leftTurn K parents counts q es) (leftBy K parents counts m q es) m 1 q
+pub left-start : (K : ℕ) (P : Pattern) (counts : List ℕ) (q : ℕ) (es : List ℕ) {m : ℕ} → m ≡ length P → q ≤ length P → Ranging (leftTurn K P counts q es) (leftBy K P counts q es) m 1 q
 unfolding leftBy
-left-start K parents counts m q es h = ranging-start refl h
+left-start K P counts q es e h = subst (λ (n : ℕ). Ranging (leftTurn K P counts q es) (leftBy K P counts q es) n 1 q) (sym e) (ranging-start refl h)
 
 -- ---- over a mask's members
 
@@ -78,20 +75,20 @@ module _ {turn : List ℕ → ℕ → List ℕ} {whole : List ℕ} where
 -- ---- up a tree
 
 -- going on from b with h and t gives the whole
-pub record Rising (join pass : ℕ → ℕ → ℕ) (up : List ℕ) (far : Bool) (c : ℕ) (whole : List ℕ) (b h : ℕ) (t : List ℕ) : Type 0 where
+pub record Rising (join pass : ℕ → ℕ → ℕ) (up : ℕ → ℕ) (far : Bool) (c : ℕ) (whole : List ℕ) (b h : ℕ) (t : List ℕ) : Type 0 where
   pub room : ℕ
   pub enough : b ≤ room
   pub same : climbRow join pass up far c room b h t ≡ whole
 
-module _ (join pass : ℕ → ℕ → ℕ) (up : List ℕ) (c : ℕ) where
+module _ (join pass : ℕ → ℕ → ℕ) (up : ℕ → ℕ) (c : ℕ) where
   pub rising-start : {far : Bool} {y h : ℕ} {t : List ℕ} → Rising join pass up far c (climbRow join pass up far c y y h t) y h t
   rising-start {far} {y} = record { room = y; enough = omega arith; same = refl }
 
-  joined : (b h a i : ℕ) (t t′ : List ℕ) → a ≡ getD up b 0 → i ≡ cell c a → t′ ≡ joinAt join i h t → joinAt join (cell c (getD up b 0)) h t ≡ t′
+  joined : (b h a i : ℕ) (t t′ : List ℕ) → a ≡ up b → i ≡ cell c a → t′ ≡ joinAt join i h t → joinAt join (cell c (up b)) h t ≡ t′
   joined b h a i t t′ p q e = sym (e ∙ ap (λ (n : ℕ). joinAt join n h t) (q ∙ ap (cell c) p))
 
   -- past a descendant edge
-  pub rising-far : {far : Bool} {whole : List ℕ} {b h a i : ℕ} {t t′ : List ℕ} {h′ : ℕ} → Rising join pass up far c whole b h t → far ≡ true → 0 < b → a ≡ getD up b 0 → a < b → i ≡ cell c a → t′ ≡ joinAt join i h t → h′ ≡ pass a h
+  pub rising-far : {far : Bool} {whole : List ℕ} {b h a i : ℕ} {t t′ : List ℕ} {h′ : ℕ} → Rising join pass up far c whole b h t → far ≡ true → 0 < b → a ≡ up b → a < b → i ≡ cell c a → t′ ≡ joinAt join i h t → h′ ≡ pass a h
       → Rising join pass up far c whole a h′ t′
   rising-far {far} {whole} {b} {h} {a} {i} {t} {t′} {h′} v f z p l q e k = go (v .room) (v .enough) (v .same)
     where
@@ -105,13 +102,13 @@ module _ (join pass : ℕ → ℕ → ℕ) (up : List ℕ) (c : ℕ) where
                 ap (λ (x : Bool). climbRow join pass up x c r a h′ t′) f
                 ∙ sym (ap (λ (x : Bool). climbRow join pass up x c (suc r) b h t) f
                 ∙ climb-far join pass up c r b h t z
-                ∙ ap (climbRow join pass up true c r (getD up b 0) (pass (getD up b 0) h)) (joined b h a i t t′ p q e)
+                ∙ ap (climbRow join pass up true c r (up b) (pass (up b) h)) (joined b h a i t t′ p q e)
                 ∙ ap (λ (x : ℕ). climbRow join pass up true c r x (pass x h) t′) (sym p)
                 ∙ ap (λ (x : ℕ). climbRow join pass up true c r a x t′) (sym k)) ∙ s;
           }
 
   -- or no further
-  pub rising-near : {far : Bool} {whole : List ℕ} {b h a i : ℕ} {t t′ : List ℕ} → Rising join pass up far c whole b h t → far ≡ false → 0 < b → a ≡ getD up b 0 → i ≡ cell c a → t′ ≡ joinAt join i h t → t′ ≡ whole
+  pub rising-near : {far : Bool} {whole : List ℕ} {b h a i : ℕ} {t t′ : List ℕ} → Rising join pass up far c whole b h t → far ≡ false → 0 < b → a ≡ up b → i ≡ cell c a → t′ ≡ joinAt join i h t → t′ ≡ whole
   rising-near {far} {whole} {b} {h} {a} {i} {t} {t′} v f z p q e = go (v .room) (v .enough) (v .same)
     where
       go : (r : ℕ) → b ≤ r → climbRow join pass up far c r b h t ≡ whole → t′ ≡ whole
@@ -148,91 +145,23 @@ module _ {row : ℕ → List ℕ → List ℕ} where
 
 -- ---- one turn, by its branch
 
-module _ (join : ℕ → ℕ → ℕ) (parents t : List ℕ) (c y acc d : ℕ) where
-  pub child-in : {j e : ℕ} → j ≡ getD parents d 0 → j ≡ c → e ≡ getD t (cell d y) 0 → join acc e ≡ childTurn join parents t c y acc d
+module _ (join : ℕ → ℕ → ℕ) (P : Pattern) (t : List ℕ) (c y acc d : ℕ) where
+  pub child-in : {j e : ℕ} → j ≡ patternParent P d → j ≡ c → e ≡ getD t (cell d y) 0 → join acc e ≡ childTurn join P t c y acc d
   unfolding childTurn
   child-in p q e =
-      ap (join acc) e ∙ sym (ap (λ (b : Bool). elim b as (λ _. ℕ) [ true ↦ join acc (getD t (cell d y) 0) | false ↦ acc ]) (eq-eqb (getD parents d 0) c (sym p ∙ q)))
+      ap (join acc) e ∙ sym (ap (λ (b : Bool). elim b as (λ _. ℕ) [ true ↦ join acc (getD t (cell d y) 0) | false ↦ acc ]) (eq-eqb (patternParent P d) c (sym p ∙ q)))
 
-  pub child-out : {j : ℕ} → j ≡ getD parents d 0 → (j ≡ c → ⊥) → acc ≡ childTurn join parents t c y acc d
+  pub child-out : {j : ℕ} → j ≡ patternParent P d → (j ≡ c → ⊥) → acc ≡ childTurn join P t c y acc d
   unfolding childTurn
-  child-out p ne = sym (ap (λ (b : Bool). elim b as (λ _. ℕ) [ true ↦ join acc (getD t (cell d y) 0) | false ↦ acc ]) (ne-eqb (getD parents d 0) c (λ e. ne (p ∙ e))))
+  child-out p ne = sym (ap (λ (b : Bool). elim b as (λ _. ℕ) [ true ↦ join acc (getD t (cell d y) 0) | false ↦ acc ]) (ne-eqb (patternParent P d) c (λ e. ne (p ∙ e))))
 
-module _ (K : ℕ) (parents counts : List ℕ) (q : ℕ) (es : List ℕ) (acc c : ℕ) where
-  pub left-in : {j x e : ℕ} → j ≡ getD parents c 0 → j < q → x ≡ getD es j 0 → e ≡ getD counts (cell c x) 0 → min K (acc * e) ≡ leftTurn K parents counts q es acc c
+module _ (K : ℕ) (P : Pattern) (counts : List ℕ) (q : ℕ) (es : List ℕ) (acc c : ℕ) where
+  pub left-in : {j x e : ℕ} → j ≡ patternParent P c → j < q → x ≡ getD es j 0 → e ≡ getD counts (cell c x) 0 → min K (acc * e) ≡ leftTurn K P counts q es acc c
   unfolding leftTurn
   left-in {j} {x} {e} p l i n =
       ap (λ (v : ℕ). min K (acc * v)) (n ∙ ap (λ (v : ℕ). getD counts (cell c v) 0) (i ∙ ap (λ (v : ℕ). getD es v 0) p))
-      ∙ sym (ap (λ (b : Bool). elim b as (λ _. ℕ) [ true ↦ min K (acc * getD counts (cell c (getD es (getD parents c 0) 0)) 0) | false ↦ acc ]) (lt-ltb (getD parents c 0) q (omega arith)))
+      ∙ sym (ap (λ (b : Bool). elim b as (λ _. ℕ) [ true ↦ min K (acc * getD counts (cell c (getD es (patternParent P c) 0)) 0) | false ↦ acc ]) (lt-ltb (patternParent P c) q (omega arith)))
 
-  pub left-out : {j : ℕ} → j ≡ getD parents c 0 → q ≤ j → acc ≡ leftTurn K parents counts q es acc c
+  pub left-out : {j : ℕ} → j ≡ patternParent P c → q ≤ j → acc ≡ leftTurn K P counts q es acc c
   unfolding leftTurn
-  left-out {j} p l = sym (ap (λ (b : Bool). elim b as (λ _. ℕ) [ true ↦ min K (acc * getD counts (cell c (getD es (getD parents c 0) 0)) 0) | false ↦ acc ]) (le-ltb (getD parents c 0) q (omega arith)))
-
--- ---- counts stay below the cap
-
--- two of them multiplied
-pub product-fits : {a b cap : ℕ} → a ≤ cap → b ≤ cap → cap < 4_294_967_296 → a * b < 2 ^ 64
-product-fits {a} {b} {cap} h k l =
-    let p : a * b ≤ 4_294_967_295 * 4_294_967_295 = mul-le-mul {n₂ = 4_294_967_295} {m₂ = 4_294_967_295} (omega arith) (omega arith) in
-    omega arith
-
-pub child-capped : (K : ℕ) (parents t : List ℕ) (c y acc d : ℕ) {r : ℕ} → r ≡ childTurn (λ a e. min K (a * e)) parents t c y acc d → acc ≤ K → r ≤ K
-unfolding childTurn
-child-capped K parents t c y acc d p h = subst (λ (n : ℕ). n ≤ K) (sym p) (go (eqb (getD parents d 0) c))
-  where
-    go : (b : Bool) → (elim b as (λ _. ℕ) [ true ↦ min K (acc * getD t (cell d y) 0) | false ↦ acc ]) ≤ K
-    go true = min-le-left K (acc * getD t (cell d y) 0)
-    go false = h
-
-pub left-capped : (K : ℕ) (parents counts es : List ℕ) (q acc c : ℕ) {r : ℕ} → r ≡ leftTurn K parents counts q es acc c → acc ≤ K → r ≤ K
-unfolding leftTurn
-left-capped K parents counts es q acc c p h = subst (λ (n : ℕ). n ≤ K) (sym p) (go (ltb (getD parents c 0) q))
-  where
-    go : (b : Bool) → (elim b as (λ _. ℕ) [ true ↦ min K (acc * getD counts (cell c (getD es (getD parents c 0) 0)) 0) | false ↦ acc ]) ≤ K
-    go true = min-le-left K (acc * getD counts (cell c (getD es (getD parents c 0) 0)) 0)
-    go false = h
-
--- the whole loop over children, and over the nodes left
-pub loop-capped : {K : ℕ} (turn : ℕ → ℕ → ℕ) → ((acc d : ℕ) → acc ≤ K → turn acc d ≤ K) → (xs : List ℕ) (acc : ℕ) → acc ≤ K → loop turn acc xs ≤ K
-unfolding loop
-loop-capped turn one [] acc h = h
-loop-capped turn one (x ∷ xs) acc h = loop-capped turn one xs (turn acc x) (one acc x h)
-
-pub times-capped : (K : ℕ) (parents t : List ℕ) (m c y : ℕ) {r : ℕ} → r ≡ timesBy K parents m t c y → 0 < K → r ≤ K
-unfolding timesBy childLoop
-times-capped K parents t m c y p h =
-    subst (λ (n : ℕ). n ≤ K) (sym p) (loop-capped (childTurn (λ a e. min K (a * e)) parents t c y) (λ acc d l. child-capped K parents t c y acc d refl l) (upFrom (suc c) (m - suc c)) 1 h)
-
--- one joined
-pub count-joined : {cap : ℕ} (i n : ℕ) (t : List ℕ) → CountRoom t cap → CountRoom (joinAt (λ a e. min cap (a + e)) i n t) cap
-unfolding joinAt
-count-joined {cap} i n t R =
-    record {
-      cells = subst (λ (l : ℕ). 1024 ≤ l) (sym (length-set t i (min cap (getD t i 0 + n)))) (R .cells);
-      some = R .some;
-      small = R .small;
-      bounded = λ j. go j (eqb j i) refl (ltb i (length t)) refl;
-    }
-  where
-    v : ℕ
-    v = min cap (getD t i 0 + n)
-
-    go : (j : ℕ) (b : Bool) → eqb j i ≡ b → (l : Bool) → ltb i (length t) ≡ l → getD (set t i v) j 0 ≤ cap
-    go j true e true l =
-        subst (λ (k : ℕ). getD (set t i v) k 0 ≤ cap) (sym (eqb-true j i e))
-        (subst (λ (k : ℕ). k ≤ cap) (sym (getD-set-same t i v 0 (ltb-true i (length t) l))) (min-le-left cap (getD t i 0 + n)))
-    go j true e false l = subst (λ (u : List ℕ). getD u j 0 ≤ cap) (sym (set-out t i v (ltb-false i (length t) l))) (R .bounded j)
-    go j false e l q = subst (λ (k : ℕ). k ≤ cap) (sym (getD-set-other t i j v 0 (eqb-false j i e))) (R .bounded j)
-
-pub count-climbed : (cap : ℕ) (pass : ℕ → ℕ → ℕ) (up : List ℕ) (far : Bool) (c k b n : ℕ) (t : List ℕ) {t′ : List ℕ} → t′ ≡ climbRow (λ a e. min cap (a + e)) pass up far c k b n t → CountRoom t cap → CountRoom t′ cap
-count-climbed cap pass up far c k b n t e R =
-    subst (λ (u : List ℕ). CountRoom u cap) (sym e) (climb-keeps (λ a e. min cap (a + e)) pass up c (λ u. CountRoom u cap) (λ a h u g. count-joined (cell c a) h u g) far k b n t R)
-
-pub count-row : (K : ℕ) (up parents edges parts : List ℕ) (m c : ℕ) (t : List ℕ) {t′ : List ℕ} → t′ ≡ waysRow K up parents edges parts m c t → CountRoom t K → CountRoom t′ K
-unfolding waysRow loop
-count-row K up parents edges parts m c t e R = subst (λ (u : List ℕ). CountRoom u K) (sym e) (go (members (getD parts c 0)) t R)
-  where
-    go : (ys : List ℕ) (t : List ℕ) → CountRoom t K → CountRoom (loop (waysTurn K up parents edges m c) t ys) K
-    go [] t R = R
-    go (y ∷ ys) t R = go ys (waysTurn K up parents edges m c t y) (count-climbed K (λ x n. n) up (eqb (getD edges c 0) 1) c y y (timesBy K parents m t c y) t refl R)
+  left-out {j} p l = sym (ap (λ (b : Bool). elim b as (λ _. ℕ) [ true ↦ min K (acc * getD counts (cell c (getD es (patternParent P c) 0)) 0) | false ↦ acc ]) (le-ltb (patternParent P c) q (omega arith)))

@@ -1,11 +1,10 @@
--- The verdict as the code answers it, over the columns of a case.
-use Prim.Native.Nat.{ℕ, _≤_}
+-- The verdict as the code answers it.
+use Prim.Native.Nat.{ℕ}
 use mathlib.Core.List.{List, []}
-use lib.ListN.{length}
 use Rattle.model.specs.Bytes.{Case}
 use Rattle.model.specs.Facts.{CaseFacts}
 use Rattle.model.specs.Verdict.{Verdict, included, notIncluded, stopped, verdict}
-use Rattle.format.specs.Tables.{summaryFrom, patternFrom}
+use Rattle.format.specs.Given.{summaryIn, patternAt, SummaryGiven, PatternGiven}
 use Rattle.containment.specs.declared.Containment.{Containment}
 use Rattle.containment.specs.declared.Containment.the-variants.{Contained, NotContained, Stopped}
 
@@ -21,25 +20,16 @@ shownOf (included n) = []
 shownOf (notIncluded n es) = es
 shownOf (stopped n) = []
 
--- the case that stands in eleven columns: of n summary nodes, and of m and k pattern nodes
-abbrev pub caseFrom : List ℕ → List ℕ → List ℕ → ℕ → List ℕ → List ℕ → List ℕ → List ℕ → ℕ → List ℕ → List ℕ → List ℕ → List ℕ → ℕ → Case
-caseFrom parents labels strongs n pparents plabels pedges ppositions m qparents qlabels qedges qpositions k =
-    record { summary = summaryFrom parents labels strongs n; first = patternFrom pparents plabels pedges ppositions m; second = patternFrom qparents qlabels qedges qpositions k }
+-- the case of a summary and two patterns, which need not stand in the same bytes
+abbrev pub caseBy : List ℕ → List ℕ → ℕ → List ℕ → ℕ → Case
+caseBy case p at q on = record { summary = summaryIn case; first = patternAt p at; second = patternAt q on }
 
 abbrev pub verdictOf : Case → ℕ → Verdict
 verdictOf c limit = verdict (c .summary) (c .first) (c .second) limit
 
--- an accepted case in columns that are long enough
-pub record CaseLent (parents labels strongs : List ℕ) (n : ℕ) (pparents plabels pedges ppositions : List ℕ) (m : ℕ) (qparents qlabels qedges qpositions : List ℕ) (k : ℕ) : Type 0 where
-  pub facts : CaseFacts (caseFrom parents labels strongs n pparents plabels pedges ppositions m qparents qlabels qedges qpositions k)
-  pub summaryParents : n ≤ length parents
-  pub summaryLabels : n ≤ length labels
-  pub summaryStrongs : n ≤ length strongs
-  pub firstParents : m ≤ length pparents
-  pub firstLabels : m ≤ length plabels
-  pub firstEdges : m ≤ length pedges
-  pub firstPositions : m ≤ length ppositions
-  pub secondParents : k ≤ length qparents
-  pub secondLabels : k ≤ length qlabels
-  pub secondEdges : k ≤ length qedges
-  pub secondPositions : k ≤ length qpositions
+-- an accepted case
+pub record CaseGiven (case p : List ℕ) (at : ℕ) (q : List ℕ) (on : ℕ) : Type 0 where
+  pub summary : SummaryGiven case
+  pub first : PatternGiven p at
+  pub second : PatternGiven q on
+  pub facts : CaseFacts (caseBy case p at q on)

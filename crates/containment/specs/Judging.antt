@@ -5,7 +5,8 @@ use mathlib.Core.Bool.{Bool, true, false}
 use mathlib.Core.List.{List}
 use lib.Bits.{bitAnd, bitOr}
 use lib.Dec.{ltb}
-use lib.ListN.{getD, set, replicate}
+use lib.ListN.{length, getD, set, replicate}
+use Rattle.model.specs.Pattern.{Pattern, patternParent, position}
 use Rattle.model.proofs.Masks.{has}
 
 -- ---- tables that are gathered from the leaves up
@@ -21,60 +22,59 @@ gather parent F (suc n) t = gather parent F n (joinUp parent F (suc n) t)
 
 -- ---- one node
 
--- the pattern nodes all of whose children are in acc, by the halves of acc
-unfoldable pub fullBy : List ℕ → List ℕ → ℕ → ℕ
-fullBy low high acc = bitAnd (getD low (acc % 256) 0) (getD high (acc / 256) 0)
-
--- the pattern nodes that meet at summary node x, where position n is held and acc is offered
-unfoldable pub meetsBy : List ℕ → List ℕ → List ℕ → List ℕ → ℕ → ℕ → ℕ → ℕ
-meetsBy fitting allowed low high x n acc = bitAnd (bitAnd (getD fitting x 0) (getD allowed n 0)) (fullBy low high acc)
-
--- what is offered to the node above: deep has the pattern nodes that hang by a descendant edge
-unfoldable pub offersBy : List ℕ → List ℕ → List ℕ → List ℕ → ℕ → ℕ → ℕ → ℕ → ℕ
-offersBy fitting allowed low high deep x n acc = bitOr (meetsBy fitting allowed low high x n acc) (bitAnd deep acc)
-
--- ---- chains
-
--- the tables that judging reads. By summary node: its parent, the pattern nodes whose labels fit it, what its filled-up children
--- offer. By position: the pattern nodes with it or none. By byte: the pattern nodes all of whose children among the first eight
--- nodes, or the other eight, are in it. The pattern nodes that hang by a descendant edge
+-- what judging reads. By summary node: its parent, the pattern nodes whose labels fit it, what its filled-up children offer. By
+-- position: the pattern nodes with it or none. By byte: the pattern nodes all of whose children among the first eight nodes, or the
+-- other eight, are in it. The pattern nodes that hang by a descendant edge
 pub record Sets : Type 0 where
-  pub up : List ℕ
-  pub fitting : List ℕ
-  pub closed : List ℕ
-  pub allowed : List ℕ
-  pub low : List ℕ
-  pub high : List ℕ
+  pub up : ℕ → ℕ
+  pub fitting : ℕ → ℕ
+  pub closed : ℕ → ℕ
+  pub allowed : ℕ → ℕ
+  pub low : ℕ → ℕ
+  pub high : ℕ → ℕ
   pub deep : ℕ
 
-abbrev pub setsOf : List ℕ → List ℕ → List ℕ → List ℕ → List ℕ → List ℕ → ℕ → Sets
-setsOf up fitting closed allowed low high deep =
-    record { up = up; fitting = fitting; closed = closed; allowed = allowed; low = low; high = high; deep = deep }
+-- the pattern nodes all of whose children are in acc, by the halves of acc
+unfoldable pub fullBy : Sets → ℕ → ℕ
+fullBy T acc = bitAnd (T .low (acc % 256)) (T .high (acc / 256))
+
+-- the pattern nodes that meet at summary node x, where position n is held and acc is offered
+unfoldable pub meetsBy : Sets → ℕ → ℕ → ℕ → ℕ
+meetsBy T x n acc = bitAnd (bitAnd (T .fitting x) (T .allowed n)) (fullBy T acc)
+
+-- what is offered to the node above
+unfoldable pub offersBy : Sets → ℕ → ℕ → ℕ → ℕ
+offersBy T x n acc = bitOr (meetsBy T x n acc) (bitAnd (T .deep) acc)
 
 -- what a node on x with position n, its filled-up children and what hangs from it, g, offer
 unfoldable pub nodeBy : Sets → ℕ → ℕ → ℕ → ℕ
-nodeBy T x n g = offersBy (T .fitting) (T .allowed) (T .low) (T .high) (T .deep) x n (bitOr (getD (T .closed) x 0) g)
+nodeBy T x n g = offersBy T x n (bitOr (T .closed x) g)
+
+-- ---- chains
 
 -- from x up to below a, at most k nodes, where h is offered to x
 unfoldable pub climbBy : ℕ → Sets → ℕ → ℕ → ℕ → ℕ
 climbBy zero T a x h = h
-climbBy (suc k) T a x h = elim (ltb a x) [ true ↦ climbBy k T a (getD (T .up) x 0) (nodeBy T x 0 h) | false ↦ h ]
+climbBy (suc k) T a x h = elim (ltb a x) [ true ↦ climbBy k T a (T .up x) (nodeBy T x 0 h) | false ↦ h ]
 
 -- what the chain from below a down to b offers, where b holds position n and g hangs from it
 unfoldable pub hangBy : Sets → ℕ → ℕ → ℕ → ℕ → ℕ
-hangBy T a b n g = climbBy b T a (getD (T .up) b 0) (nodeBy T b n g)
+hangBy T a b n g = climbBy b T a (T .up b) (nodeBy T b n g)
 
--- ---- the first pattern, by its columns
+-- ---- the first pattern
 
 -- what first-pattern node c passes on to its parent, where e hangs from it
-unfoldable pub passBy : Sets → List ℕ → List ℕ → List ℕ → ℕ → ℕ → ℕ
-passBy T parents positions es c e = hangBy T (getD es (getD parents c 0) 0) (getD es c 0) (getD positions c 0) e
+unfoldable pub passBy : Sets → Pattern → List ℕ → ℕ → ℕ → ℕ
+passBy T P es c e = hangBy T (getD es (patternParent P c) 0) (getD es c 0) (position P c) e
 
--- what hangs from each of its m nodes
-unfoldable pub givenBy : Sets → List ℕ → List ℕ → List ℕ → ℕ → List ℕ
-givenBy T parents positions es m = gather (λ c. getD parents c 0) (passBy T parents positions es) (m - 1) (replicate 16 0)
+-- what hangs from each of its nodes
+unfoldable pub givenBy : Sets → Pattern → List ℕ → List ℕ
+givenBy T P es = gather (patternParent P) (passBy T P es) (length P - 1) (replicate 16 0)
 
--- the second pattern's root meets at the root
-unfoldable pub judgeBy : Sets → List ℕ → List ℕ → ℕ → List ℕ → Bool
-judgeBy T parents positions m es =
-    has (meetsBy (T .fitting) (T .allowed) (T .low) (T .high) 0 (getD positions 0 0) (bitOr (getD (T .closed) 0 0) (getD (givenBy T parents positions es m) 0 0))) 0
+-- the second pattern's root meets at the root, where g hangs from it
+unfoldable pub rootBy : Sets → Pattern → ℕ → Bool
+rootBy T P g = has (meetsBy T 0 (position P 0) (bitOr (T .closed 0) g)) 0
+
+-- by what hangs from the root
+unfoldable pub judgeBy : Sets → Pattern → List ℕ → Bool
+judgeBy T P es = rootBy T P (getD (givenBy T P es) 0 0)

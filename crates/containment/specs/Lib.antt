@@ -1,4 +1,5 @@
 pub mod Answer
+pub mod Blocks
 pub mod Judging
 pub mod Prepared
 pub mod Room

@@ -1,62 +1,34 @@
--- How long the lent tables are, and that the numbers in them are indices: what keeps every access inside.
-use Prim.Native.Nat.{ℕ, _^_, _≤_, _<_}
+-- What keeps every access inside: numbers in the blocks are indices into one another, and counts multiply in 64 bits.
+use Prim.Native.Nat.{ℕ, _≤_, _<_}
 use mathlib.Core.Path.{_≡_}
 use mathlib.Core.List.{List}
 use lib.ListN.{length, getD}
 use Rattle.model.specs.Tree.{Rooted}
+use Rattle.model.specs.Pattern.{position}
+use Rattle.format.specs.Given.{patternAt, PatternGiven}
+use Rattle.containment.specs.Blocks.{upIn, capIn}
 
--- the entries that one node reads
-pub record NodeRoom (fitting closed allowed low high : List ℕ) (x n : ℕ) : Type 0 where
-  pub fits : x < length fitting
-  pub closes : x < length closed
-  pub may : n < length allowed
-  pub lows : 256 ≤ length low
-  pub highs : 256 ≤ length high
+-- a block of the second pattern, with the summary's parents, and the first pattern
+pub record Climbable (t p : List ℕ) (at : ℕ) : Type 0 where
+  pub tree : Rooted 64 (upIn t)
+  pub pattern : PatternGiven p at
+  pub range : (c : ℕ) → c < length (patternAt p at) → position (patternAt p at) c < 16
 
--- as many entries as up has, which are a tree's parents
-pub record ChainRoom (up fitting closed allowed low high : List ℕ) : Type 0 where
-  pub fits : length up ≤ length fitting
-  pub closes : length up ≤ length closed
-  pub some : 0 < length allowed
-  pub lows : 256 ≤ length low
-  pub highs : 256 ≤ length high
-  pub tree : Rooted (length up) (λ x. getD up x 0)
+-- and images of its nodes
+pub record Judgeable (t p : List ℕ) (at : ℕ) (images : List ℕ) : Type 0 where
+  pub base : Climbable t p at
+  pub placed : length images ≡ length (patternAt p at)
+  pub inside : (c : ℕ) → c < length (patternAt p at) → getD images c 0 < 64
 
--- and the first pattern's columns, as long as parents, which are a tree's, with its images in the summary
-pub record JudgeRoom (up fitting closed allowed low high parents positions images : List ℕ) : Type 0 where
-  pub chain : ChainRoom up fitting closed allowed low high
-  pub tree : Rooted (length parents) (λ c. getD parents c 0)
-  pub small : length parents ≤ 16
-  pub places : length parents ≤ length positions
-  pub range : (c : ℕ) → c < length parents → getD positions c 0 < length allowed
-  pub placed : length images ≡ length parents
-  pub inside : (c : ℕ) → c < length parents → getD images c 0 < length up
+-- counts by cells, none above the cap
+pub record Capped (m : List ℕ) : Type 0 where
+  pub some : 0 < capIn m
+  pub small : capIn m < 4_294_967_296
+  pub bounded : (i : ℕ) → i < 1024 → getD m i 0 ≤ capIn m
 
--- counts by cells, none above the cap: two of them multiplied fit 64 bits
-pub record CountRoom (counts : List ℕ) (cap : ℕ) : Type 0 where
-  pub cells : 1024 ≤ length counts
-  pub some : 0 < cap
-  pub small : cap < 4_294_967_296
-  pub bounded : (i : ℕ) → getD counts i 0 ≤ cap
-
--- what the tables by cells are filled from: the first pattern's columns
-pub record FillRoom (up fitting closed allowed low high parents edges positions : List ℕ) : Type 0 where
-  pub chain : ChainRoom up fitting closed allowed low high
-  pub narrow : length up ≤ 64
-  pub small : length parents ≤ 16
-  pub edged : length parents ≤ length edges
-  pub places : length parents ≤ length positions
-  pub range : (c : ℕ) → c < length parents → getD positions c 0 < length allowed
-
--- and the masks of its nodes' paths, which are summary nodes
-pub record PathRoom (up parents parts : List ℕ) : Type 0 where
-  pub parted : length parents ≤ length parts
-  pub inside : (c : ℕ) → c < length parents → getD parts c 0 < 2 ^ length up
-
--- what the completions of the images of the nodes before q are counted from
-pub record LeftRoom (parents counts images : List ℕ) (q cap : ℕ) : Type 0 where
-  pub counted : CountRoom counts cap
-  pub small : length parents ≤ 16
-  pub top : q ≤ length parents
-  pub placed : q ≤ length images
-  pub inside : (c : ℕ) → c < q → getD images c 0 < 64
+-- the first pattern with images of its nodes, and counts for those that are not placed
+pub record Countable (m p : List ℕ) (at : ℕ) (images : List ℕ) : Type 0 where
+  pub pattern : PatternGiven p at
+  pub counts : Capped m
+  pub placed : length images ≡ length (patternAt p at)
+  pub inside : (c : ℕ) → c < length (patternAt p at) → getD images c 0 < 64

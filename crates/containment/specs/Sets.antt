@@ -1,48 +1,82 @@
--- The tables that judging and stepping read, from columns: one number of each record, as a list.
+-- The tables that judging and stepping read, of a summary and a pattern.
 use Prim.Native.Nat.{ℕ, _-_, _/_, _%_, _^_}
-use mathlib.Core.Bool.{true, false, _||_}
+use mathlib.Core.Path.{_≡_}
+use mathlib.Core.Bool.{Bool, true, false, _||_}
 use mathlib.Core.List.{List, map}
 use lib.Bits.{bitAnd, bitOr}
 use lib.Dec.{eqb}
 use lib.ListN.{length, getD, replicate}
+use lib.Seq.{paste}
 use Rattle.model.specs.Lists.{upFrom, maskBelow}
-use Rattle.model.specs.Pattern.{labelFits}
+use Rattle.model.specs.Summary.{Summary, noSummaryRecord, summaryParent, summaryLabel}
+use Rattle.model.specs.Pattern.{Pattern, patternLabel, descends, position, labelFits}
+use Rattle.model.specs.Embeddings.{pathMask}
+use Rattle.model.specs.Quick.{hangsFrom}
 use Rattle.model.specs.Bytes.{writtenAtFront}
-use Rattle.containment.specs.Judging.{gather, offersBy}
+use Rattle.containment.specs.Judging.{gather, Sets, offersBy}
+use Rattle.containment.specs.declared.sets.Wanted.{Wanted}
+use Rattle.containment.specs.declared.sets.Wanted.the-variants.{Label, Position, Deep}
 
 -- f's values at 0 to n - 1, then zeros, k entries in all
 abbrev pub tableOf : (ℕ → ℕ) → ℕ → ℕ → List ℕ
 tableOf f n k = writtenAtFront (map f (upFrom 0 n)) (replicate k 0)
 
--- the pattern nodes whose labels fit
-unfoldable pub fitSet : List ℕ → ℕ → ℕ
-fitSet labels label = maskBelow (λ p. labelFits (getD labels p 0) label) (length labels)
+-- a block with a part's entries written over it, from that entry on; and with v written over its first n
+pub record Put (from : ℕ) (part before after : List ℕ) : Type 0 where
+  pub copy : after ≡ paste before from part (length part)
 
--- the pattern nodes with position n or none
-unfoldable pub holdSet : List ℕ → ℕ → ℕ
-holdSet positions n = maskBelow (λ p. eqb (getD positions p 0) 0 || eqb (getD positions p 0) n) (length positions)
+pub record Filled (n v : ℕ) (before after : List ℕ) : Type 0 where
+  pub copy : after ≡ writtenAtFront (map (λ _. v) (upFrom 0 n)) before
 
--- the pattern nodes that hang by a descendant edge
-unfoldable pub edgeSet : List ℕ → ℕ
-edgeSet edges = maskBelow (λ p. eqb (getD edges p 0) 1) (length edges)
+-- ---- the first pattern
 
--- the pattern nodes whose children, from the bit that shift stands for on, are all in byte b
-unfoldable pub byteSet : List ℕ → ℕ → ℕ → ℕ
-byteSet kids shift b = maskBelow (λ p. eqb (bitAnd (getD kids p 0 / shift % 256) b) (getD kids p 0 / shift % 256)) (length kids)
+-- by node, its paths
+abbrev pub partTable : Summary → Pattern → List ℕ
+partTable S P = map (pathMask S P) (upFrom 0 16)
+
+-- ---- the second pattern
+
+-- p's position is 0 or n
+abbrev pub mayHold : Pattern → ℕ → ℕ → Bool
+mayHold Q n p = eqb (position Q p) 0 || eqb (position Q p) n
+
+-- p's label fits, its position is the one or none, or it hangs by a descendant edge
+abbrev pub wantedBy : Pattern → Wanted → ℕ → Bool
+wantedBy Q (Label l) p = labelFits (patternLabel Q p) l
+wantedBy Q (Position n) p = mayHold Q n p
+wantedBy Q Deep p = descends Q p
+
+-- the nodes of which that is so
+unfoldable pub wantedSet : Pattern → Wanted → ℕ
+wantedSet Q w = maskBelow (wantedBy Q w) (length Q)
+
+-- by node, its children
+abbrev pub kidTable : Pattern → List ℕ
+kidTable Q = map (λ p. maskBelow (hangsFrom Q p) (length Q)) (upFrom 0 16)
+
+-- of n nodes those whose children, from the bit that shift stands for on, are all in byte b; kids has each node's children
+unfoldable pub byteSet : List ℕ → ℕ → ℕ → ℕ → ℕ
+byteSet kids n shift b = maskBelow (λ p. eqb (bitAnd (getD kids p 0 / shift % 256) b) (getD kids p 0 / shift % 256)) n
 
 -- by summary node, by position, by byte
-abbrev pub fittingTable : List ℕ → List ℕ → List ℕ
-fittingTable labels own = tableOf (λ x. fitSet labels (getD own x 0)) (length own) 64
+abbrev pub fittingTable : Summary → Pattern → List ℕ
+fittingTable S Q = tableOf (λ x. wantedSet Q (Label (summaryLabel S x))) (length S) 64
 
-abbrev pub allowedTable : List ℕ → List ℕ
-allowedTable positions = tableOf (holdSet positions) 9 9
+abbrev pub allowedTable : Pattern → List ℕ
+allowedTable Q = tableOf (λ n. wantedSet Q (Position n)) 9 16
 
-abbrev pub byteTable : List ℕ → ℕ → List ℕ
-byteTable kids shift = tableOf (byteSet kids shift) 256 256
+abbrev pub byteTable : List ℕ → ℕ → ℕ → List ℕ
+byteTable kids n shift = tableOf (byteSet kids n shift) 256 256
+
+-- ---- the summary
+
+-- by summary node, its parent
+abbrev pub upTable : Summary → List ℕ
+upTable S = tableOf (summaryParent S) (length S) 64
 
 -- what summary node t passes on to its parent, where e is offered to it: what it offers, if its edge is strong
-unfoldable pub strongBy : List ℕ → List ℕ → List ℕ → List ℕ → List ℕ → ℕ → ℕ → ℕ → ℕ
-strongBy strongs fitting allowed low high deep t e = elim (eqb (getD strongs t 0) 1) [ true ↦ offersBy fitting allowed low high deep t 0 e | false ↦ 0 ]
+unfoldable pub strongBy : Summary → Sets → ℕ → ℕ → ℕ
+strongBy S T t e = elim (eqb (getD S t noSummaryRecord .strong) 1) [ true ↦ offersBy T t 0 e | false ↦ 0 ]
 
 -- a child alone, and with what is below it
 abbrev pub childBy : ℕ → ℕ → ℕ
@@ -52,12 +86,8 @@ abbrev pub belowBy : ℕ → ℕ → ℕ
 belowBy b e = bitOr e (2 ^ b)
 
 -- by summary node, gathered from the last on: what its filled-up children offer, its children, its descendants
-abbrev pub closedTable : List ℕ → List ℕ → List ℕ → List ℕ → List ℕ → List ℕ → ℕ → List ℕ
-closedTable up strongs fitting allowed low high deep =
-    gather (λ x. getD up x 0) (strongBy strongs fitting allowed low high deep) (length up - 1) (replicate 64 0)
+abbrev pub gathered : Summary → (ℕ → ℕ → ℕ) → List ℕ
+gathered S F = gather (summaryParent S) F (length S - 1) (replicate 64 0)
 
-abbrev pub childTable : List ℕ → List ℕ
-childTable up = gather (λ x. getD up x 0) childBy (length up - 1) (replicate 64 0)
-
-abbrev pub descendantTable : List ℕ → List ℕ
-descendantTable up = gather (λ x. getD up x 0) belowBy (length up - 1) (replicate 64 0)
+abbrev pub closedTable : Summary → Sets → List ℕ
+closedTable S T = gathered S (strongBy S T)

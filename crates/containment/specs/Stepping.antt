@@ -6,7 +6,6 @@ use mathlib.Core.Path.{_≡_}
 use mathlib.Core.Bool.{Bool, true, false, _&&_}
 use mathlib.Core.List.{List, [], _∷_, _++_, flatMap, List·Memᴰ}
 use lib.Bits.{bitAnd}
-use lib.Dec.{eqb}
 use lib.ListN.{length, getD, drop}
 use Rattle.model.specs.Lists.{upFrom, keep}
 use Rattle.model.specs.Tree.{Document, labelOf}
@@ -23,18 +22,27 @@ unfoldable pub stepFrom : (List ℕ → ℕ) → ℕ → List ℕ → List (List
 stepFrom sites zero es = es ∷ []
 stepFrom sites (suc n) es = flatMap (λ v. stepFrom sites n (es ++ v ∷ [])) (members (sites es))
 
--- all of them, of m nodes: the root goes to the root, if its mask has it
-unfoldable pub allBy : (List ℕ → ℕ) → ℕ → ℕ → List (List ℕ)
-allBy sites root m = elim (has root 0) [ true ↦ stepFrom sites (m - 1) (0 ∷ []) | false ↦ [] ]
+-- what stepping reads, as masks. By summary node: its children, its descendants. By pattern node: its paths
+pub record Candidates : Type 0 where
+  pub children : ℕ → ℕ
+  pub descendants : ℕ → ℕ
+  pub parts : ℕ → ℕ
 
--- the places that an edge reaches from a, by the masks of children and descendants
-unfoldable pub reachBy : List ℕ → List ℕ → ℕ → ℕ → ℕ
-reachBy children descendants a edge = elim (eqb edge 1) [ true ↦ getD descendants a 0 | false ↦ getD children a 0 ]
+-- the places that an edge, a descendant edge where `far` says so, reaches from a
+unfoldable pub reachBy : Candidates → ℕ → Bool → ℕ
+reachBy M a far = elim far [ true ↦ M .descendants a | false ↦ M .children a ]
 
--- the places of the next node after the images es: those that its edge reaches from its parent's image and that its part's mask has
-unfoldable pub sitesBy : List ℕ → List ℕ → List ℕ → List ℕ → List ℕ → List ℕ → ℕ
-sitesBy parents edges children descendants parts es =
-    bitAnd (reachBy children descendants (getD es (getD parents (length es) 0) 0) (getD edges (length es) 0)) (getD parts (length es) 0)
+-- the places of node c where its parent stands at x: those that its edge reaches and that its part's mask has
+unfoldable pub placesBy : Pattern → Candidates → ℕ → ℕ → ℕ
+placesBy P M c x = bitAnd (reachBy M x (descends P c)) (M .parts c)
+
+-- the places of the next node after the images es
+unfoldable pub sitesBy : Pattern → Candidates → List ℕ → ℕ
+sitesBy P M es = placesBy P M (length es) (getD es (patternParent P (length es)) 0)
+
+-- all of them: the root goes to the root, if its mask has it
+unfoldable pub allBy : Pattern → Candidates → List (List ℕ)
+allBy P M = elim (has (M .parts 0) 0) [ true ↦ stepFrom (sitesBy P M) (length P - 1) (0 ∷ []) | false ↦ [] ]
 
 -- `parts q v` says that the part of the pattern from q down embeds at v. Pruning rests on two things: in an embedding it is true
 -- of every node's image, and where it is true the label fits

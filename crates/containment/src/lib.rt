@@ -1,17 +1,22 @@
 // Embeddings of the first pattern into the summary (document 01: placements), stepped and judged by masks, nothing laid out.
 
-mod cells;
-mod decide;
 mod judge;
+mod masks;
+mod second;
 mod sets;
 mod skip;
 mod steps;
 pub mod verdict;
 
-// How far the trials have come: how many may still be tried and how many have passed; or one failed, or the limit was met with
-// more to try, each with how many were tried.
+// How many embeddings may still be tried, and how many were and passed.
+pub struct Budget {
+    pub left: u64,
+    pub tried: u64,
+}
+
+// How far the trials have come; or one failed, or the limit was met with more to try, each with how many were tried.
 pub enum Run {
-    Going(u64, u64),
+    Going(Budget),
     Failed(u64),
     Stopped(u64),
 }

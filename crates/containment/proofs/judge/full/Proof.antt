@@ -4,36 +4,15 @@ use Rattle.containment.specs.Judging.{fullBy}
 use Rattle.containment.proofs.judge.full.Statement.{statement}
 use Rattle.containment.proofs.judge.full.Tie as tie
 
-cast-result : tie.Need-cast-result
-cast-result c = search needs
+low-requires : tie.Need-low-requires
+low-requires c κs = search needs
 
-mul-result : tie.Need-mul-result
-mul-result c = search needs
-
-shared-slice-read-result : tie.Need-shared-slice-read-result
-shared-slice-read-result c = search needs
-
-cast-result-2 : tie.Need-cast-result-2
-cast-result-2 c = search needs
-
-mul-result-2 : tie.Need-mul-result-2
-mul-result-2 c = search needs
-
-shared-slice-read-result-2 : tie.Need-shared-slice-read-result-2
-shared-slice-read-result-2 c = search needs
+high-requires : tie.Need-high-requires
+high-requires c κs = search needs
 
 returns : tie.Need-returns
 unfolding fullBy
-returns c = search needs
+returns c = rw (c .high .ensures, c .before .low .ensures)
 
 pub full-spec : {M : Type 1} → statement M
-full-spec =
-    tie.close
-    (tie.spec
-    cast-result
-    mul-result
-    shared-slice-read-result
-    cast-result-2
-    mul-result-2
-    shared-slice-read-result-2
-    returns)
+full-spec = tie.close (tie.spec low-requires high-requires returns)

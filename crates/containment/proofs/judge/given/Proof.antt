@@ -1,12 +1,14 @@
 -- `containment::judge::given` meets its contract: nodes have their turn from the last on, as the definition goes. Assumes nothing.
-use Prim.Native.Nat.{ℕ, _-_, _≤_, _<_}
+use Prim.Native.Nat.{ℕ, _-_, _<_}
 use mathlib.Core.List.{List}
 use mathlib.Core.Path.{refl, ap}
 use native.Mathlib.Omega.{arith}
 use lib.ListN.{length, getD, replicate}
 use borrow.Author.Needs.{needs}
-use Rattle.containment.specs.Judging.{setsOf}
-use Rattle.containment.specs.Room.{JudgeRoom}
+use Rattle.model.specs.Pattern.{patternParent}
+use Rattle.format.specs.Given.{patternAt}
+use Rattle.containment.specs.Blocks.{setsIn}
+use Rattle.containment.specs.Room.{Judgeable}
 use Rattle.containment.specs.Skipping.{sureBy, sureGiven}
 use Rattle.containment.proofs.GivenLoop.{Gathering, gathering-start, gathering-step, gathering-end, join-turn}
 use Rattle.containment.proofs.RoomLaws.{parent-lt}
@@ -14,39 +16,41 @@ use Rattle.containment.proofs.judge.given.Statement.{statement}
 use Rattle.containment.proofs.judge.given.Tie as tie
 
 abbrev Inv-loop : tie.InvT-loop
-Inv-loop up fitting closed allowed low high deep parents positions least images q t₀ c₀ t c =
-    JudgeRoom up fitting closed allowed low high parents positions images × (length up ≤ 64) × (1024 ≤ length least)
-    × Gathering (λ j. getD parents j 0) (sureBy (setsOf up fitting closed allowed low high deep) parents positions least (q .0) images) (length parents) (replicate 16 0) c t
+Inv-loop t p at images q hangs₀ c₀ hangs c =
+    Judgeable t p at images × Gathering (patternParent (patternAt p at)) (sureBy (setsIn t) (patternAt p at) t (q .0) images) (length (patternAt p at)) (replicate 16 0) c hangs
 
 abbrev μ-loop : tie.MeasureT-loop
-μ-loop up fitting closed allowed low high deep parents positions least images q t₀ c₀ t c = c
+μ-loop t p at images q hangs₀ c₀ hangs c = c
+
+pattern-count-requires : tie.Need-pattern-count-requires Inv-loop μ-loop
+pattern-count-requires c κs = search needs
 
 loop-holds : tie.Need-loop-holds Inv-loop μ-loop
-loop-holds c = let s = c .before .before .before .before .before .before .before .before .before .before .pre in (s .0, s .1, s .2, gathering-start (s .0 .tree .inhabited))
+loop-holds c = let s = c .before .before .before .pre in (s, gathering-start (c .pattern-count .ensures .0) (s .base .pattern .tree .inhabited))
 
 sub-c : tie.Need-sub-c Inv-loop μ-loop
 sub-c c = search needs
 
 mul-handed : tie.Need-mul-handed Inv-loop μ-loop
-mul-handed c = search needs
+mul-handed c = omega (arith, c .before .loop .inv .0 .base .pattern .few, c .before .loop .inv .1 .top)
 
 array-read-handed : tie.Need-array-read-handed Inv-loop μ-loop
-array-read-handed c = search needs
+array-read-handed c = omega (arith, c .before .loop .inv .0 .base .pattern .few, c .before .loop .inv .1 .top)
 
 handed-requires : tie.Need-handed-requires Inv-loop μ-loop
-handed-requires c κs = search needs
+handed-requires c κs = let i = c .before .loop .inv in (i .0, (omega arith, omega (arith, i .1 .top)))
 
 slice-aggregate-join : tie.Need-slice-aggregate-join Inv-loop μ-loop
 slice-aggregate-join c = search needs
 
-number-requires : tie.Need-number-requires Inv-loop μ-loop
-number-requires c κs = search needs
+pattern-parent-requires : tie.Need-pattern-parent-requires Inv-loop μ-loop
+pattern-parent-requires c κs = let i = c .before .before .before .loop .inv in (i .0 .base .pattern .whole, omega (arith, i .1 .top))
 
 join-requires : tie.Need-join-requires Inv-loop μ-loop
 join-requires c κs =
     let l = c .before .before .before .before .loop in
-    let k : c .number .result < l .c - 1 = parent-lt (l .inv .0) (omega arith) (omega arith) (c .number .ensures) in
-    omega arith
+    let k : c .pattern-parent .result .0 < l .c - 1 = parent-lt (l .inv .0 .base .pattern) (omega arith) (omega (arith, l .inv .1 .top)) (c .pattern-parent .ensures) in
+    omega (arith, l .inv .0 .base .pattern .few, l .inv .1 .top)
 
 loop-less : tie.Need-loop-less Inv-loop μ-loop
 loop-less c = search needs
@@ -55,10 +59,8 @@ loop-again : tie.Need-loop-again Inv-loop μ-loop
 loop-again c =
     let l = c .before .before .before .before .before .before .loop in (
       l .inv .0,
-      l .inv .1,
-      l .inv .2,
-      gathering-step (l .c - 1) (c .before .join .last .0) (l .inv .3) (c .before .before .before .before .before .loop-test .taken) refl
-          (join-turn _ _ _ _ _ _ _ (c .before .before .number .ensures) (c .before .before .before .before .handed .ensures) (c .before .join .ensures)) (c .before .join .kept .0),
+      gathering-step (l .c - 1) (c .before .join .last .0) (l .inv .1) (c .before .before .before .before .before .loop-test .taken) refl
+          (join-turn _ _ _ _ _ _ _ (c .before .before .pattern-parent .ensures) (c .before .before .before .before .handed .ensures) (c .before .join .ensures)) (c .before .join .kept .0),
     )
 
 array-read-result : tie.Need-array-read-result Inv-loop μ-loop
@@ -66,7 +68,7 @@ array-read-result c = search needs
 
 returns : tie.Need-returns Inv-loop μ-loop
 unfolding sureGiven
-returns c = ap (λ (l : List ℕ). getD l 0 0) (gathering-end (c .before .loop .inv .3) (c .loop-test .left))
+returns c = ap (λ (l : List ℕ). getD l 0 0) (gathering-end (c .before .loop .inv .1) (c .loop-test .left))
 
 pub given-spec : {M : Type 1} → statement M
 given-spec =
@@ -74,13 +76,14 @@ given-spec =
     (tie.spec
     Inv-loop
     μ-loop
+    pattern-count-requires
     loop-holds
     sub-c
     mul-handed
     array-read-handed
     handed-requires
     slice-aggregate-join
-    number-requires
+    pattern-parent-requires
     join-requires
     loop-less
     loop-again

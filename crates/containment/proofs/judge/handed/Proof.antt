@@ -3,7 +3,7 @@ use Prim.Native.Nat.{_<_}
 use mathlib.Core.Path.{_∙_}
 use native.Mathlib.Omega.{arith}
 use borrow.Author.Needs.{needs}
-use Rattle.containment.proofs.RoomLaws.{parent-lt, image-lt}
+use Rattle.containment.proofs.RoomLaws.{parent-lt, parent-placed, image-lt}
 use Rattle.containment.proofs.SkipLoop.{sure-placed, sure-least, sure-none}
 use Rattle.containment.proofs.judge.handed.Statement.{statement}
 use Rattle.containment.proofs.judge.handed.Tie as tie
@@ -12,25 +12,34 @@ pass-requires : tie.Need-pass-requires
 pass-requires c κs = search needs
 
 returns : tie.Need-returns
-returns c = c .pass .ensures ∙ sure-placed _ _ _ _ _ _ _ _ (c .before .if1 .taken)
+returns c = c .pass .ensures ∙ sure-placed _ _ _ _ _ _ _ (c .before .if1 .taken)
 
 pattern-parent-requires : tie.Need-pattern-parent-requires
 pattern-parent-requires c κs = search needs
 
+-- the function's entry, and that the node's parent has an image
+abbrev start : tie.After-pattern-parent → tie.Start
+start c = c .before .before .before .before .before .before
+
 image-of-requires : tie.Need-image-of-requires
-image-of-requires c κs = search needs
+image-of-requires c κs =
+    let l = c .before .before .before in
+    let s = start l .pre in
+    parent-placed (s .0) (s .1 .0) (s .1 .1) (l .pattern-parent .ensures)
 
 least-at-requires : tie.Need-least-at-requires
 least-at-requires c κs =
-    let s = c .before .before .before .before .before .before .before .before .before .before .before .before .before .before .before .before .before .before .pre in
-    let j : c .before .before .before .before .pattern-parent .result .0 < c .before .before .before .before .before .before .before .before .before .before .before .before .before .before .before .before .before .before .args .c .0 = parent-lt (s .0) (s .3) (s .4) (c .before .before .before .before .pattern-parent .ensures) in
-    (s .2, omega (arith, s .0 .small), omega (arith, s .1, image-lt (s .0) (omega arith) (c .image-of .ensures)))
+    let l = c .before .before .before .before in
+    let s = start l .pre in
+    (omega (arith, s .0 .base .pattern .few), image-lt (s .0) (parent-placed (s .0) (s .1 .0) (s .1 .1) (l .pattern-parent .ensures)) (c .image-of .ensures))
 
 returns-2 : tie.Need-returns-2
-returns-2 c = sure-least _ _ _ _ _ _ _ _ (c .before .before .before .before .before .before .if1 .left) (c .before .before .before .before .before .pattern-parent .ensures) (c .before .before .if2 .taken) (c .before .image-of .ensures) (c .least-at .ensures)
+returns-2 c =
+    let l = c .before .before .before .before .before in
+    sure-least _ _ _ _ _ _ _ (l .before .if1 .left) (l .pattern-parent .ensures) (c .before .before .if2 .taken) (c .before .image-of .ensures) (c .least-at .ensures)
 
 returns-3 : tie.Need-returns-3
-returns-3 c = sure-none _ _ _ _ _ _ _ _ (c .before .before .before .before .if1 .left) (c .before .before .before .pattern-parent .ensures) (c .if2 .left)
+returns-3 c = let l = c .before .before .before in sure-none _ _ _ _ _ _ _ (l .before .if1 .left) (l .pattern-parent .ensures) (c .if2 .left)
 
 pub handed-spec : {M : Type 1} → statement M
 handed-spec =

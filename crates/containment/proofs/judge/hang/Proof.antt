@@ -1,47 +1,49 @@
 -- `containment::judge::hang` meets its contract: the loop climbs from the chain's last node up, as the definition does. The measure
 -- is the node's number, since a parent's is smaller. Assumes nothing.
 use borrow.Author.Needs.{needs}
-use Rattle.containment.specs.Judging.{setsOf}
+use Rattle.containment.specs.Blocks.{setsIn}
 use Rattle.containment.proofs.HangLoop.{HangInv, hang-start, hang-less, hang-step, hang-end}
 use Rattle.containment.proofs.judge.hang.Statement.{statement}
 use Rattle.containment.proofs.judge.hang.Tie as tie
 
 abbrev Inv-loop : tie.InvT-loop
-Inv-loop up fitting closed allowed low high deep a n g h₀ x₀ h x = HangInv (setsOf up fitting closed allowed low high deep) (a .0) h₀ (x₀ .0) h (x .0)
+Inv-loop t a n g h₀ x₀ h x = HangInv (setsIn t) (a .0) h₀ (x₀ .0) h (x .0)
 
 abbrev μ-loop : tie.MeasureT-loop
-μ-loop up fitting closed allowed low high deep a n g h₀ x₀ h x = x .0
-
--- the function's entry, seen from where the chain's last node has been asked and the next one is read
-abbrev start : tie.After-summary-parent Inv-loop μ-loop → tie.Start Inv-loop μ-loop
-start c = c .before .before .before .before .before .before .before .before
+μ-loop t a n g h₀ x₀ h x = x .0
 
 node-requires : tie.Need-node-requires Inv-loop μ-loop
 node-requires c κs = search needs
 
-summary-parent-requires : tie.Need-summary-parent-requires Inv-loop μ-loop
-summary-parent-requires c κs = search needs
+up-requires : tie.Need-up-requires Inv-loop μ-loop
+up-requires c κs = search needs
 
 loop-holds : tie.Need-loop-holds Inv-loop μ-loop
-loop-holds c = let s = start c in hang-start (s .pre .0) (s .pre .1) (c .summary-parent .ensures)
+loop-holds c = let s = c .before .before .pre in hang-start (s .0) (s .1) (c .up .ensures)
 
 node-requires-2 : tie.Need-node-requires-2 Inv-loop μ-loop
 node-requires-2 c κs = search needs
 
-summary-parent-requires-2 : tie.Need-summary-parent-requires-2 Inv-loop μ-loop
-summary-parent-requires-2 c κs = search needs
+up-requires-2 : tie.Need-up-requires-2 Inv-loop μ-loop
+up-requires-2 c κs = search needs
+
+-- the function's entry, seen from a turn
+abbrev start : tie.At-loop Inv-loop μ-loop → tie.Start Inv-loop μ-loop
+start c = c .before .before .before
 
 loop-less : tie.Need-loop-less Inv-loop μ-loop
-loop-less c = hang-less (c .before .before .before .before .before .loop .inv) (c .before .before .if1 .taken) (c .summary-parent2 .ensures)
+loop-less c = let l = c .before .before .before .before .before in hang-less (start l .pre .0) (l .loop .inv) (c .before .before .if1 .taken) (c .up2 .ensures)
 
 loop-again : tie.Need-loop-again Inv-loop μ-loop
-loop-again c = hang-step (c .before .before .before .before .before .loop .inv) (c .before .before .if1 .taken) (c .before .node2 .ensures) (c .summary-parent2 .ensures)
+loop-again c =
+    let l = c .before .before .before .before .before in
+    hang-step (start l .pre .0) (l .loop .inv) (c .before .before .if1 .taken) (c .before .node2 .ensures) (c .up2 .ensures)
 
 returns : tie.Need-returns Inv-loop μ-loop
 returns c =
-    let p = c .before .before .before .before in
-    let s = start p in
-    hang-end (s .args .n) (s .args .g) (c .before .before .before .loop .inv) (c .if1 .left) (s .pre .1) (p .before .node .ensures) (p .summary-parent .ensures)
+    let l = c .before .before .before in
+    let s = start l in
+    hang-end (s .pre .0) (s .args .n) (s .args .g) (l .loop .inv) (c .if1 .left) (s .pre .1) (l .before .before .node .ensures) (l .before .up .ensures)
 
 pub hang-spec : {M : Type 1} → statement M
 hang-spec =
@@ -50,10 +52,10 @@ hang-spec =
     Inv-loop
     μ-loop
     node-requires
-    summary-parent-requires
+    up-requires
     loop-holds
     node-requires-2
-    summary-parent-requires-2
+    up-requires-2
     loop-less
     loop-again
     returns)

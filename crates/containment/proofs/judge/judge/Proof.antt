@@ -1,7 +1,7 @@
--- `containment::judge::judge` meets its contract: what hangs from the root is met there, and bit 0 is the second pattern's root.
--- Assumes nothing.
+-- `containment::judge::judge` meets its contract: what hangs from the root is met there, and bit 0 is the second pattern's root. Assumes nothing.
 use native.Mathlib.Omega.{arith}
 use borrow.Author.Needs.{needs}
+use Rattle.containment.specs.Judging.{rootBy}
 use Rattle.containment.specs.Skipping.{surelyBy}
 use Rattle.containment.proofs.RoomLaws.{position-lt}
 use Rattle.containment.proofs.judge.judge.Statement.{statement}
@@ -10,32 +10,33 @@ use Rattle.containment.proofs.judge.judge.Tie as tie
 given-requires : tie.Need-given-requires
 given-requires c κs = search needs
 
-number-requires : tie.Need-number-requires
-number-requires c κs = search needs
+pattern-position-requires : tie.Need-pattern-position-requires
+pattern-position-requires c κs = let s = c .before .before .before .pre in (s .base .pattern .whole, s .base .pattern .tree .inhabited)
 
-shared-slice-read-met : tie.Need-shared-slice-read-met
-shared-slice-read-met c = search needs
+closed-requires : tie.Need-closed-requires
+closed-requires c κs = search needs
 
 met-requires : tie.Need-met-requires
 met-requires c κs =
-    let R = c .before .before .before .before .before .before .before .before .before .before .before .before .before .pre .0 in
-    let i = R .chain .tree .inhabited in
-    (omega (arith, R .chain .fits), position-lt R (R .tree .inhabited) (c .before .number .ensures), R .chain .lows, R .chain .highs)
+    let s = c .before .before .before .before .before .pre in
+    (omega arith, position-lt (s .base) (s .base .pattern .tree .inhabited) (c .before .pattern-position .ensures .0))
 
 has16-requires : tie.Need-has16-requires
 has16-requires c κs = search needs
 
 returns : tie.Need-returns
-unfolding surelyBy
-returns c = rw (c .has16 .ensures, c .before .met .ensures, c .before .before .before .number .ensures, c .before .before .before .before .given .ensures)
+unfolding surelyBy rootBy
+returns c =
+    let n = c .before .before .before .pattern-position .ensures .0 in
+    rw (c .has16 .ensures, c .before .met .ensures, c .before .before .closed .ensures, n, c .before .before .before .before .given .ensures)
 
 pub judge-spec : {M : Type 1} → statement M
 judge-spec =
     tie.close
     (tie.spec
     given-requires
-    number-requires
-    shared-slice-read-met
+    pattern-position-requires
+    closed-requires
     met-requires
     has16-requires
     returns)

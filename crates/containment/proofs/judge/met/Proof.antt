@@ -4,32 +4,18 @@ use Rattle.containment.specs.Judging.{meetsBy}
 use Rattle.containment.proofs.judge.met.Statement.{statement}
 use Rattle.containment.proofs.judge.met.Tie as tie
 
-mul-result : tie.Need-mul-result
-mul-result c = search needs
+fitting-requires : tie.Need-fitting-requires
+fitting-requires c κs = search needs
 
-shared-slice-read-result : tie.Need-shared-slice-read-result
-shared-slice-read-result c = search needs
-
-mul-result-2 : tie.Need-mul-result-2
-mul-result-2 c = search needs
-
-shared-slice-read-result-2 : tie.Need-shared-slice-read-result-2
-shared-slice-read-result-2 c = search needs
+allowed-requires : tie.Need-allowed-requires
+allowed-requires c κs = search needs
 
 full-requires : tie.Need-full-requires
 full-requires c κs = search needs
 
 returns : tie.Need-returns
 unfolding meetsBy
-returns c = rw (c .full .ensures)
+returns c = rw (c .full .ensures, c .before .allowed .ensures, c .before .before .fitting .ensures)
 
 pub met-spec : {M : Type 1} → statement M
-met-spec =
-    tie.close
-    (tie.spec
-    mul-result
-    shared-slice-read-result
-    mul-result-2
-    shared-slice-read-result-2
-    full-requires
-    returns)
+met-spec = tie.close (tie.spec fitting-requires allowed-requires full-requires returns)

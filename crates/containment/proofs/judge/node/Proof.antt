@@ -4,18 +4,15 @@ use Rattle.containment.specs.Judging.{nodeBy}
 use Rattle.containment.proofs.judge.node.Statement.{statement}
 use Rattle.containment.proofs.judge.node.Tie as tie
 
-mul-offered : tie.Need-mul-offered
-mul-offered c = search needs
-
-shared-slice-read-offered : tie.Need-shared-slice-read-offered
-shared-slice-read-offered c = search needs
+closed-requires : tie.Need-closed-requires
+closed-requires c κs = search needs
 
 offered-requires : tie.Need-offered-requires
 offered-requires c κs = search needs
 
 returns : tie.Need-returns
 unfolding nodeBy
-returns c = c .offered .ensures
+returns c = rw (c .offered .ensures, c .before .closed .ensures)
 
 pub node-spec : {M : Type 1} → statement M
-node-spec = tie.close (tie.spec mul-offered shared-slice-read-offered offered-requires returns)
+node-spec = tie.close (tie.spec closed-requires offered-requires returns)

@@ -1,4 +1,4 @@
--- `containment::judge::offered` meets its contract: what meets, and what is passed on. Assumes nothing.
+-- `containment::judge::offered` meets its contract: the two parts are the definition's. Assumes nothing.
 use borrow.Author.Needs.{needs}
 use Rattle.containment.specs.Judging.{offersBy}
 use Rattle.containment.proofs.judge.offered.Statement.{statement}
@@ -7,9 +7,12 @@ use Rattle.containment.proofs.judge.offered.Tie as tie
 met-requires : tie.Need-met-requires
 met-requires c κs = search needs
 
+deep-requires : tie.Need-deep-requires
+deep-requires c κs = search needs
+
 returns : tie.Need-returns
 unfolding offersBy
-returns c = rw (c .met .ensures)
+returns c = rw (c .deep .ensures, c .before .met .ensures)
 
 pub offered-spec : {M : Type 1} → statement M
-offered-spec = tie.close (tie.spec met-requires returns)
+offered-spec = tie.close (tie.spec met-requires deep-requires returns)

@@ -1,0 +1,63 @@
+-- What is worked out once a case stands in two blocks that are lent whole, and each thing that they hold has its place in them. Where a
+-- summary or a pattern has fewer nodes than its part of a block, zeros follow.
+use Prim.Native.Nat.{ℕ, _+_, _*_}
+use mathlib.Core.List.{List}
+use lib.ListN.{getD}
+use Rattle.containment.specs.Judging.{Sets}
+use Rattle.containment.specs.Stepping.{Candidates}
+
+-- tables by first-pattern node, in rows of 64, and by the summary node on which its parent stands
+abbrev pub cell : ℕ → ℕ → ℕ
+cell c x = 64 * c + x
+
+-- ---- `Second`, 1,760 numbers, of the summary and the second pattern. From 0, by cell: what a node and all below it offer at least
+
+-- by summary node: its parent, the pattern nodes whose labels fit it, what its filled-up children offer
+abbrev pub upIn : List ℕ → ℕ → ℕ
+upIn t x = getD t (1024 + x) 0
+
+abbrev pub fittingIn : List ℕ → ℕ → ℕ
+fittingIn t x = getD t (1088 + x) 0
+
+abbrev pub closedIn : List ℕ → ℕ → ℕ
+closedIn t x = getD t (1152 + x) 0
+
+-- by position: the pattern nodes with it or none
+abbrev pub allowedIn : List ℕ → ℕ → ℕ
+allowedIn t n = getD t (1216 + n) 0
+
+-- the pattern nodes that hang by a descendant edge
+abbrev pub deepIn : List ℕ → ℕ
+deepIn t = getD t 1232 0
+
+-- by byte: the pattern nodes all of whose children among the first eight nodes, or the other eight, are in it
+abbrev pub lowIn : List ℕ → ℕ → ℕ
+lowIn t b = getD t (1248 + b) 0
+
+abbrev pub highIn : List ℕ → ℕ → ℕ
+highIn t b = getD t (1504 + b) 0
+
+abbrev pub setsIn : List ℕ → Sets
+setsIn t =
+    record { up = upIn t; fitting = fittingIn t; closed = closedIn t; allowed = allowedIn t; low = lowIn t; high = highIn t; deep = deepIn t }
+
+-- ---- `Masks`, 1,169 numbers, of the summary and the first pattern. From 0, by cell: in how many ways a node and all below it can be
+-- placed, cut at the cap
+
+-- by summary node: its children, its descendants
+abbrev pub childIn : List ℕ → ℕ → ℕ
+childIn t x = getD t (1024 + x) 0
+
+abbrev pub belowIn : List ℕ → ℕ → ℕ
+belowIn t x = getD t (1088 + x) 0
+
+-- by pattern node: its paths
+abbrev pub partIn : List ℕ → ℕ → ℕ
+partIn t q = getD t (1152 + q) 0
+
+-- the cap
+abbrev pub capIn : List ℕ → ℕ
+capIn t = getD t 1168 0
+
+abbrev pub candidatesIn : List ℕ → Candidates
+candidatesIn t = record { children = childIn t; descendants = belowIn t; parts = partIn t }
