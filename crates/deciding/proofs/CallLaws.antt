@@ -1,68 +1,26 @@
--- What is read of an accepted case is the model's case; and what the call answers and leaves is the model's outcome, which keeps demand
--- 3: a refusal alters nothing, and an accepted call has its verdict. Assumes nothing.
+-- What the call answers and leaves is the model's outcome, which keeps demand 3: a refusal alters nothing, and an accepted call has its
+-- verdict. Assumes nothing.
 use Prim.Native.Nat.{ℕ, _+_, _≤_}
 use mathlib.Core.Path.{_≡_, refl, sym, ap, _∙_, subst}
 use mathlib.Core.List.{List}
 use native.Mathlib.Omega.{arith}
 use lib.ListN.{length}
 use Rattle.model.specs.Limits.{maxTally}
-use Rattle.model.specs.Pattern.{Pattern, arity}
-use Rattle.model.specs.Facts.{CaseFacts}
 use Rattle.model.specs.Verdict.{Verdict, included, notIncluded, stopped, triedOf}
-use Rattle.model.specs.Bytes.{Case, caseOf, firstAt}
+use Rattle.model.specs.Bytes.{caseOf}
 use Rattle.model.specs.Questions.{verdictRefusal}
 use Rattle.model.specs.Calls.{refusedAnswer, kindOf, verdictAccepted, verdictCall}
 use Rattle.model.specs.Demands.{Demand3}
 use Rattle.model.proofs.CallFacts.{accepted-verdict}
-use Rattle.model.proofs.CaseFacts.{AcceptedCase}
 use Rattle.model.proofs.Calls.{verdict-refused, verdict-accepted}
 use Rattle.model.proofs.Demands.{demand-3}
 use Rattle.model.proofs.Verdict.{verdict-tried}
-use Rattle.format.specs.Given.{patternAt}
-use Rattle.questions.proofs.TableLaws.{first-pattern}
-use Rattle.questions.proofs.AcceptedLaws.{SummaryColumns, PatternColumns}
-use Rattle.containment.specs.Answer.{answerOf, caseFrom, verdictOf, CaseLent}
+use Rattle.containment.specs.Answer.{answerOf, verdictOf}
 use Rattle.containment.specs.declared.Containment.{Containment}
-use Rattle.deciding.specs.Shown.{Told}
+use Rattle.deciding.specs.Told.{Told}
 use Rattle.deciding.specs.Outcome.{valuesOf, outcomeOf, Answered, asAnswer, triedIn}
 use Rattle.deciding.specs.declared.Answer.{Answer}
 use Rattle.deciding.specs.declared.Answer.the-variants.{Refused}
-
--- ---- the columns that are read
-
-module _ {b : List ℕ} (A : AcceptedCase b) {parents labels strongs : List ℕ} {n : ℕ} {pparents plabels pedges ppositions : List ℕ} {m : ℕ} {qparents qlabels qedges qpositions : List ℕ} {q : ℕ}
-    (s : SummaryColumns (caseOf b .summary) parents labels strongs n) (f : PatternColumns (caseOf b .first) pparents plabels pedges ppositions m)
-    (g : PatternColumns (caseOf b .second) qparents qlabels qedges qpositions q) where
-  abbrev c : Case
-  c = caseFrom parents labels strongs n pparents plabels pedges ppositions m qparents qlabels qedges qpositions q
-
-  read-case : c ≡ caseOf b
-  read-case = λ i. record { summary = s .table i; first = f .table i; second = g .table i }
-
-  pub read-lent : CaseLent parents labels strongs n pparents plabels pedges ppositions m qparents qlabels qedges qpositions q
-  read-lent =
-      record {
-        facts = subst (λ (x : Case). CaseFacts x) (sym read-case) (A .facts);
-        summaryParents = s .parentRows;
-        summaryLabels = s .labelRows;
-        summaryStrongs = s .strongRows;
-        firstParents = f .parentRows;
-        firstLabels = f .labelRows;
-        firstEdges = f .edgeRows;
-        firstPositions = f .positionRows;
-        secondParents = g .parentRows;
-        secondLabels = g .labelRows;
-        secondEdges = g .edgeRows;
-        secondPositions = g .positionRows;
-      }
-
-  pub read-arity : {k : ℕ} (at : ℕ) → at ≡ firstAt b → k ≡ arity (patternAt b at) → k ≡ arity (c .first)
-  read-arity at e k = k ∙ sym (ap (λ (P : Pattern). arity P) (f .table ∙ first-pattern b at e))
-
-  pub read-told : {limit : ℕ} {before after : List ℕ} {r : Containment} → Told c limit before after r → Told (caseOf b) limit before after r
-  read-told {limit} {before} {after} {r} t = subst (λ (x : Case). Told x limit before after r) read-case t
-
--- ---- the outcome
 
 -- the answer has the values of the verdict
 same-values : (v : Verdict) → valuesOf (asAnswer (answerOf v)) ≡ record { refused = 0; kind = kindOf v; tried = triedOf v }

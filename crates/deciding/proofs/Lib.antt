@@ -1,3 +1,2 @@
-pub mod ShownLaws
-pub mod VerdictLaws
 pub mod CallLaws
+pub mod VerdictLaws

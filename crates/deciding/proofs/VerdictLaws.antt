@@ -1,5 +1,6 @@
--- From the verdict over columns to what is told: "not included" shows an embedding of the first pattern, whose canonical document can
--- be laid out and written, and the others show nothing. By the model's laws of the verdict. Assumes nothing.
+-- From the verdict to what is told: an accepted case has what the verdict asks for; "not included" shows an embedding of the first
+-- pattern, whose canonical document can be laid out and written, and the others show nothing. By the model's laws of the verdict.
+-- Assumes nothing.
 use Prim.Native.Nat.{ℕ, _≤_}
 use mathlib.Core.Path.{_≡_, refl, sym, ap, ap₂, _∙_, subst}
 use mathlib.Core.Logic.{inl, inr}
@@ -8,22 +9,28 @@ use native.Mathlib.Omega.{arith}
 use denote.Enum.Declared.{tagOf}
 use types.Run.{OneOf}
 use lib.ListN.{length, take}
-use Rattle.model.specs.Limits.{minBuffer, maxPosition}
+use Rattle.model.specs.Limits.{maxPattern, maxPosition}
 use Rattle.model.specs.Summary.{Summary}
 use Rattle.model.specs.Pattern.{Pattern, arity, SummaryEmbedding}
 use Rattle.model.specs.Embeddings.{imageIn}
+use Rattle.model.specs.Facts.{CaseFacts}
 use Rattle.model.specs.Verdict.{Verdict, included, notIncluded, stopped}
-use Rattle.model.specs.Bytes.{Case, writtenAtFront}
+use Rattle.model.specs.Bytes.{Case, caseOf, firstAt, secondAt, writtenAtFront}
 use Rattle.model.specs.Calls.{shown}
 use Rattle.model.proofs.Bytes.{front-none, front-written}
+use Rattle.model.proofs.CaseFacts.{AcceptedCase}
 use Rattle.model.proofs.Decision.{placed}
 use Rattle.model.proofs.Verdict.{verdict-shown}
-use Rattle.format.proofs.TableLaws.{length-patternFrom}
-use Rattle.containment.specs.Answer.{answerOf, shownOf, caseFrom, verdictOf, CaseLent}
+use Rattle.format.specs.Given.{summaryIn, patternAt, PatternGiven}
+use Rattle.format.proofs.GivenLaws.{given-summary, given-first, given-second}
+use Rattle.questions.proofs.NumberedLaws.{first-pattern, second-pattern}
+use Rattle.canonical.specs.Given.{embeddingIn}
+use Rattle.canonical.specs.Shown.{shownDocument, Showable}
+use Rattle.containment.specs.Answer.{answerOf, shownOf, caseBy, verdictOf, CaseGiven}
 use Rattle.containment.specs.declared.Containment.{Containment}
 use Rattle.containment.specs.declared.Containment.the-variants.{NotContained}
 use Rattle.containment.proofs.Containment.{the-type}
-use Rattle.deciding.specs.Shown.{shownCanonical, Showable, Told}
+use Rattle.deciding.specs.Told.{Told}
 
 -- ---- included and stopped
 
@@ -50,64 +57,72 @@ not-included (included n) e = absurd (let z : _≡_ {A = ℕ} 0 1 = cc e in omeg
 not-included (notIncluded n es) e = ap (λ (x : ℕ). notIncluded x es) (cc e)
 not-included (stopped n) e = absurd (let z : _≡_ {A = ℕ} 0 1 = cc e in omega arith)
 
-shown-not : (S : Summary) (P : Pattern) (n : ℕ) (es : List ℕ) → shown S P (notIncluded n es) ≡ shownCanonical S P es
+shown-not : (S : Summary) (P : Pattern) (n : ℕ) (es : List ℕ) → shown S P (notIncluded n es) ≡ shownDocument S P es
 unfolding shown
 shown-not S P n es = refl
 
-module _ {parents labels strongs : List ℕ} {n : ℕ} {pparents plabels pedges ppositions : List ℕ} {m : ℕ} {qparents qlabels qedges qpositions : List ℕ} {q : ℕ}
-    (l : CaseLent parents labels strongs n pparents plabels pedges ppositions m qparents qlabels qedges qpositions q) (limit : ℕ) where
-  abbrev c : Case
-  c = caseFrom parents labels strongs n pparents plabels pedges ppositions m qparents qlabels qedges qpositions q
+-- ---- an accepted case
 
-  abbrev v : Verdict
-  v = verdictOf c limit
+module _ {b : List ℕ} (A : AcceptedCase b) {first second : ℕ} (e : first ≡ firstAt b) (f : second ≡ secondAt b) where
+  same-case : caseBy b b first b second ≡ caseOf b
+  same-case = λ i. record { summary = caseOf b .summary; first = sym (first-pattern b first e) i; second = sym (second-pattern b second f) i }
 
-  abbrev es : List ℕ
-  es = shownOf v
+  pub case-given : CaseGiven b b first b second
+  case-given =
+      record {
+        summary = given-summary A;
+        first = subst (λ (at : ℕ). PatternGiven b at) (sym e) (given-first A);
+        second = subst (λ (at : ℕ). PatternGiven b at) (sym f) (given-second A);
+        facts = subst (λ (c : Case). CaseFacts c) (sym same-case) (A .facts);
+      }
 
-  module _ (images₀ : List ℕ) {t : ℕ} {r : Containment} {images : List ℕ} (a : r ≡ answerOf v) (e : r ≡ NotContained t) (i : images ≡ writtenAtFront es images₀) where
-    is-not : v ≡ notIncluded t es
-    is-not = not-included v (sym a ∙ e)
+  -- what is told of it by the fields where its patterns stand
+  pub told-case : {limit : ℕ} {before after : List ℕ} {r : Containment} → Told (caseBy b b first b second) limit before after r → Told (caseOf b) limit before after r
+  told-case {limit} {before} {after} {r} t = subst (λ (c : Case). Told c limit before after r) same-case t
 
-    embedded : (length es ≡ length (c .first)) × SummaryEmbedding (c .summary) (c .first) (imageIn es)
-    embedded = placed (l .facts .summary) (l .facts .first) (verdict-shown (c .summary) (c .first) (c .second) limit t es is-not .0)
+  module _ (limit : ℕ) where
+    abbrev v : Verdict
+    v = verdictOf (caseBy b b first b second) limit
 
-    -- the images are the embedding
-    shown-images : take m images ≡ es
-    shown-images =
-        let s : length es ≡ m = embedded .0 ∙ length-patternFrom pparents plabels pedges ppositions m in
-        ap₂ (λ (k : ℕ) (xs : List ℕ). take k xs) (sym s) i ∙ front-written es images₀
+    abbrev es : List ℕ
+    es = shownOf v
 
-    pub showable : {k bytes : ℕ} → k ≡ arity (c .first) → m ≤ length images → minBuffer ≤ bytes → Showable parents labels strongs n pparents plabels pedges ppositions m k images bytes
-    showable {k} p h b =
-        let few : arity (c .first) ≤ maxPosition = l .facts .arityBound in
-        record {
-          placed =
-              record {
-                summary = l .facts .summary .tree;
-                pattern = l .facts .first .tree;
-                embedding = subst (λ (xs : List ℕ). SummaryEmbedding (c .summary) (c .first) (imageIn xs)) (sym shown-images) (embedded .1);
-                summarySize = l .facts .summarySize;
-                patternSize = l .facts .firstSize;
-              };
-          facts = l .facts .first;
-          positions = p;
-          few = omega arith;
-          summaryParents = l .summaryParents;
-          summaryLabels = l .summaryLabels;
-          summaryStrongs = l .summaryStrongs;
-          firstParents = l .firstParents;
-          firstPositions = l .firstPositions;
-          placedRows = h;
-          buffer = b;
-        }
+    module _ (images₀ : List ℕ) {t : ℕ} {r : Containment} {images : List ℕ} (a : r ≡ answerOf v) (n : r ≡ NotContained t) (i : images ≡ writtenAtFront es images₀) where
+      is-not : v ≡ notIncluded t es
+      is-not = not-included v (sym a ∙ n)
 
-    -- and what is shown of it is the verdict's
-    pub told-shown : {before after : List ℕ} → after ≡ writtenAtFront (shownCanonical (c .summary) (c .first) (take m images)) before → Told c limit before after (NotContained t)
-    told-shown {before} w =
-        record {
-          verdict = sym e ∙ a;
-          buffer =
-              w ∙ ap (λ (xs : List ℕ). writtenAtFront (shownCanonical (c .summary) (c .first) xs) before) shown-images
-              ∙ sym (ap (λ (x : Verdict). writtenAtFront (shown (c .summary) (c .first) x) before) is-not ∙ ap (λ (w : List ℕ). writtenAtFront w before) (shown-not (c .summary) (c .first) t es));
-        }
+      embedded : (length es ≡ length (patternAt b first)) × SummaryEmbedding (summaryIn b) (patternAt b first) (imageIn es)
+      embedded = placed (case-given .facts .summary) (case-given .facts .first) (verdict-shown (summaryIn b) (patternAt b first) (patternAt b second) limit t es is-not .0)
+
+      -- the images are the embedding
+      shown-images : embeddingIn b first images ≡ es
+      shown-images = ap₂ (λ (k : ℕ) (xs : List ℕ). take k xs) (sym (embedded .0)) i ∙ front-written es images₀
+
+      pub showable : {k : ℕ} → k ≡ arity (patternAt b first) → maxPattern ≤ length images → Showable b first images k
+      showable {k} p h =
+          let few : arity (patternAt b first) ≤ maxPosition = case-given .facts .arityBound in
+          record {
+            embedded =
+                record {
+                  summary = case-given .summary;
+                  pattern = case-given .first;
+                  enough = let l : length (patternAt b first) ≤ maxPattern = case-given .first .few in omega arith;
+                  embedding = subst (λ (xs : List ℕ). SummaryEmbedding (summaryIn b) (patternAt b first) (imageIn xs)) (sym shown-images) (embedded .1);
+                };
+            facts = case-given .facts .first;
+            positions = p;
+            few = omega arith;
+          }
+
+      -- and what is shown of it is the verdict's
+      pub told-shown : {before after : List ℕ} → after ≡ writtenAtFront (shownDocument (summaryIn b) (patternAt b first) (embeddingIn b first images)) before
+          → Told (caseOf b) limit before after (NotContained t)
+      told-shown {before} w =
+          told-case
+          (record {
+            verdict = sym n ∙ a;
+            buffer =
+                w ∙ ap (λ (xs : List ℕ). writtenAtFront (shownDocument (summaryIn b) (patternAt b first) xs) before) shown-images
+                ∙ sym (ap (λ (x : Verdict). writtenAtFront (shown (summaryIn b) (patternAt b first) x) before) is-not
+                ∙ ap (λ (x : List ℕ). writtenAtFront x before) (shown-not (summaryIn b) (patternAt b first) t es));
+          })
