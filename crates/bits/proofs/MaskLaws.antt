@@ -3,22 +3,22 @@
 --
 -- A mask m stands for the set f of numbers below n when m ≡ maskBelow f n. Of such a mask the model has the rest: ones m is
 -- countBelow f n (ones-mask), and its trailing zeros give the least member (mask-least).
-use Prim.Native.Nat.{ℕ, zero, suc, _+_, _*_, _/_, _%_, _^_, _≤_, _<_}
+use Prim.Native.Nat.{ℕ, zero, suc, _+_, _*_, _/_, _%_, _^_, _<_}
 use mathlib.Core.Path.{_≡_, refl, sym, ap, ap₂, _∙_, subst}
-use mathlib.Core.Bool.{Bool, true, false, _&&_, _||_, not, false≢true, true≢false, or-true, or-false, or-assoc}
+use mathlib.Core.Bool.{Bool, true, false, _&&_, _||_, not, false≢true, true≢false, or-false, or-assoc}
 use mathlib.Core.List.{List, [], _∷_, _++_}
 use native.Mathlib.Omega.{arith}
 use native.Mathlib.Numerals.{add-one}
-use native.Mathlib.Nat.{mod-lt, mod-eq-of-lt, div-add-mod', one-mul, zero-lt-suc, lt-of-le-of-lt, lt-of-lt-of-le}
+use native.Mathlib.Nat.{mod-lt, mod-eq-of-lt, div-add-mod', one-mul, zero-lt-suc, lt-of-le-of-lt}
 use lib.Arith.{lt-one}
-use lib.Dec.{eqb, ltb, leb, eqb·suc-suc, eqb·zero-suc, eqb·suc-zero, leb·zero}
-use lib.Pow.{pow-pos, pow-mono, pow-lt, shr-lt}
+use lib.Dec.{eqb, eqb·suc-suc, eqb·zero-suc, eqb·suc-zero}
+use lib.Pow.{pow-pos, pow-lt, shr-lt}
 use lib.Bits.{bitAnd, bitOr, and-shr, and-mod, and-lt, and-le-l, or-shr, or-mod, or-lt, or-shifted-r, shifted-half, shifted-even}
-use borrow.Author.Tests.{eqb-true, eqb-false, eq-eqb, ne-eqb, ltb-true, ltb-false, leb-true, le-leb, lt-leb}
+use borrow.Author.Tests.{eqb-true, eq-eqb}
 use Rattle.model.specs.Lists.{upFrom, anyOf, allOf, maskBelow}
 use Rattle.bits.specs.Sets.{insertIf}
-use Rattle.model.proofs.ListLaws.{by-bool, bool-ext, not-both, and-right, all-below, below-all, any-below, below-any}
-use Rattle.model.proofs.Masks.{has, has-zero, has-suc, has-past, mask-lt, mask-below, mask-past, mask-none}
+use Rattle.model.proofs.ListLaws.{bool-ext, and-right, all-below, below-all}
+use Rattle.model.proofs.Masks.{has, has-zero, has-suc, has-past, mask-lt, mask-below}
 
 -- ---- members of a mask
 
@@ -109,32 +109,9 @@ mask-has f n m e i h = ap (λ (x : ℕ). has x i) e ∙ mask-below f n i h
 pub mask-self : (n m : ℕ) → m < 2 ^ n → m ≡ maskBelow (has m) n
 mask-self n m h = mask-of (has m) n m h (λ i k. refl)
 
--- numbers that are not in the set add nothing
-pub mask-widen : (f : ℕ → Bool) (k n : ℕ) → k ≤ n → ((i : ℕ) → k ≤ i → i < n → f i ≡ false) → maskBelow f n ≡ maskBelow f k
-mask-widen f k n h none = sym (mask-of f n (maskBelow f k) (lt-of-lt-of-le (mask-lt f k) (pow-mono h)) (λ i l. go i l (ltb i k) refl))
-  where
-    go : (i : ℕ) → i < n → (t : Bool) → ltb i k ≡ t → has (maskBelow f k) i ≡ f i
-    go i l true e = mask-below f k i (ltb-true i k e)
-    go i l false e = mask-past f k i (ltb-false i k e) ∙ sym (none i (ltb-false i k e) l)
-
--- the mask is 0 exactly where no number passes
-pub mask-zero : (f : ℕ → Bool) (n : ℕ) → eqb (maskBelow f n) 0 ≡ not (anyOf f (upFrom 0 n))
-mask-zero f n = go (anyOf f (upFrom 0 n)) refl
-  where
-    go : (t : Bool) → anyOf f (upFrom 0 n) ≡ t → eqb (maskBelow f n) 0 ≡ not t
-    go true e =
-        let w = any-below f n e in
-        ne-eqb (maskBelow f n) 0 (λ q. not-both (f (w .0)) (w .2) (sym (mask-has f n 0 (sym q) (w .0) (w .1)) ∙ has-none (w .0)))
-    go false e =
-        eq-eqb (maskBelow f n) 0 (mask-none f n (λ i h. by-bool (λ (t : Bool). f i ≡ t → f i ≡ false) (f i)
-        (λ p. absurd (not-both (anyOf f (upFrom 0 n)) (below-any f n i h p) e)) (λ p. p) refl))
-
 module _ (f g : ℕ → Bool) (n : ℕ) where
   pub mask-agree : ((i : ℕ) → i < n → f i ≡ g i) → maskBelow f n ≡ maskBelow g n
   mask-agree same = mask-of g n (maskBelow f n) (mask-lt f n) (λ i h. mask-below f n i h ∙ same i h)
-
-  pub agree-mask : maskBelow f n ≡ maskBelow g n → (i : ℕ) → i < n → f i ≡ g i
-  agree-mask e i h = sym (mask-below f n i h) ∙ mask-has g n (maskBelow f n) e i h
 
   -- an operation on masks is the operation on sets
   module _ (op : ℕ → ℕ → ℕ) (on : Bool → Bool → Bool)
@@ -159,20 +136,6 @@ mask-insert f n j h = ap (bitOr (maskBelow f n)) (mask-single n j h) ∙ mask-or
 
 -- ---- a loop that inserts what passes a test
 
--- the numbers from k on are those from k + 1 on, and k
-from-next : (k i : ℕ) → leb k i ≡ (leb (k + 1) i || eqb i k)
-from-next k i = go (eqb i k) refl
-  where
-    go : (t : Bool) → eqb i k ≡ t → leb k i ≡ (leb (k + 1) i || t)
-    go true e = le-leb k i (omega (arith, eqb-true i k e)) ∙ sym (or-true (leb (k + 1) i))
-    go false e = bool-ext (leb k i) (leb (k + 1) i) up down ∙ sym (or-false (leb (k + 1) i))
-      where
-        up : leb k i ≡ true → leb (k + 1) i ≡ true
-        up h = let ne : i ≡ k → ⊥ = eqb-false i k e in le-leb (k + 1) i (omega (arith, leb-true k i h))
-
-        down : leb (k + 1) i ≡ true → leb k i ≡ true
-        down h = le-leb k i (omega (arith, leb-true (k + 1) i h))
-
 module _ (test : ℕ → Bool) where
   -- upwards: m holds what passes of the numbers before n
   pub mask-start : maskBelow test 0 ≡ 0
@@ -195,48 +158,6 @@ module _ (test : ℕ → Bool) where
   unfolding insertIf
   mask-step n m true e q = mask-step-in n m e (sym q)
   mask-step n m false e q = mask-step-out n m e (sym q)
-
-  -- downwards: m holds what passes of the numbers from k on
-  abbrev pub from : ℕ → ℕ → Bool
-  from k i = leb k i && test i
-
-  pub mask-down-start : (n : ℕ) → maskBelow (from n) n ≡ 0
-  mask-down-start n = mask-none (from n) n (λ i h. ap (λ (b : Bool). b && test i) (lt-leb n i h))
-
-  pub mask-down-in : (n k m : ℕ) → m ≡ maskBelow (from (k + 1)) n → k < n → test k ≡ true → bitOr m (2 ^ k) ≡ maskBelow (from k) n
-  mask-down-in n k m e h t =
-      ap (λ (x : ℕ). bitOr x (2 ^ k)) e ∙ mask-insert (from (k + 1)) n k h
-      ∙ mask-agree (λ i. from (k + 1) i || eqb i k) (from k) n (λ i _. sym (joined i))
-    where
-      put-in : (a e t : Bool) → (e ≡ true → t ≡ true) → ((a || e) && t) ≡ (a && t || e)
-      put-in true true t h = h refl ∙ sym (or-true t)
-      put-in true false t h = sym (or-false t)
-      put-in false true t h = h refl
-      put-in false false t h = refl
-
-      joined : (i : ℕ) → from k i ≡ (from (k + 1) i || eqb i k)
-      joined i =
-          ap (λ (b : Bool). b && test i) (from-next k i) ∙ put-in (leb (k + 1) i) (eqb i k) (test i) (λ q. ap test (eqb-true i k q) ∙ t)
-
-  pub mask-down-out : (n k m : ℕ) → m ≡ maskBelow (from (k + 1)) n → test k ≡ false → m ≡ maskBelow (from k) n
-  mask-down-out n k m e t = e ∙ mask-agree (from (k + 1)) (from k) n (λ i _. sym (same i))
-    where
-      left-out : (a e t : Bool) → (e ≡ true → t ≡ false) → ((a || e) && t) ≡ (a && t)
-      left-out true e t h = refl
-      left-out false true t h = h refl
-      left-out false false t h = refl
-
-      same : (i : ℕ) → from k i ≡ from (k + 1) i
-      same i = ap (λ (b : Bool). b && test i) (from-next k i) ∙ left-out (leb (k + 1) i) (eqb i k) (test i) (λ q. ap test (eqb-true i k q) ∙ t)
-
-  -- k is one more than j, however the code counts down
-  pub mask-down-step : (n k j m : ℕ) (t : Bool) → m ≡ maskBelow (from k) n → k ≡ j + 1 → j < n → t ≡ test j → insertIf t m j ≡ maskBelow (from j) n
-  unfolding insertIf
-  mask-down-step n k j m true e p h q = mask-down-in n j m (e ∙ ap (λ (x : ℕ). maskBelow (from x) n) p) h (sym q)
-  mask-down-step n k j m false e p h q = mask-down-out n j m (e ∙ ap (λ (x : ℕ). maskBelow (from x) n) p) (sym q)
-
-  pub mask-down-end : (n : ℕ) → maskBelow (from 0) n ≡ maskBelow test n
-  mask-down-end n = mask-agree (from 0) test n (λ i h. ap (λ (b : Bool). b && test i) (leb·zero i))
 
 -- ---- subsets
 
@@ -296,18 +217,3 @@ module _ {A : Type 0} where
   any-snoc test (y ∷ ys) x =
       any-cons test y (ys ++ x ∷ []) ∙ ap (λ (b : Bool). test y || b) (any-snoc test ys x)
       ∙ sym (or-assoc (test y) (anyOf test ys) (test x)) ∙ ap (λ (b : Bool). b || test x) (sym (any-cons test y ys))
-
-  -- the union of the sets of xs, where F gives the set of each
-  abbrev pub some : (A → ℕ → Bool) → List A → ℕ → Bool
-  some F xs i = anyOf (λ x. F x i) xs
-
-  module _ (F : A → ℕ → Bool) (n : ℕ) where
-    pub mask-some-none : maskBelow (some F []) n ≡ 0
-    unfolding anyOf
-    mask-some-none = mask-none (some F []) n (λ i h. refl)
-
-    pub mask-some-cons : (x : A) (xs : List A) → bitOr (maskBelow (F x) n) (maskBelow (some F xs) n) ≡ maskBelow (some F (x ∷ xs)) n
-    mask-some-cons x xs = mask-or (F x) (some F xs) n ∙ mask-agree (λ i. F x i || some F xs i) (some F (x ∷ xs)) n (λ i h. sym (any-cons (λ y. F y i) x xs))
-
-    pub mask-some-snoc : (xs : List A) (x : A) → bitOr (maskBelow (some F xs) n) (maskBelow (F x) n) ≡ maskBelow (some F (xs ++ x ∷ [])) n
-    mask-some-snoc xs x = mask-or (some F xs) (F x) n ∙ mask-agree (λ i. some F xs i || F x i) (some F (xs ++ x ∷ [])) n (λ i h. sym (any-snoc (λ y. F y i) xs x))

@@ -15,7 +15,7 @@ use Rattle.model.specs.Pattern.{Pattern, patternParent}
 use Rattle.model.specs.Verdict.{Progress, going, halted}
 use Rattle.model.specs.Skipping.{skip}
 use Rattle.containment.specs.Blocks.{cell, capIn}
-use Rattle.containment.specs.Room.{Judgeable, Capped, Countable}
+use Rattle.containment.specs.Room.{Capped}
 use Rattle.containment.specs.Skipping.{loop, joinAt, plusUpTo, timesUpTo, childTurn, childLoop, timesBy, leftTurn}
 
 -- ---- counts stay below the cap
@@ -80,9 +80,6 @@ count-joined i n m {K} e l R =
     go j h false q t p = subst (λ (k : ℕ). k ≤ capIn m) (sym (getD-set-other m i j v 0 (eqb-false j i q))) (R .bounded j h)
 
 -- ---- what counting asks, where judging is asked too
-
-pub countable : {t m p images : List ℕ} {at : ℕ} → Judgeable t p at images → Capped m → Countable m p at images
-countable J C = record { pattern = J .base .pattern; counts = C; placed = J .placed; inside = J .inside }
 
 -- ---- a skip
 

@@ -17,7 +17,7 @@ use Rattle.model.proofs.ListLaws.{and-right}
 use Rattle.model.proofs.Masks.{has}
 use Rattle.containment.specs.Blocks.{cell}
 use Rattle.containment.specs.Judging.{joinUp, gather, Sets, passBy, givenBy, rootBy, judgeBy}
-use Rattle.containment.specs.Stepping.{Candidates, members, placesBy, sitesBy}
+use Rattle.containment.specs.Stepping.{Candidates, members, placesBy}
 use Rattle.containment.specs.Steps.{progressOf, Stepped}
 use Rattle.containment.specs.Skipping.{sureBy, sureGiven, surelyBy, leftBy, PlacedBy, MaySkip}
 use Rattle.containment.specs.declared.Budget.{Budget}

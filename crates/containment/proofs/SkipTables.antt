@@ -20,7 +20,7 @@ use Rattle.model.specs.Embeddings.{edgeTest}
 use Rattle.model.specs.Canonical.{chain}
 use Rattle.model.specs.Quick.{hangsFrom, hang}
 use Rattle.model.specs.Skipping.{productOf, sumOf, childrenOf, ways, low}
-use Rattle.model.proofs.ListLaws.{upFrom-mem, any-agree}
+use Rattle.model.proofs.ListLaws.{upFrom-mem}
 use Rattle.model.proofs.Masks.{mask-none}
 use Rattle.model.proofs.WaysLaws.{children-later, children-after, ways-equation}
 use Rattle.model.proofs.Skipping.{low-equation}

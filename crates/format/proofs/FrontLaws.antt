@@ -18,11 +18,6 @@ module _ {A : Type 0} where
   unfolding writtenAtFront
   front-getD w b i d h = List·getD-append w (drop (length w) b) d i h
 
-  -- what stands after it
-  pub front-rest : (w b : List A) → drop (length w) (writtenAtFront w b) ≡ drop (length w) b
-  unfolding writtenAtFront
-  front-rest w b = drop-append-seam w (drop (length w) b)
-
   pieces : (w b vs : List A) → take (length w) (writtenAtFront w b) ++ vs ++ drop (length w + length vs) (writtenAtFront w b) ≡ writtenAtFront (w ++ vs) b
   unfolding writtenAtFront
   pieces w b vs = rw (take-append-seam, drop-append-add, drop-drop, length-append)

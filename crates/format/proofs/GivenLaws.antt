@@ -6,14 +6,13 @@ use mathlib.Core.List.{List}
 use native.Mathlib.Omega.{arith}
 use lib.ListN.{length}
 use borrow.Author.Tests.{eqb-true}
-use Rattle.model.specs.Limits.{maxSummary, maxDocument, summaryWidth, patternWidth, documentWidth}
-use Rattle.model.specs.Tree.{DocumentRecord, Document, IsTree}
-use Rattle.model.specs.Pattern.{Pattern, IsPatternTree}
+use Rattle.model.specs.Limits.{maxSummary, maxDocument, summaryWidth, documentWidth}
+use Rattle.model.specs.Tree.{Document, IsTree}
 use Rattle.model.specs.Bytes.{firstAt, secondAt, sectionEnd, caseOf, WholeSection, isWholeDocument}
 use Rattle.model.proofs.TreeLaws.{length-asDocument}
 use Rattle.model.proofs.CallFacts.{DocumentFacts}
 use Rattle.model.proofs.CaseFacts.{AcceptedCase}
-use Rattle.format.specs.Given.{summaryIn, patternAt, treeOf, SummaryGiven, PatternGiven, DocumentGiven, TreeGiven}
+use Rattle.format.specs.Given.{summaryIn, SummaryGiven, PatternGiven, DocumentGiven, TreeGiven}
 use Rattle.format.proofs.SectionLaws.{tree-document, tree-summary}
 
 -- ---- a tree that may be either

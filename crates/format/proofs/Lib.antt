@@ -5,8 +5,5 @@ pub mod SectionLaws
 pub mod ListLaws
 pub mod GivenLaws
 pub mod PositionLaws
-pub mod TableLaws
-pub mod ColumnLaws
 pub mod WriteLaws
 pub mod WrittenLaws
-pub mod ReadLaws

@@ -2,16 +2,16 @@
 -- tables of a case and of a document, and a tree that may be either, as sections. Assumes nothing.
 use Prim.Native.Nat.{ℕ, suc, _+_, _*_, _≤_, _<_}
 use mathlib.Core.Path.{_≡_, refl, sym, ap, _∙_, subst}
-use mathlib.Core.List.{List, map, map-map}
+use mathlib.Core.List.{List, map-map}
 use native.Mathlib.Omega.{arith}
 use native.Mathlib.Nat.{mul-suc, mul-le-mul-left, add-zero}
 use lib.ListN.{length, getD, List·getD-map}
 use Rattle.model.specs.Lists.{upFrom}
 use Rattle.model.specs.Limits.{summaryWidth, patternWidth, documentWidth}
 use Rattle.model.specs.Tree.{DocumentRecord, noDocumentRecord}
-use Rattle.model.specs.Summary.{SummaryRecord, noSummaryRecord, withoutStrong, asDocument, summaryParent, summaryLabel}
+use Rattle.model.specs.Summary.{SummaryRecord, noSummaryRecord, withoutStrong, asDocument}
 use Rattle.model.specs.Pattern.{PatternRecord, noPatternRecord}
-use Rattle.model.specs.Bytes.{field, section, recordsAt, summaryRecordAt, patternRecordAt, documentRecordAt, sectionEnd, caseOf, documentOf, WholeSection}
+use Rattle.model.specs.Bytes.{field, section, recordsAt, summaryRecordAt, patternRecordAt, documentRecordAt, caseOf, documentOf, WholeSection}
 use Rattle.model.proofs.ListLaws.{length-map-upFrom}
 use Rattle.format.specs.Given.{summaryIn, patternAt, treeOf}
 use Rattle.format.proofs.RangeLaws.{getD-map-below}

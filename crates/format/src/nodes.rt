@@ -33,22 +33,6 @@ pub fn summary_of(at: &[u16], v: DocumentNode) -> SummaryNode
     SummaryNode(number(at, v.0))
 }
 
-// The parent of a summary node.
-pub fn summary_parent(parents: &[u16], s: SummaryNode) -> SummaryNode
-    requires { ⌜ s .0 < length (now parents) ⌝ }
-    ensures { λ r. ⌜ r .0 ≡ getD (now (parents .entry)) (s .0) 0 ⌝ }
-{
-    SummaryNode(number(parents, s.0))
-}
-
-// The parent of a pattern node.
-pub fn pattern_parent(parents: &[u16], q: PatternNode) -> PatternNode
-    requires { ⌜ q .0 < length (now parents) ⌝ }
-    ensures { λ r. ⌜ r .0 ≡ getD (now (parents .entry)) (q .0) 0 ⌝ }
-{
-    PatternNode(number(parents, q.0))
-}
-
 // The summary node that an embedding takes a pattern node to.
 pub fn image_of(images: &[u16], q: PatternNode) -> SummaryNode
     requires { ⌜ q .0 < length (now images) ⌝ }

@@ -5,7 +5,7 @@ use mathlib.Core.List.{List, map}
 use native.Mathlib.Omega.{arith}
 use lib.ListN.{length, getD, take}
 use Rattle.model.specs.Limits.{maxPattern}
-use Rattle.model.specs.Pattern.{Pattern, IsPatternTree, SummaryEmbedding}
+use Rattle.model.specs.Pattern.{Pattern, SummaryEmbedding}
 use Rattle.model.specs.Embeddings.{imageIn}
 use Rattle.model.specs.Bytes.{caseOf, listOf, writtenAtFront}
 use Rattle.model.specs.Canonical.{Spot, canonicalSpots}

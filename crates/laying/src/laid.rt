@@ -1,7 +1,7 @@
 // The layout of the call "lay out a trial" by value: the nodes' records in an array, for a table of records that a caller lends.
 
 use canonical::lay_out;
-use format::column::read_list;
+use format::list::read_list;
 use format::document::document_label;
 use format::document::document_parent;
 use format::nodes::DocumentNode;

@@ -18,7 +18,7 @@ use Rattle.model.proofs.ListLaws.{and-intro, and-left, and-right, or-cases, or-
 use Rattle.model.proofs.TreeLaws.{test-child, child-test, child-lt, below-trans}
 use Rattle.model.proofs.NodeByNode.{UnderOf}
 use Rattle.model.proofs.QuickLaws.{Within, hangs-under, under-hangs}
-use Rattle.matching.specs.Matching.{hangsDeep, childrenIn, childrenOf, fitsAt, offersAt, offeredIn, offered, partAt}
+use Rattle.matching.specs.Matching.{hangsDeep, childrenIn, treeChildren, fitsAt, offersAt, offeredIn, offered, partAt}
 
 -- ---- patterns
 
@@ -46,12 +46,12 @@ says-children Q acc p h = below-all (λ c. not (hangsFrom Q p c) || acc c) (leng
 
 -- ---- trees
 
-pub children-child : (W : Document) (v w : ℕ) → List·Memᴰ w (childrenOf W v) → Child W v w
-unfolding childrenOf
+pub children-child : (W : Document) (v w : ℕ) → List·Memᴰ w (treeChildren W v) → Child W v w
+unfolding treeChildren
 children-child W v w m = test-child W v w (keep-elim (childTest W v) w (upFrom 0 (length W)) m .1)
 
-pub child-children : {W : Document} {v w : ℕ} → Child W v w → List·Memᴰ w (childrenOf W v)
-unfolding childrenOf
+pub child-children : {W : Document} {v w : ℕ} → Child W v w → List·Memᴰ w (treeChildren W v)
+unfolding treeChildren
 child-children {W} {v} {w} c =
     let i : w < length W = c .inside in
     keep-intro (childTest W v) w (upFrom 0 (length W)) (mem-upFrom 0 (length W) w (omega arith) (omega arith)) (child-test c)
@@ -119,12 +119,12 @@ module _ (Q : Pattern) (W : Document) (pin : ℕ → ℕ → Bool) where
   offeredIn-elim : (n v p : ℕ) → offeredIn Q W pin (suc n) v p ≡ true → (w : ℕ) × Child W v w × (offersAt Q W pin w (offeredIn Q W pin n w) p ≡ true)
   unfolding offeredIn
   offeredIn-elim n v p e =
-      let r = any-elim (λ w. offersAt Q W pin w (offeredIn Q W pin n w) p) (childrenOf W v) e in
+      let r = any-elim (λ w. offersAt Q W pin w (offeredIn Q W pin n w) p) (treeChildren W v) e in
       (r .0, children-child W v (r .0) (r .1), r .2)
 
   offeredIn-intro : (n v w p : ℕ) → Child W v w → offersAt Q W pin w (offeredIn Q W pin n w) p ≡ true → offeredIn Q W pin (suc n) v p ≡ true
   unfolding offeredIn
-  offeredIn-intro n v w p c e = any-intro (λ w. offersAt Q W pin w (offeredIn Q W pin n w) p) w (childrenOf W v) (child-children c) e
+  offeredIn-intro n v w p c e = any-intro (λ w. offersAt Q W pin w (offeredIn Q W pin n w) p) w (treeChildren W v) (child-children c) e
 
   -- a bound that reaches the last node is as good as any
   offered-enough : (n m v : ℕ) → IsTree W → length W ≤ m + v → Within (offeredIn Q W pin n v) (offeredIn Q W pin m v)

@@ -21,8 +21,8 @@ unfoldable pub childrenIn : Pattern → (ℕ → Bool) → ℕ → Bool
 childrenIn Q acc p = allOf (λ c. not (hangsFrom Q p c) || acc c) (upFrom 0 (length Q))
 
 -- the children of a tree node
-unfoldable pub childrenOf : Document → ℕ → List ℕ
-childrenOf W v = keep (childTest W v) (upFrom 0 (length W))
+unfoldable pub treeChildren : Document → ℕ → List ℕ
+treeChildren W v = keep (childTest W v) (upFrom 0 (length W))
 
 module _ (Q : Pattern) (W : Document) (pin : ℕ → ℕ → Bool) where
   -- p may stand at v: its label fits, its pin holds, and all of its children are in acc, which v's children offer
@@ -37,7 +37,7 @@ module _ (Q : Pattern) (W : Document) (pin : ℕ → ℕ → Bool) where
   -- what v's children offer, at most n levels deep
   unfoldable pub offeredIn : ℕ → ℕ → ℕ → Bool
   offeredIn zero v p = false
-  offeredIn (suc n) v p = anyOf (λ w. offersAt w (offeredIn n w) p) (childrenOf W v)
+  offeredIn (suc n) v p = anyOf (λ w. offersAt w (offeredIn n w) p) (treeChildren W v)
 
   -- what v's children offer
   unfoldable pub offered : ℕ → ℕ → Bool

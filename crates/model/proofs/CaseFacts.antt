@@ -203,7 +203,3 @@ asked b before after k l e =
 -- a selection of an accepted case keeps the rules, whichever it is
 pub selected-facts : (c : Case) (s : ℕ) → CaseFacts c → PatternFacts (selected c s)
 selected-facts c s f = by-bool (λ (t : Bool). PatternFacts (elim t as (λ _. Pattern) [ true ↦ c .first | false ↦ c .second ])) (eqb s 1) (f .first) (f .second)
-
-pub selected-arity : (c : Case) (s : ℕ) → CaseFacts c → arity (selected c s) ≡ arity (c .first)
-selected-arity c s f =
-    by-bool (λ (t : Bool). arity (elim t as (λ _. Pattern) [ true ↦ c .first | false ↦ c .second ]) ≡ arity (c .first)) (eqb s 1) refl (sym (f .sameArity))

@@ -34,11 +34,6 @@ refusal-after (q ∷ qs) rs y = refusal-yes q (qs ++ rs) (y .0) ∙ refusal-afte
 pub refusal-first : (qs : List Question) (q : Question) (rs : List Question) → AllYes qs → q .answer ≡ false → refusal (qs ++ q ∷ rs) ≡ q .number
 refusal-first qs q rs y n = refusal-after qs (q ∷ rs) y ∙ refusal-no q rs n
 
-pub all-yes-accepted : (qs : List Question) → AllYes qs → refusal qs ≡ 0
-unfolding refusal
-all-yes-accepted [] y = refl
-all-yes-accepted (q ∷ qs) y = refusal-yes q qs (y .0) ∙ all-yes-accepted qs (y .1)
-
 pub accepted-all-yes : (qs : List Question) → Numbered qs → refusal qs ≡ 0 → AllYes qs
 accepted-all-yes [] k e = tt
 accepted-all-yes (q ∷ qs) k e = go (true-or-false (q .answer)) (λ p. accepted-all-yes qs (k .1) p)

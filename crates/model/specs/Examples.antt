@@ -41,8 +41,8 @@ descendant p l n = record { parent = p; label = l; edge = 1; position = n }
 abbrev pub node : ℕ → ℕ → DocumentRecord
 node p l = record { parent = p; label = l }
 
-abbrev given : Summary → Pattern → Pattern → Case
-given S P Q = record { summary = S; first = P; second = Q }
+abbrev exampleCase : Summary → Pattern → Pattern → Case
+exampleCase S P Q = record { summary = S; first = P; second = Q }
 
 -- an answer buffer full of bytes 170, and the tally before
 abbrev before : List ℕ
@@ -67,20 +67,20 @@ shows W result = encodeDocument W ++ encodeCounted result
 -- r(a(b,c)); r^(a(b),a(c)); r^(a(b,c))
 abbrev e1 : Case
 e1 =
-    given (plain 0 lr ∷ plain 0 la ∷ plain 1 lb ∷ plain 1 lc ∷ [])
+    exampleCase (plain 0 lr ∷ plain 0 la ∷ plain 1 lb ∷ plain 1 lc ∷ [])
     (child 0 lr 1 ∷ child 0 la 0 ∷ child 1 lb 0 ∷ child 0 la 0 ∷ child 3 lc 0 ∷ []) (child 0 lr 1 ∷ child 0 la 0 ∷ child 1 lb 0 ∷ child 1 lc 0 ∷ [])
 
 -- E1 with a to c strong
 abbrev e2 : Case
-e2 = given (plain 0 lr ∷ plain 0 la ∷ plain 1 lb ∷ strong 1 lc ∷ []) (e1 .first) (e1 .second)
+e2 = exampleCase (plain 0 lr ∷ plain 0 la ∷ plain 1 lb ∷ strong 1 lc ∷ []) (e1 .first) (e1 .second)
 
 -- r(a,b); r(a^); r(a^,b)
 abbrev e3 : Case
-e3 = given (plain 0 lr ∷ plain 0 la ∷ plain 0 lb ∷ []) (child 0 lr 0 ∷ child 0 la 1 ∷ []) (child 0 lr 0 ∷ child 0 la 1 ∷ child 0 lb 0 ∷ [])
+e3 = exampleCase (plain 0 lr ∷ plain 0 la ∷ plain 0 lb ∷ []) (child 0 lr 0 ∷ child 0 la 1 ∷ []) (child 0 lr 0 ∷ child 0 la 1 ∷ child 0 lb 0 ∷ [])
 
 -- E3 with r to b strong
 abbrev e4 : Case
-e4 = given (plain 0 lr ∷ plain 0 la ∷ strong 0 lb ∷ []) (e3 .first) (e3 .second)
+e4 = exampleCase (plain 0 lr ∷ plain 0 la ∷ strong 0 lb ∷ []) (e3 .first) (e3 .second)
 
 -- r(a(b))
 abbrev pub line : Summary
@@ -88,11 +88,11 @@ line = plain 0 lr ∷ plain 0 la ∷ plain 1 lb ∷ []
 
 -- r//b^; r(a(b^))
 abbrev e5 : Case
-e5 = given line (child 0 lr 0 ∷ descendant 0 lb 1 ∷ []) (child 0 lr 0 ∷ child 0 la 0 ∷ child 1 lb 1 ∷ [])
+e5 = exampleCase line (child 0 lr 0 ∷ descendant 0 lb 1 ∷ []) (child 0 lr 0 ∷ child 0 la 0 ∷ child 1 lb 1 ∷ [])
 
 -- r//0^; r(0^)
 abbrev pub e6 : Case
-e6 = given line (child 0 lr 0 ∷ descendant 0 0 1 ∷ []) (child 0 lr 0 ∷ child 0 0 1 ∷ [])
+e6 = exampleCase line (child 0 lr 0 ∷ descendant 0 0 1 ∷ []) (child 0 lr 0 ∷ child 0 0 1 ∷ [])
 
 -- E6's 56 bytes
 abbrev e6Bytes : List ℕ
@@ -103,11 +103,11 @@ e6Bytes =
 
 -- E6 the other way round
 abbrev e7 : Case
-e7 = given line (e6 .second) (e6 .first)
+e7 = exampleCase line (e6 .second) (e6 .first)
 
 -- outline r
 abbrev alone : Pattern → Pattern → Case
-alone P Q = given (plain 0 lr ∷ []) P Q
+alone P Q = exampleCase (plain 0 lr ∷ []) P Q
 
 -- paths of each node in E6's first selection
 abbrev e10 : PathsAnswer

@@ -8,4 +8,3 @@ pub mod DocumentLaws
 pub mod RefusalLaws
 pub mod AcceptedLaws
 pub mod EmbeddingLaws
-pub mod ColumnFacts

@@ -4,6 +4,7 @@
 use calls::fits::fits_call;
 use calls::result::result_call;
 use format::field::field;
+use format::field::wide;
 use format::write::put_field;
 use format::write::write_counted;
 ghost use Prim.Native.Nat.{_+_, _*_, _<_, _≤_};
@@ -28,10 +29,6 @@ fn pattern_at(case: &[u8], number: u64) -> usize
         return first;
     }
     first + 1 + 4 * field_of(case, first)
-}
-
-fn wide(x: u16) -> usize {
-    x as usize
 }
 
 // The first document node after v that is on summary node s; the column's length where there is none.

@@ -14,14 +14,11 @@ use deciding::verdict_call;
 use laying::laid::NodeRecord;
 use laying::laid::laid_out;
 use read::Head;
+use read::wide;
 
 // A number of the vector as a length.
 fn size(n: u64) -> usize {
     n as usize
-}
-
-fn wide(n: usize) -> u64 {
-    n as u64
 }
 
 fn print_verdict(refused: u64, kind: u64, tried: u64) {
@@ -107,10 +104,6 @@ fn put(column: &mut [u16], i: usize, x: usize) {
     column[i] = (x % 65536) as u16;
 }
 
-fn wide16(x: u16) -> usize {
-    x as usize
-}
-
 // The records of the nodes that are laid out go to the table's front.
 fn fill_table(
     nodes: [NodeRecord; 1024],
@@ -126,7 +119,7 @@ fn fill_table(
         let node = nodes[i];
         put(parent, i, node.parent.0);
         put(at, i, node.at.0);
-        put(label, i, wide16(node.label));
+        put(label, i, format::field::wide(node.label));
     }
 }
 

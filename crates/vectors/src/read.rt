@@ -15,7 +15,7 @@ pub struct Head {
     pub length: u64,
 }
 
-fn wide(x: usize) -> u64
+pub fn wide(x: usize) -> u64
     ensures { λ r. ⌜ r ≡ x ⌝ }
 {
     x as u64

@@ -4,14 +4,9 @@ use Rattle.bits.proofs.MaskLaws.{shifted-one}
 use Rattle.bits.proofs.insert16.Statement.{statement}
 use Rattle.bits.proofs.insert16.Tie as tie
 
-cast-result : tie.Need-cast-result
-cast-result c = search needs
-
-shl-result : tie.Need-shl-result
-shl-result c = search needs
-
 returns : tie.Need-returns
 returns c = rw (shifted-one 16 (c .args .i) (c .pre))
 
 pub insert16-spec : {M : Type 1} → statement M
-insert16-spec = tie.close (tie.spec cast-result shl-result returns)
+insert16-spec =
+    tie.close (tie.spec (λ c. search needs) (λ c. search needs) returns)

@@ -4,11 +4,9 @@ use Rattle.bits.proofs.MaskLaws.{shifted-one}
 use Rattle.bits.proofs.insert64.Statement.{statement}
 use Rattle.bits.proofs.insert64.Tie as tie
 
-shl-result : tie.Need-shl-result
-shl-result c = search needs
-
 returns : tie.Need-returns
 returns c = rw (shifted-one 64 (c .args .i) (c .pre))
 
 pub insert64-spec : {M : Type 1} → statement M
-insert64-spec = tie.close (tie.spec shl-result returns)
+insert64-spec =
+    tie.close (tie.spec (λ c. search needs) returns)

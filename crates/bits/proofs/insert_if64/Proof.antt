@@ -4,9 +4,6 @@ use Rattle.bits.specs.Sets.{insertIf}
 use Rattle.bits.proofs.insert_if64.Statement.{statement}
 use Rattle.bits.proofs.insert_if64.Tie as tie
 
-insert64-requires : tie.Need-insert64-requires
-insert64-requires c κs = search needs
-
 returns : tie.Need-returns
 unfolding insertIf
 returns c = rw (c .before .if1 .taken, insertIf) (c .insert64 .ensures)
@@ -16,4 +13,5 @@ unfolding insertIf
 returns-2 c = rw (c .if1 .left, insertIf)
 
 pub insert-if64-spec : {M : Type 1} → statement M
-insert-if64-spec = tie.close (tie.spec insert64-requires returns returns-2)
+insert-if64-spec =
+    tie.close (tie.spec (λ c κs. search needs) returns returns-2)

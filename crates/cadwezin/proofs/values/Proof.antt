@@ -5,18 +5,6 @@ use Rattle.deciding.specs.Outcome.{valuesOf}
 use Rattle.cadwezin.proofs.values.Statement.{statement}
 use Rattle.cadwezin.proofs.values.Tie as tie
 
-enum-known-answer : tie.Need-enum-known-answer
-enum-known-answer c = search needs
-
-enum-known-answer-2 : tie.Need-enum-known-answer-2
-enum-known-answer-2 c = search needs
-
-enum-known-answer-3 : tie.Need-enum-known-answer-3
-enum-known-answer-3 c = search needs
-
-enum-known-answer-4 : tie.Need-enum-known-answer-4
-enum-known-answer-4 c = search needs
-
 returns : tie.Need-returns
 returns c = sym (ap valuesOf (c .before .answer .given .1))
 
@@ -31,13 +19,5 @@ returns-4 c = sym (ap valuesOf (c .before .answer4 .given .1))
 
 pub values-spec : {M : Type 1} → statement M
 values-spec =
-    tie.close
-    (tie.spec
-    enum-known-answer
-    enum-known-answer-2
-    enum-known-answer-3
-    enum-known-answer-4
-    returns
-    returns-2
-    returns-3
+    tie.close (tie.spec (λ c. search needs) (λ c. search needs) (λ c. search needs) (λ c. search needs) returns returns-2 returns-3
     returns-4)

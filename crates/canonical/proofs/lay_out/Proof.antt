@@ -13,15 +13,6 @@ start c = c .before .before .before .before .before .before .before .before
 abbrev chained : tie.After-fill → tie.After-chains
 chained c = c .before .before .before .before .before .before .before .before .before
 
-slice-aggregate-chains : tie.Need-slice-aggregate-chains
-slice-aggregate-chains c = search needs
-
-chains-requires : tie.Need-chains-requires
-chains-requires c κs = search needs
-
-slice-aggregate-fill : tie.Need-slice-aggregate-fill
-slice-aggregate-fill c = search needs
-
 fill-requires : tie.Need-fill-requires
 fill-requires c κs = let k = c .before .before .before .before .before .before .before .before in (start k .pre .0 .summary, (_, _, _, chains-fillable (start k .pre .0) (k .chains .ensures .0)))
 
@@ -31,15 +22,6 @@ cast-put-field c =
     let k = chained f in
     omega (arith, f .fill .ensures _ _ _ (chains-fillable (start k .pre .0) (k .chains .ensures .0)) .fits)
 
-put-field-requires : tie.Need-put-field-requires
-put-field-requires c κs = search needs
-
-same-length : tie.Need-same-length
-same-length c = search needs
-
-same-length-2 : tie.Need-same-length-2
-same-length-2 c = search needs
-
 returns : tie.Need-returns
 returns c =
     let f = c .before .before .before .before .before .before .before .before .before .before in
@@ -48,14 +30,5 @@ returns c =
 
 pub lay-out-spec : {M : Type 1} → statement M
 lay-out-spec =
-    tie.close
-    (tie.spec
-    slice-aggregate-chains
-    chains-requires
-    slice-aggregate-fill
-    fill-requires
-    cast-put-field
-    put-field-requires
-    same-length
-    same-length-2
-    returns)
+    tie.close (tie.spec (λ c. search needs) (λ c κs. search needs) (λ c. search needs) fill-requires cast-put-field
+    (λ c κs. search needs) (λ c. search needs) (λ c. search needs) returns)

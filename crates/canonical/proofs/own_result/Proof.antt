@@ -25,29 +25,11 @@ start c = c .before .before .before
 loop-holds : tie.Need-loop-holds Inv-loop μ-loop
 loop-holds c = filled-start refl
 
-add-node-at : tie.Need-add-node-at Inv-loop μ-loop
-add-node-at c = search needs
-
-node-at-requires : tie.Need-node-at-requires Inv-loop μ-loop
-node-at-requires c κs = search needs
-
 own-of-requires : tie.Need-own-of-requires Inv-loop μ-loop
 own-of-requires c κs = let h = c .before .before in omega (arith, c .node-at .ensures, start h .pre .1 (h .loop .i) (c .before .loop-test .taken))
 
 cast-result : tie.Need-cast-result Inv-loop μ-loop
 cast-result c = omega (arith, c .before .own-of .ensures, c .before .before .before .before .before .shared-slice-known2 .given (c .before .before .node-at .result .0))
-
-mul-result : tie.Need-mul-result Inv-loop μ-loop
-mul-result c = search needs
-
-array-write-result : tie.Need-array-write-result Inv-loop μ-loop
-array-write-result c = search needs
-
-add-i : tie.Need-add-i Inv-loop μ-loop
-add-i c = search needs
-
-loop-less : tie.Need-loop-less Inv-loop μ-loop
-loop-less c = search needs
 
 loop-again : tie.Need-loop-again Inv-loop μ-loop
 loop-again c =
@@ -59,18 +41,5 @@ returns c = filled-end (c .before .loop .inv) (c .loop-test .left)
 
 pub own-result-spec : {M : Type 1} → statement M
 own-result-spec =
-    tie.close
-    (tie.spec
-    Inv-loop
-    μ-loop
-    loop-holds
-    add-node-at
-    node-at-requires
-    own-of-requires
-    cast-result
-    mul-result
-    array-write-result
-    add-i
-    loop-less
-    loop-again
-    returns)
+    tie.close (tie.spec Inv-loop μ-loop loop-holds (λ c. search needs) (λ c κs. search needs) own-of-requires cast-result
+    (λ c. search needs) (λ c. search needs) (λ c. search needs) (λ c. search needs) loop-again returns)

@@ -17,15 +17,6 @@ start c = c .before .before .before .before .before .before
 few : (c : tie.After-lay-out) → c .lay-out .result .count ≤ maxCanonical
 few c = shown-small (start c .pre .0) (c .lay-out .ensures)
 
-slice-aggregate-lay-out : tie.Need-slice-aggregate-lay-out
-slice-aggregate-lay-out c = search needs
-
-lay-out-requires : tie.Need-lay-out-requires
-lay-out-requires c κs = search needs
-
-slice-aggregate-own-result : tie.Need-slice-aggregate-own-result
-slice-aggregate-own-result c = search needs
-
 own-result-requires : tie.Need-own-result-requires
 own-result-requires c κs =
     let h = start (c .before .before .before .before .before) .pre .0 in
@@ -37,26 +28,17 @@ mul-end c = omega (arith, few (c .before .before .before .before .before .before
 add-end : tie.Need-add-end
 add-end c = omega (arith, few (c .before .before .before .before .before .before .before))
 
-slice-aggregate-write-counted : tie.Need-slice-aggregate-write-counted
-slice-aggregate-write-counted c = search needs
-
 sub-write-counted : tie.Need-sub-write-counted
 sub-write-counted c = let l = c .before .before .before .before .before .before .before .before in omega (arith, few l, start l .pre .1, l .lay-out .kept .1 .1 .1 .0)
 
 part-write-counted-start : tie.Need-part-write-counted-start
 part-write-counted-start c = let l = c .before .before .before .before .before .before .before .before in omega (arith, few l, start l .pre .1, l .lay-out .kept .1 .1 .1 .0)
 
-part-write-counted-end : tie.Need-part-write-counted-end
-part-write-counted-end c = search needs
-
 write-counted-requires : tie.Need-write-counted-requires
 write-counted-requires c κs =
     let l = c .before .before .before .before .before .before .before .before .before in
     let h = start l .pre .0 in
     (search needs, omega (arith, h .few), simp (length-take, length-drop) (omega (arith, few l, h .few, start l .pre .1, l .lay-out .kept .1 .1 .1 .0)))
-
-same-length : tie.Need-same-length
-same-length c = search needs
 
 returns : tie.Need-returns
 returns c =
@@ -68,18 +50,6 @@ returns c =
 
 pub show-spec : {M : Type 1} → statement M
 show-spec =
-    tie.close
-    (tie.spec
-    slice-aggregate-lay-out
-    lay-out-requires
-    slice-aggregate-own-result
-    own-result-requires
-    mul-end
-    add-end
-    slice-aggregate-write-counted
-    sub-write-counted
-    part-write-counted-start
-    part-write-counted-end
-    write-counted-requires
-    same-length
+    tie.close (tie.spec (λ c. search needs) (λ c κs. search needs) (λ c. search needs) own-result-requires mul-end add-end
+    (λ c. search needs) sub-write-counted part-write-counted-start (λ c. search needs) write-counted-requires (λ c. search needs)
     returns)

@@ -1,6 +1,5 @@
 -- `deciding::accepted` meets its contract: an accepted case has what the verdict asks for; included and stopped show nothing, and not
 -- included leaves an embedding in the images, which is then shown. Assumes nothing.
-use mathlib.Core.Path.{sym, ap, _∙_}
 use native.Mathlib.Omega.{arith}
 use lib.ListN.{replicate, length-replicate}
 use Prim.Native.Nat.{ℕ}
@@ -14,14 +13,8 @@ use Rattle.deciding.proofs.accepted.Tie as tie
 abbrev start : tie.After-second-at → tie.Start
 start c = c .before .before .before .before
 
-first-at-requires : tie.Need-first-at-requires
-first-at-requires c κs = search needs
-
 second-at-requires : tie.Need-second-at-requires
 second-at-requires c κs = whole-case _ .1 (c .before .before .before .pre .0 .whole)
-
-slice-aggregate-verdict : tie.Need-slice-aggregate-verdict
-slice-aggregate-verdict c = search needs
 
 verdict-requires : tie.Need-verdict-requires
 verdict-requires c κs =
@@ -30,17 +23,11 @@ verdict-requires c κs =
     let G = case-given (p .0) (l .before .first-at .ensures) (l .second-at .ensures) in
     ((G, p .2), omega (arith, G .first .few, length-replicate {A = ℕ} 16 0))
 
-enum-known-r : tie.Need-enum-known-r
-enum-known-r c = search needs
-
 returns : tie.Need-returns
 returns c =
     let d = c .before .before in
     let l = d .before .before in
     told-case (start l .pre .0) (l .before .first-at .ensures) (l .second-at .ensures) (told-nothing _ (d .verdict .ensures .0) (c .match .keys2))
-
-slice-aggregate-show : tie.Need-slice-aggregate-show
-slice-aggregate-show c = search needs
 
 arity-requires : tie.Need-arity-requires
 arity-requires c κs =
@@ -57,9 +44,6 @@ show-requires c κs =
       s .pre .1,
     )
 
-same-length : tie.Need-same-length
-same-length c = search needs
-
 returns-2 : tie.Need-returns-2
 returns-2 c =
     let w = c .before .before in
@@ -70,16 +54,5 @@ returns-2 c =
 
 pub accepted-spec : {M : Type 1} → statement M
 accepted-spec =
-    tie.close
-    (tie.spec
-    first-at-requires
-    second-at-requires
-    slice-aggregate-verdict
-    verdict-requires
-    enum-known-r
-    returns
-    slice-aggregate-show
-    arity-requires
-    show-requires
-    same-length
-    returns-2)
+    tie.close (tie.spec (λ c κs. search needs) second-at-requires (λ c. search needs) verdict-requires (λ c. search needs) returns
+    (λ c. search needs) arity-requires show-requires (λ c. search needs) returns-2)

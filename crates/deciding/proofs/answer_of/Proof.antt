@@ -5,15 +5,6 @@ use Rattle.deciding.specs.Outcome.{asAnswer}
 use Rattle.deciding.proofs.answer_of.Statement.{statement}
 use Rattle.deciding.proofs.answer_of.Tie as tie
 
-enum-known-r : tie.Need-enum-known-r
-enum-known-r c = search needs
-
-enum-known-r-2 : tie.Need-enum-known-r-2
-enum-known-r-2 c = search needs
-
-enum-known-r-3 : tie.Need-enum-known-r-3
-enum-known-r-3 c = search needs
-
 returns : tie.Need-returns
 returns c = sym (ap asAnswer (c .before .r .given .1))
 
@@ -25,4 +16,4 @@ returns-3 c = sym (ap asAnswer (c .before .r3 .given .1))
 
 pub answer-of-spec : {M : Type 1} → statement M
 answer-of-spec =
-    tie.close (tie.spec enum-known-r enum-known-r-2 enum-known-r-3 returns returns-2 returns-3)
+    tie.close (tie.spec (λ c. search needs) (λ c. search needs) (λ c. search needs) returns returns-2 returns-3)

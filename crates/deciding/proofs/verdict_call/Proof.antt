@@ -19,9 +19,6 @@ none : (c : tie.Else1)
     → verdictRefusal (now (start (c .before) .args .case)) (start (c .before) .args .limit) (start (c .before) .args .tally) (length (now (start (c .before) .args .answer))) ≡ 0
 none c = sym (c .before .verdict-refusal .ensures) ∙ c .if1 .left
 
-verdict-refusal-requires : tie.Need-verdict-refusal-requires
-verdict-refusal-requires c κs = search needs
-
 returns : tie.Need-returns
 returns c = answered-refused _ _ _ _ (c .before .verdict-refusal .ensures) (c .if1 .taken)
 
@@ -30,19 +27,10 @@ accepted-requires c κs =
     let f = accepted-verdict _ _ _ _ (none (c .before)) in
     (f .case, f .buffer, f .limitHigh)
 
-answer-of-requires : tie.Need-answer-of-requires
-answer-of-requires c κs = search needs
-
-tried-of-requires : tie.Need-tried-of-requires
-tried-of-requires c κs = search needs
-
 add-t14 : tie.Need-add-t14
 add-t14 c =
     let d = c .before .before .before .before in
     omega (arith, tally-fits _ _ _ _ (none (d .before .before)) (d .accepted .ensures) (c .tried-of .ensures))
-
-same-length : tie.Need-same-length
-same-length c = search needs
 
 returns-2 : tie.Need-returns-2
 returns-2 c =
@@ -51,13 +39,5 @@ returns-2 c =
 
 pub verdict-call-spec : {M : Type 1} → statement M
 verdict-call-spec =
-    tie.close
-    (tie.spec
-    verdict-refusal-requires
-    returns
-    accepted-requires
-    answer-of-requires
-    tried-of-requires
-    add-t14
-    same-length
-    returns-2)
+    tie.close (tie.spec (λ c κs. search needs) returns accepted-requires (λ c κs. search needs) (λ c κs. search needs) add-t14
+    (λ c. search needs) returns-2)

@@ -12,43 +12,13 @@ abbrev μ-loop : tie.MeasureT-loop
 μ-loop left₀ left = left
 
 -- src/main.rt:72:5
-loop-holds : tie.Need-loop-holds Inv-loop μ-loop
-loop-holds c = search needs
-
 -- src/main.rt:73:13
-turn-requires : tie.Need-turn-requires Inv-loop μ-loop
-turn-requires c κs = search needs
-
 -- src/main.rt:74:13
-returns : tie.Need-returns Inv-loop μ-loop
-returns c = search needs
-
 -- src/main.rt:76:9
-sub-left : tie.Need-sub-left Inv-loop μ-loop
-sub-left c = search needs
-
 -- src/main.rt:72:5
-loop-less : tie.Need-loop-less Inv-loop μ-loop
-loop-less c = search needs
-
 -- src/main.rt:72:5
-loop-again : tie.Need-loop-again Inv-loop μ-loop
-loop-again c = search needs
-
 -- src/main.rt:70:1
-returns-2 : tie.Need-returns-2 Inv-loop μ-loop
-returns-2 c = search needs
-
 pub main-spec : {M : Type 1} → statement M
 main-spec =
-    tie.close
-    (tie.spec
-    Inv-loop
-    μ-loop
-    loop-holds
-    turn-requires
-    returns
-    sub-left
-    loop-less
-    loop-again
-    returns-2)
+    tie.close (tie.spec Inv-loop μ-loop (λ c. search needs) (λ c κs. search needs) (λ c. search needs) (λ c. search needs)
+    (λ c. search needs) (λ c. search needs) (λ c. search needs))

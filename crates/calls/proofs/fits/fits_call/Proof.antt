@@ -10,9 +10,6 @@ use Rattle.calls.proofs.AnswerLaws.{answer-refused, answer-given}
 use Rattle.calls.proofs.fits.fits_call.Statement.{statement}
 use Rattle.calls.proofs.fits.fits_call.Tie as tie
 
-fits-refusal-requires : tie.Need-fits-refusal-requires
-fits-refusal-requires c κs = search needs
-
 returns : tie.Need-returns
 returns c =
     let a = c .before .before .before .before .args in
@@ -38,4 +35,4 @@ returns-3 c =
 
 pub fits-call-spec : {M : Type 1} → statement M
 fits-call-spec =
-    tie.close (tie.spec fits-refusal-requires returns fits-requires returns-2 returns-3)
+    tie.close (tie.spec (λ c κs. search needs) returns fits-requires returns-2 returns-3)

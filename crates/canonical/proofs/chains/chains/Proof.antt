@@ -55,19 +55,10 @@ earlier c = omega (arith, c .pattern-parent .ensures, parent-earlier (given (c .
 own-length : (c : tie.At-loop Inv-loop μ-loop) → length (c .loop .own) ≡ maxPattern
 own-length c = laying-own (laid c) (omega (arith, c .loop .inv .turns, given c .pattern .few))
 
-root-requires : tie.Need-root-requires Inv-loop μ-loop
-root-requires c κs = search needs
-
-pattern-count-requires : tie.Need-pattern-count-requires Inv-loop μ-loop
-pattern-count-requires c κs = search needs
-
 loop-holds : tie.Need-loop-holds Inv-loop μ-loop
 loop-holds c =
     let g = c .before .before .before .before .before .before .before .before .before .before .before .before .before .before .before .before .pre .0 in
     record { positive = omega arith; turns = g .pattern .tree .inhabited; laying = λ base l. l }
-
-pattern-parent-requires : tie.Need-pattern-parent-requires Inv-loop μ-loop
-pattern-parent-requires c κs = search needs
 
 slice-aggregate-own-of : tie.Need-slice-aggregate-own-of Inv-loop μ-loop
 slice-aggregate-own-of c = sym (own-length (c .before .before .before))
@@ -124,17 +115,8 @@ sub-own c = omega (arith, counts (c .before .before .before .before .before .bef
 cast-own : tie.Need-cast-own Inv-loop μ-loop
 cast-own c = omega (arith, counts (c .before .before .before .before .before .before))
 
-mul-own : tie.Need-mul-own Inv-loop μ-loop
-mul-own c = search needs
-
 array-write-own : tie.Need-array-write-own Inv-loop μ-loop
 array-write-own c = let b = numbers (c .before .before .before .before .before .before) in omega (arith, inside (parent b), given (head b) .pattern .few)
-
-add-q : tie.Need-add-q Inv-loop μ-loop
-add-q c = search needs
-
-loop-less : tie.Need-loop-less Inv-loop μ-loop
-loop-less c = search needs
 
 loop-again : tie.Need-loop-again Inv-loop μ-loop
 loop-again c =
@@ -161,27 +143,7 @@ returns c = laying-end (laid (c .before)) (omega (arith, c .before .before .patt
 
 pub chains-spec : {M : Type 1} → statement M
 chains-spec =
-    tie.close
-    (tie.spec
-    Inv-loop
-    μ-loop
-    root-requires
-    pattern-count-requires
-    loop-holds
-    pattern-parent-requires
-    slice-aggregate-own-of
-    own-of-requires
-    image-of-requires
-    image-of-requires-2
-    append-chain-requires
-    sub-own
-    cast-own
-    mul-own
-    array-write-own
-    add-q
-    loop-less
-    loop-again
-    same-length
-    same-length-2
-    same-length-3
+    tie.close (tie.spec Inv-loop μ-loop (λ c κs. search needs) (λ c κs. search needs) loop-holds (λ c κs. search needs)
+    slice-aggregate-own-of own-of-requires image-of-requires image-of-requires-2 append-chain-requires sub-own cast-own
+    (λ c. search needs) array-write-own (λ c. search needs) (λ c. search needs) loop-again same-length same-length-2 same-length-3
     returns)

@@ -21,24 +21,15 @@ start c = c .before .before .before .before .before
 asked : (c : tie.Else1) → strongTest (summaryIn (now (start (c .before) .args .case))) (start (c .before) .args .from .on .0) (start (c .before) .args .t .0) ≡ true
 asked c = sym (c .before .strong-child .ensures) ∙ not-false _ (c .if1 .left)
 
-strong-child-requires : tie.Need-strong-child-requires
-strong-child-requires c κs = search needs
-
 returns : tie.Need-returns
 returns c = λ spots base k.
     let s = start (c .before) in
     unasked-drafted (s .pre .0 .0 .few) k _ _ _ (s .pre .1 .2 .inside) (s .pre .0 .2) (sym (c .before .strong-child .ensures) ∙ not-true _ (c .if1 .taken))
 
-mul-has64 : tie.Need-mul-has64
-mul-has64 c = search needs
-
 slice-read-has64 : tie.Need-slice-read-has64
 slice-read-has64 c =
     let m = start (c .before .before) .pre .1 .2 in
     omega (arith, drafted-roomy (m .drafted), m .inside, m .drafted .fits)
-
-has64-requires : tie.Need-has64-requires
-has64-requires c κs = search needs
 
 returns-2 : tie.Need-returns-2
 returns-2 c = λ spots base k.
@@ -58,15 +49,6 @@ append-requires c κs =
       ),
     )
 
-same-length : tie.Need-same-length
-same-length c = search needs
-
-same-length-2 : tie.Need-same-length-2
-same-length-2 c = search needs
-
-same-length-3 : tie.Need-same-length-3
-same-length-3 c = search needs
-
 returns-3 : tie.Need-returns-3
 returns-3 c = λ spots base k.
     let a = c .before .before .before .before .before .before in
@@ -81,16 +63,5 @@ returns-3 c = λ spots base k.
 
 pub add-missing-spec : {M : Type 1} → statement M
 add-missing-spec =
-    tie.close
-    (tie.spec
-    strong-child-requires
-    returns
-    mul-has64
-    slice-read-has64
-    has64-requires
-    returns-2
-    append-requires
-    same-length
-    same-length-2
-    same-length-3
-    returns-3)
+    tie.close (tie.spec (λ c κs. search needs) returns (λ c. search needs) slice-read-has64 (λ c κs. search needs) returns-2
+    append-requires (λ c. search needs) (λ c. search needs) (λ c. search needs) returns-3)

@@ -39,9 +39,6 @@ summary-of-requires c κs =
 add-first : tie.Need-add-first Inv-loop μ-loop
 add-first c = omega (arith, inside (c .before), start (c .before) .pre .0 .few)
 
-summary-count-requires : tie.Need-summary-count-requires Inv-loop μ-loop
-summary-count-requires c κs = search needs
-
 loop-holds : tie.Need-loop-holds Inv-loop μ-loop
 loop-holds c = visiting-start (start (c .before .before) .pre .0 .tree) (inside (c .before .before)) refl
 
@@ -51,12 +48,6 @@ add-missing-requires c κs =
     let s = start (read h) in
     let less : h .loop .t < length (summaryIn (now (s .args .case))) = omega (arith, h .before .summary-count .ensures, c .before .before .before .loop-test .taken) in
     ((s .pre .0, h .loop .inv .positive, less), (_, s .pre .1 .1, visiting-missing (h .loop .inv) (s .pre .1 .2) (read h .summary-of .ensures) less))
-
-add-t : tie.Need-add-t Inv-loop μ-loop
-add-t c = search needs
-
-loop-less : tie.Need-loop-less Inv-loop μ-loop
-loop-less c = search needs
 
 loop-again : tie.Need-loop-again Inv-loop μ-loop
 loop-again c =
@@ -85,19 +76,5 @@ returns c =
 
 pub fill-node-spec : {M : Type 1} → statement M
 fill-node-spec =
-    tie.close
-    (tie.spec
-    Inv-loop
-    μ-loop
-    summary-of-requires
-    add-first
-    summary-count-requires
-    loop-holds
-    add-missing-requires
-    add-t
-    loop-less
-    loop-again
-    same-length
-    same-length-2
-    same-length-3
-    returns)
+    tie.close (tie.spec Inv-loop μ-loop summary-of-requires add-first (λ c κs. search needs) loop-holds add-missing-requires
+    (λ c. search needs) (λ c. search needs) loop-again same-length same-length-2 same-length-3 returns)

@@ -7,14 +7,8 @@ use Rattle.canonical.proofs.FillLaws.{strong-elsewhere, strong-by-edge}
 use Rattle.canonical.proofs.fill.strong_child.Statement.{statement}
 use Rattle.canonical.proofs.fill.strong_child.Tie as tie
 
-summary-parent-requires : tie.Need-summary-parent-requires
-summary-parent-requires c κs = search needs
-
 returns : tie.Need-returns
 returns c = strong-elsewhere _ _ _ (λ e. c .if1 .taken (c .before .before .before .summary-parent .ensures ∙ e))
-
-summary-strong-requires : tie.Need-summary-strong-requires
-summary-strong-requires c κs = search needs
 
 returns-2 : tie.Need-returns-2
 returns-2 c =
@@ -24,4 +18,4 @@ returns-2 c =
 
 pub strong-child-spec : {M : Type 1} → statement M
 strong-child-spec =
-    tie.close (tie.spec summary-parent-requires returns summary-strong-requires returns-2)
+    tie.close (tie.spec (λ c κs. search needs) returns (λ c κs. search needs) returns-2)

@@ -4,15 +4,10 @@ use Rattle.containment.specs.Judging.{fullBy}
 use Rattle.containment.proofs.judge.full.Statement.{statement}
 use Rattle.containment.proofs.judge.full.Tie as tie
 
-low-requires : tie.Need-low-requires
-low-requires c κs = search needs
-
-high-requires : tie.Need-high-requires
-high-requires c κs = search needs
-
 returns : tie.Need-returns
 unfolding fullBy
 returns c = rw (c .high .ensures, c .before .low .ensures)
 
 pub full-spec : {M : Type 1} → statement M
-full-spec = tie.close (tie.spec low-requires high-requires returns)
+full-spec =
+    tie.close (tie.spec (λ c κs. search needs) (λ c κs. search needs) returns)

@@ -22,14 +22,8 @@ Inv-loop t p at images q hangs₀ c₀ hangs c =
 abbrev μ-loop : tie.MeasureT-loop
 μ-loop t p at images q hangs₀ c₀ hangs c = c
 
-pattern-count-requires : tie.Need-pattern-count-requires Inv-loop μ-loop
-pattern-count-requires c κs = search needs
-
 loop-holds : tie.Need-loop-holds Inv-loop μ-loop
 loop-holds c = let s = c .before .before .before .pre in (s, gathering-start (c .pattern-count .ensures .0) (s .base .pattern .tree .inhabited))
-
-sub-c : tie.Need-sub-c Inv-loop μ-loop
-sub-c c = search needs
 
 mul-handed : tie.Need-mul-handed Inv-loop μ-loop
 mul-handed c = omega (arith, c .before .loop .inv .0 .base .pattern .few, c .before .loop .inv .1 .top)
@@ -40,9 +34,6 @@ array-read-handed c = omega (arith, c .before .loop .inv .0 .base .pattern .few,
 handed-requires : tie.Need-handed-requires Inv-loop μ-loop
 handed-requires c κs = let i = c .before .loop .inv in (i .0, (omega arith, omega (arith, i .1 .top)))
 
-slice-aggregate-join : tie.Need-slice-aggregate-join Inv-loop μ-loop
-slice-aggregate-join c = search needs
-
 pattern-parent-requires : tie.Need-pattern-parent-requires Inv-loop μ-loop
 pattern-parent-requires c κs = let i = c .before .before .before .loop .inv in (i .0 .base .pattern .whole, omega (arith, i .1 .top))
 
@@ -52,9 +43,6 @@ join-requires c κs =
     let k : c .pattern-parent .result .0 < l .c - 1 = parent-lt (l .inv .0 .base .pattern) (omega arith) (omega (arith, l .inv .1 .top)) (c .pattern-parent .ensures) in
     omega (arith, l .inv .0 .base .pattern .few, l .inv .1 .top)
 
-loop-less : tie.Need-loop-less Inv-loop μ-loop
-loop-less c = search needs
-
 loop-again : tie.Need-loop-again Inv-loop μ-loop
 loop-again c =
     let l = c .before .before .before .before .before .before .loop in (
@@ -63,29 +51,12 @@ loop-again c =
           (join-turn _ _ _ _ _ _ _ (c .before .before .pattern-parent .ensures) (c .before .before .before .before .handed .ensures) (c .before .join .ensures)) (c .before .join .kept .0),
     )
 
-array-read-result : tie.Need-array-read-result Inv-loop μ-loop
-array-read-result c = search needs
-
 returns : tie.Need-returns Inv-loop μ-loop
 unfolding sureGiven
 returns c = ap (λ (l : List ℕ). getD l 0 0) (gathering-end (c .before .loop .inv .1) (c .loop-test .left))
 
 pub given-spec : {M : Type 1} → statement M
 given-spec =
-    tie.close
-    (tie.spec
-    Inv-loop
-    μ-loop
-    pattern-count-requires
-    loop-holds
-    sub-c
-    mul-handed
-    array-read-handed
-    handed-requires
-    slice-aggregate-join
-    pattern-parent-requires
-    join-requires
-    loop-less
-    loop-again
-    array-read-result
+    tie.close (tie.spec Inv-loop μ-loop (λ c κs. search needs) loop-holds (λ c. search needs) mul-handed array-read-handed
+    handed-requires (λ c. search needs) pattern-parent-requires join-requires (λ c. search needs) loop-again (λ c. search needs)
     returns)

@@ -1,21 +1,14 @@
 -- `containment::judge::handed` meets its contract: each branch is the definition's. Assumes nothing.
-use Prim.Native.Nat.{_<_}
 use mathlib.Core.Path.{_∙_}
 use native.Mathlib.Omega.{arith}
 use borrow.Author.Needs.{needs}
-use Rattle.containment.proofs.RoomLaws.{parent-lt, parent-placed, image-lt}
+use Rattle.containment.proofs.RoomLaws.{parent-placed, image-lt}
 use Rattle.containment.proofs.SkipLoop.{sure-placed, sure-least, sure-none}
 use Rattle.containment.proofs.judge.handed.Statement.{statement}
 use Rattle.containment.proofs.judge.handed.Tie as tie
 
-pass-requires : tie.Need-pass-requires
-pass-requires c κs = search needs
-
 returns : tie.Need-returns
 returns c = c .pass .ensures ∙ sure-placed _ _ _ _ _ _ _ (c .before .if1 .taken)
-
-pattern-parent-requires : tie.Need-pattern-parent-requires
-pattern-parent-requires c κs = search needs
 
 -- the function's entry, and that the node's parent has an image
 abbrev start : tie.After-pattern-parent → tie.Start
@@ -43,12 +36,4 @@ returns-3 c = let l = c .before .before .before in sure-none _ _ _ _ _ _ _ (l .b
 
 pub handed-spec : {M : Type 1} → statement M
 handed-spec =
-    tie.close
-    (tie.spec
-    pass-requires
-    returns
-    pattern-parent-requires
-    image-of-requires
-    least-at-requires
-    returns-2
-    returns-3)
+    tie.close (tie.spec (λ c κs. search needs) returns (λ c κs. search needs) image-of-requires least-at-requires returns-2 returns-3)

@@ -12,20 +12,8 @@ Inv-loop t a n g h₀ x₀ h x = HangInv (setsIn t) (a .0) h₀ (x₀ .0) h (x .
 abbrev μ-loop : tie.MeasureT-loop
 μ-loop t a n g h₀ x₀ h x = x .0
 
-node-requires : tie.Need-node-requires Inv-loop μ-loop
-node-requires c κs = search needs
-
-up-requires : tie.Need-up-requires Inv-loop μ-loop
-up-requires c κs = search needs
-
 loop-holds : tie.Need-loop-holds Inv-loop μ-loop
 loop-holds c = let s = c .before .before .pre in hang-start (s .0) (s .1) (c .up .ensures)
-
-node-requires-2 : tie.Need-node-requires-2 Inv-loop μ-loop
-node-requires-2 c κs = search needs
-
-up-requires-2 : tie.Need-up-requires-2 Inv-loop μ-loop
-up-requires-2 c κs = search needs
 
 -- the function's entry, seen from a turn
 abbrev start : tie.At-loop Inv-loop μ-loop → tie.Start Inv-loop μ-loop
@@ -47,15 +35,5 @@ returns c =
 
 pub hang-spec : {M : Type 1} → statement M
 hang-spec =
-    tie.close
-    (tie.spec
-    Inv-loop
-    μ-loop
-    node-requires
-    up-requires
-    loop-holds
-    node-requires-2
-    up-requires-2
-    loop-less
-    loop-again
-    returns)
+    tie.close (tie.spec Inv-loop μ-loop (λ c κs. search needs) (λ c κs. search needs) loop-holds (λ c κs. search needs)
+    (λ c κs. search needs) loop-less loop-again returns)

@@ -7,22 +7,13 @@ use Rattle.containment.proofs.RoomLaws.{position-lt}
 use Rattle.containment.proofs.judge.judge.Statement.{statement}
 use Rattle.containment.proofs.judge.judge.Tie as tie
 
-given-requires : tie.Need-given-requires
-given-requires c κs = search needs
-
 pattern-position-requires : tie.Need-pattern-position-requires
 pattern-position-requires c κs = let s = c .before .before .before .pre in (s .base .pattern .whole, s .base .pattern .tree .inhabited)
-
-closed-requires : tie.Need-closed-requires
-closed-requires c κs = search needs
 
 met-requires : tie.Need-met-requires
 met-requires c κs =
     let s = c .before .before .before .before .before .pre in
     (omega arith, position-lt (s .base) (s .base .pattern .tree .inhabited) (c .before .pattern-position .ensures .0))
-
-has16-requires : tie.Need-has16-requires
-has16-requires c κs = search needs
 
 returns : tie.Need-returns
 unfolding surelyBy rootBy
@@ -32,11 +23,5 @@ returns c =
 
 pub judge-spec : {M : Type 1} → statement M
 judge-spec =
-    tie.close
-    (tie.spec
-    given-requires
-    pattern-position-requires
-    closed-requires
-    met-requires
-    has16-requires
+    tie.close (tie.spec (λ c κs. search needs) pattern-position-requires (λ c κs. search needs) met-requires (λ c κs. search needs)
     returns)

@@ -4,18 +4,10 @@ use Rattle.containment.specs.Judging.{meetsBy}
 use Rattle.containment.proofs.judge.met.Statement.{statement}
 use Rattle.containment.proofs.judge.met.Tie as tie
 
-fitting-requires : tie.Need-fitting-requires
-fitting-requires c κs = search needs
-
-allowed-requires : tie.Need-allowed-requires
-allowed-requires c κs = search needs
-
-full-requires : tie.Need-full-requires
-full-requires c κs = search needs
-
 returns : tie.Need-returns
 unfolding meetsBy
 returns c = rw (c .full .ensures, c .before .allowed .ensures, c .before .before .fitting .ensures)
 
 pub met-spec : {M : Type 1} → statement M
-met-spec = tie.close (tie.spec fitting-requires allowed-requires full-requires returns)
+met-spec =
+    tie.close (tie.spec (λ c κs. search needs) (λ c κs. search needs) (λ c κs. search needs) returns)

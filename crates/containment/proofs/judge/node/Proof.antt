@@ -4,15 +4,10 @@ use Rattle.containment.specs.Judging.{nodeBy}
 use Rattle.containment.proofs.judge.node.Statement.{statement}
 use Rattle.containment.proofs.judge.node.Tie as tie
 
-closed-requires : tie.Need-closed-requires
-closed-requires c κs = search needs
-
-offered-requires : tie.Need-offered-requires
-offered-requires c κs = search needs
-
 returns : tie.Need-returns
 unfolding nodeBy
 returns c = rw (c .offered .ensures, c .before .closed .ensures)
 
 pub node-spec : {M : Type 1} → statement M
-node-spec = tie.close (tie.spec closed-requires offered-requires returns)
+node-spec =
+    tie.close (tie.spec (λ c κs. search needs) (λ c κs. search needs) returns)

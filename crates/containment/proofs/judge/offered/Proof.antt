@@ -4,15 +4,10 @@ use Rattle.containment.specs.Judging.{offersBy}
 use Rattle.containment.proofs.judge.offered.Statement.{statement}
 use Rattle.containment.proofs.judge.offered.Tie as tie
 
-met-requires : tie.Need-met-requires
-met-requires c κs = search needs
-
-deep-requires : tie.Need-deep-requires
-deep-requires c κs = search needs
-
 returns : tie.Need-returns
 unfolding offersBy
 returns c = rw (c .deep .ensures, c .before .met .ensures)
 
 pub offered-spec : {M : Type 1} → statement M
-offered-spec = tie.close (tie.spec met-requires deep-requires returns)
+offered-spec =
+    tie.close (tie.spec (λ c κs. search needs) (λ c κs. search needs) returns)

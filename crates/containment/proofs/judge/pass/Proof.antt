@@ -6,17 +6,8 @@ use Rattle.containment.proofs.RoomLaws.{position-lt, parent-placed, ima
 use Rattle.containment.proofs.judge.pass.Statement.{statement}
 use Rattle.containment.proofs.judge.pass.Tie as tie
 
-pattern-parent-requires : tie.Need-pattern-parent-requires
-pattern-parent-requires c κs = search needs
-
 image-of-requires : tie.Need-image-of-requires
 image-of-requires c κs = let s = c .before .before .before .pre in parent-placed (s .0) (s .1 .0) (s .1 .1) (c .pattern-parent .ensures)
-
-image-of-requires-2 : tie.Need-image-of-requires-2
-image-of-requires-2 c κs = search needs
-
-pattern-position-requires : tie.Need-pattern-position-requires
-pattern-position-requires c κs = search needs
 
 hang-requires : tie.Need-hang-requires
 hang-requires c κs =
@@ -30,4 +21,5 @@ returns c =
     cc (c .hang .ensures, n, c .before .before .image-of2 .ensures, c .before .before .before .image-of .ensures, c .before .before .before .before .pattern-parent .ensures)
 
 pub pass-spec : {M : Type 1} → statement M
-pass-spec = tie.close (tie.spec pattern-parent-requires image-of-requires image-of-requires-2 pattern-position-requires hang-requires returns)
+pass-spec =
+    tie.close (tie.spec (λ c κs. search needs) image-of-requires (λ c κs. search needs) (λ c κs. search needs) hang-requires returns)

@@ -15,26 +15,11 @@ Inv-loop case s l n t₀ t = Missed (summaryIn case) (s .0) l t
 abbrev μ-loop : tie.MeasureT-loop
 μ-loop case s l n t₀ t = n - t
 
-summary-count-requires : tie.Need-summary-count-requires Inv-loop μ-loop
-summary-count-requires c κs = search needs
-
-add-t : tie.Need-add-t Inv-loop μ-loop
-add-t c = search needs
-
 loop-holds : tie.Need-loop-holds Inv-loop μ-loop
 loop-holds c = let start = c .before .before .before in missed-start _ _ _ (start .pre .0 .tree) (start .pre .1)
 
-is-labelled-requires : tie.Need-is-labelled-requires Inv-loop μ-loop
-is-labelled-requires c κs = search needs
-
 returns : tie.Need-returns Inv-loop μ-loop
 returns c = (child-found _ _ _ (c .before .before .before .loop .inv) (omega arith) (sym (c .before .is-labelled .ensures) ∙ c .if1 .taken), search needs)
-
-add-t-2 : tie.Need-add-t-2 Inv-loop μ-loop
-add-t-2 c = search needs
-
-loop-less : tie.Need-loop-less Inv-loop μ-loop
-loop-less c = search needs
 
 loop-again : tie.Need-loop-again Inv-loop μ-loop
 loop-again c = missed-step _ _ _ (c .before .before .before .loop .inv) (omega arith) (sym (c .before .is-labelled .ensures) ∙ c .if1 .left)
@@ -44,16 +29,5 @@ returns-2 c = (c .before .before .before .summary-count .ensures .0 ∙ child-no
 
 pub child-labelled-spec : {M : Type 1} → statement M
 child-labelled-spec =
-    tie.close
-    (tie.spec
-    Inv-loop
-    μ-loop
-    summary-count-requires
-    add-t
-    loop-holds
-    is-labelled-requires
-    returns
-    add-t-2
-    loop-less
-    loop-again
-    returns-2)
+    tie.close (tie.spec Inv-loop μ-loop (λ c κs. search needs) (λ c. search needs) loop-holds (λ c κs. search needs) returns
+    (λ c. search needs) (λ c. search needs) loop-again returns-2)

@@ -15,12 +15,6 @@ Inv-loop case w path₀ n count v₀ path v = Filling (summaryIn case) (document
 abbrev μ-loop : tie.MeasureT-loop
 μ-loop case w path₀ n count v₀ path v = count - v
 
-summary-count-requires : tie.Need-summary-count-requires Inv-loop μ-loop
-summary-count-requires c κs = search needs
-
-document-count-requires : tie.Need-document-count-requires Inv-loop μ-loop
-document-count-requires c κs = search needs
-
 loop-holds : tie.Need-loop-holds Inv-loop μ-loop
 loop-holds c = filling-start (omega arith)
 
@@ -36,21 +30,6 @@ returns c =
     let counts = path .before .before .before .before .before in
     filling-stop (omega arith) (path .path-of .ensures .same) (c .if1 .taken) (counts .summary-count .ensures .0)
 
-cast-path : tie.Need-cast-path Inv-loop μ-loop
-cast-path c = search needs
-
-mul-path : tie.Need-mul-path Inv-loop μ-loop
-mul-path c = search needs
-
-element-write-path : tie.Need-element-write-path Inv-loop μ-loop
-element-write-path c = search needs
-
-add-v : tie.Need-add-v Inv-loop μ-loop
-add-v c = search needs
-
-loop-less : tie.Need-loop-less Inv-loop μ-loop
-loop-less c = search needs
-
 loop-again : tie.Need-loop-again Inv-loop μ-loop
 loop-again c =
     let path = c .before .before .before in
@@ -62,19 +41,5 @@ returns-2 c = filling-end (c .before .loop .inv) (omega arith)
 
 pub fill-paths-spec : {M : Type 1} → statement M
 fill-paths-spec =
-    tie.close
-    (tie.spec
-    Inv-loop
-    μ-loop
-    summary-count-requires
-    document-count-requires
-    loop-holds
-    path-of-requires
-    returns
-    cast-path
-    mul-path
-    element-write-path
-    add-v
-    loop-less
-    loop-again
-    returns-2)
+    tie.close (tie.spec Inv-loop μ-loop (λ c κs. search needs) (λ c κs. search needs) loop-holds path-of-requires returns
+    (λ c. search needs) (λ c. search needs) (λ c. search needs) (λ c. search needs) (λ c. search needs) loop-again returns-2)

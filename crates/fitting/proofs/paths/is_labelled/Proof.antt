@@ -5,12 +5,6 @@ use borrow.Author.Needs.{needs}
 use Rattle.fitting.proofs.paths.is_labelled.Statement.{statement}
 use Rattle.fitting.proofs.paths.is_labelled.Tie as tie
 
-summary-parent-requires : tie.Need-summary-parent-requires
-summary-parent-requires c κs = search needs
-
-summary-label-requires : tie.Need-summary-label-requires
-summary-label-requires c κs = search needs
-
 returns : tie.Need-returns
 returns c = rw (eq-eqb _ _ (sym (c .before .before .before .before .summary-parent .ensures) ∙ c .before .if1 .taken), c .summary-label .ensures)
 
@@ -19,4 +13,4 @@ returns-2 c = rw (ne-eqb _ _ (λ q. c .if1 .left (c .before .before .before .sum
 
 pub is-labelled-spec : {M : Type 1} → statement M
 is-labelled-spec =
-    tie.close (tie.spec summary-parent-requires summary-label-requires returns returns-2)
+    tie.close (tie.spec (λ c κs. search needs) (λ c κs. search needs) returns returns-2)

@@ -9,22 +9,13 @@ use Rattle.fitting.proofs.PathLaws.{next-entry, parent-inside}
 use Rattle.fitting.proofs.paths.path_of.Statement.{statement}
 use Rattle.fitting.proofs.paths.path_of.Tie as tie
 
-root-path-requires : tie.Need-root-path-requires
-root-path-requires c κs = search needs
-
 returns : tie.Need-returns
 returns c = record { same = c .root-path .ensures .same ∙ ap (pathIn _ _) (sym (c .before .if1 .taken)); most = c .root-path .ensures .most }
-
-document-parent-requires : tie.Need-document-parent-requires
-document-parent-requires c κs = search needs
 
 summary-of-requires : tie.Need-summary-of-requires
 summary-of-requires c κs =
     let start = c .before .before .before .before .before .before in
     omega (arith, start .pre .0 .1 .tree .earlier (start .args .v .0) (omega arith) (omega arith))
-
-document-label-requires : tie.Need-document-label-requires
-document-label-requires c κs = search needs
 
 child-labelled-requires : tie.Need-child-labelled-requires
 child-labelled-requires c κs =
@@ -47,12 +38,5 @@ returns-2 c =
 
 pub path-of-spec : {M : Type 1} → statement M
 path-of-spec =
-    tie.close
-    (tie.spec
-    root-path-requires
-    returns
-    document-parent-requires
-    summary-of-requires
-    document-label-requires
-    child-labelled-requires
-    returns-2)
+    tie.close (tie.spec (λ c κs. search needs) returns (λ c κs. search needs) summary-of-requires (λ c κs. search needs)
+    child-labelled-requires returns-2)

@@ -9,9 +9,6 @@ use Rattle.fitting.proofs.PathLaws.{root-same, root-other}
 use Rattle.fitting.proofs.paths.root_path.Statement.{statement}
 use Rattle.fitting.proofs.paths.root_path.Tie as tie
 
-document-label-requires : tie.Need-document-label-requires
-document-label-requires c κs = search needs
-
 summary-label-requires : tie.Need-summary-label-requires
 summary-label-requires c κs =
     let start = c .before .before .before in
@@ -23,9 +20,6 @@ returns c =
     let start = labels .before .before .before .before in
     let same = sym (labels .before .document-label .ensures) ∙ c .if1 .taken ∙ labels .summary-label .ensures in
     record { same = root-same _ _ (start .pre .1 .tree .inhabited) same; most = search needs }
-
-summary-count-requires : tie.Need-summary-count-requires
-summary-count-requires c κs = search needs
 
 returns-2 : tie.Need-returns-2
 returns-2 c =
@@ -41,10 +35,4 @@ returns-2 c =
 
 pub root-path-spec : {M : Type 1} → statement M
 root-path-spec =
-    tie.close
-    (tie.spec
-    document-label-requires
-    summary-label-requires
-    returns
-    summary-count-requires
-    returns-2)
+    tie.close (tie.spec (λ c κs. search needs) summary-label-requires returns (λ c κs. search needs) returns-2)

@@ -21,9 +21,6 @@ Inv-loop w path kids needed count v₀ v = (v ≤ count) × Passed (keptIn path 
 abbrev μ-loop : tie.MeasureT-loop
 μ-loop w path kids needed count v₀ v = count - v
 
-document-count-requires : tie.Need-document-count-requires Inv-loop μ-loop
-document-count-requires c κs = search needs
-
 -- the row that is read is that of the node's path
 inside : (c : tie.After-summary-of Inv-loop μ-loop) → c .summary-of .result .0 < 64
 inside c =
@@ -45,32 +42,14 @@ kept c =
 loop-holds : tie.Need-loop-holds Inv-loop μ-loop
 loop-holds c = (search needs, below-none _)
 
-summary-of-requires : tie.Need-summary-of-requires Inv-loop μ-loop
-summary-of-requires c κs = search needs
-
 mul-subset64 : tie.Need-mul-subset64 Inv-loop μ-loop
 mul-subset64 c = omega (arith, inside c)
 
 element-copy-out-subset64 : tie.Need-element-copy-out-subset64 Inv-loop μ-loop
 element-copy-out-subset64 c = inside c
 
-mul-subset64-2 : tie.Need-mul-subset64-2 Inv-loop μ-loop
-mul-subset64-2 c = search needs
-
-element-copy-out-subset64-2 : tie.Need-element-copy-out-subset64-2 Inv-loop μ-loop
-element-copy-out-subset64-2 c = search needs
-
-subset64-requires : tie.Need-subset64-requires Inv-loop μ-loop
-subset64-requires c κs = search needs
-
 returns : tie.Need-returns Inv-loop μ-loop
 returns c = passed-not _ _ _ (omega arith) (sym (kept (c .before)) ∙ not-true _ (c .if1 .taken))
-
-add-v : tie.Need-add-v Inv-loop μ-loop
-add-v c = search needs
-
-loop-less : tie.Need-loop-less Inv-loop μ-loop
-loop-less c = search needs
 
 loop-again : tie.Need-loop-again Inv-loop μ-loop
 loop-again c =
@@ -82,20 +61,5 @@ returns-2 c = passed-end _ _ _ (omega arith) (c .before .loop .inv .1)
 
 pub all-kept-spec : {M : Type 1} → statement M
 all-kept-spec =
-    tie.close
-    (tie.spec
-    Inv-loop
-    μ-loop
-    document-count-requires
-    loop-holds
-    summary-of-requires
-    mul-subset64
-    element-copy-out-subset64
-    mul-subset64-2
-    element-copy-out-subset64-2
-    subset64-requires
-    returns
-    add-v
-    loop-less
-    loop-again
-    returns-2)
+    tie.close (tie.spec Inv-loop μ-loop (λ c κs. search needs) loop-holds (λ c κs. search needs) mul-subset64 element-copy-out-subset64
+    (λ c. search needs) (λ c. search needs) (λ c κs. search needs) returns (λ c. search needs) (λ c. search needs) loop-again returns-2)

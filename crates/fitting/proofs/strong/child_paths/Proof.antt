@@ -17,9 +17,6 @@ Inv-loop w path kids₀ count v₀ kids v = Gathering (documentOf w) (givesPath 
 abbrev μ-loop : tie.MeasureT-loop
 μ-loop w path kids₀ count v₀ kids v = count - v
 
-document-count-requires : tie.Need-document-count-requires Inv-loop μ-loop
-document-count-requires c κs = search needs
-
 -- the parent's row is in the table
 up : (c : tie.After-document-parent Inv-loop μ-loop) → c .document-parent .result .0 < 1024
 up c =
@@ -30,17 +27,11 @@ up c =
 loop-holds : tie.Need-loop-holds Inv-loop μ-loop
 loop-holds c = let start = c .before .before in gathering-start (start .pre .0 .0 .tree) (start .pre .0 .0 .few) (start .pre .0 .1)
 
-document-parent-requires : tie.Need-document-parent-requires Inv-loop μ-loop
-document-parent-requires c κs = search needs
-
 mul-insert64 : tie.Need-mul-insert64 Inv-loop μ-loop
 mul-insert64 c = omega (arith, up c)
 
 element-copy-out-insert64 : tie.Need-element-copy-out-insert64 Inv-loop μ-loop
 element-copy-out-insert64 c = up c
-
-summary-of-requires : tie.Need-summary-of-requires Inv-loop μ-loop
-summary-of-requires c κs = search needs
 
 insert64-requires : tie.Need-insert64-requires Inv-loop μ-loop
 insert64-requires c κs =
@@ -53,12 +44,6 @@ mul-kids c = omega (arith, up (c .before .before .before .before))
 
 element-write-kids : tie.Need-element-write-kids Inv-loop μ-loop
 element-write-kids c = up (c .before .before .before .before)
-
-add-v : tie.Need-add-v Inv-loop μ-loop
-add-v c = search needs
-
-loop-less : tie.Need-loop-less Inv-loop μ-loop
-loop-less c = search needs
 
 loop-again : tie.Need-loop-again Inv-loop μ-loop
 loop-again c =
@@ -73,20 +58,5 @@ returns c = gathering-end (c .before .loop .inv) (omega arith)
 
 pub child-paths-spec : {M : Type 1} → statement M
 child-paths-spec =
-    tie.close
-    (tie.spec
-    Inv-loop
-    μ-loop
-    document-count-requires
-    loop-holds
-    document-parent-requires
-    mul-insert64
-    element-copy-out-insert64
-    summary-of-requires
-    insert64-requires
-    mul-kids
-    element-write-kids
-    add-v
-    loop-less
-    loop-again
-    returns)
+    tie.close (tie.spec Inv-loop μ-loop (λ c κs. search needs) loop-holds (λ c κs. search needs) mul-insert64 element-copy-out-insert64
+    (λ c κs. search needs) insert64-requires mul-kids element-write-kids (λ c. search needs) (λ c. search needs) loop-again returns)

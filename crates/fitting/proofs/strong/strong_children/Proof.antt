@@ -22,9 +22,6 @@ Inv-loop case needed₀ n t₀ needed t = Gathering (asDocument (summaryIn case)
 abbrev μ-loop : tie.MeasureT-loop
 μ-loop case needed₀ n t₀ needed t = n - t
 
-summary-count-requires : tie.Need-summary-count-requires Inv-loop μ-loop
-summary-count-requires c κs = search needs
-
 -- the summary read as a document has as many nodes
 size : (c : tie.Start Inv-loop μ-loop) → length (asDocument (summaryIn (now (c .args .case)))) ≡ length (summaryIn (now (c .args .case)))
 size c = length-asDocument (summaryIn (now (c .args .case)))
@@ -40,32 +37,17 @@ up c =
 loop-holds : tie.Need-loop-holds Inv-loop μ-loop
 loop-holds c = let start = c .before .before in gathering-start (start .pre .0 .tree) (omega (arith, size start)) (start .pre .1)
 
-summary-parent-requires : tie.Need-summary-parent-requires Inv-loop μ-loop
-summary-parent-requires c κs = search needs
-
 mul-insert-if64 : tie.Need-mul-insert-if64 Inv-loop μ-loop
 mul-insert-if64 c = omega (arith, up c)
 
 element-copy-out-insert-if64 : tie.Need-element-copy-out-insert-if64 Inv-loop μ-loop
 element-copy-out-insert-if64 c = omega (arith, up c)
 
-summary-strong-requires : tie.Need-summary-strong-requires Inv-loop μ-loop
-summary-strong-requires c κs = search needs
-
-insert-if64-requires : tie.Need-insert-if64-requires Inv-loop μ-loop
-insert-if64-requires c κs = search needs
-
 mul-needed : tie.Need-mul-needed Inv-loop μ-loop
 mul-needed c = omega (arith, up (c .before .before .before))
 
 element-write-needed : tie.Need-element-write-needed Inv-loop μ-loop
 element-write-needed c = up (c .before .before .before)
-
-add-t : tie.Need-add-t Inv-loop μ-loop
-add-t c = search needs
-
-loop-less : tie.Need-loop-less Inv-loop μ-loop
-loop-less c = search needs
 
 loop-again : tie.Need-loop-again Inv-loop μ-loop
 loop-again c =
@@ -81,20 +63,6 @@ returns c = gathering-end (c .before .loop .inv) (omega (arith, size (c .before 
 
 pub strong-children-spec : {M : Type 1} → statement M
 strong-children-spec =
-    tie.close
-    (tie.spec
-    Inv-loop
-    μ-loop
-    summary-count-requires
-    loop-holds
-    summary-parent-requires
-    mul-insert-if64
-    element-copy-out-insert-if64
-    summary-strong-requires
-    insert-if64-requires
-    mul-needed
-    element-write-needed
-    add-t
-    loop-less
-    loop-again
-    returns)
+    tie.close (tie.spec Inv-loop μ-loop (λ c κs. search needs) loop-holds (λ c κs. search needs) mul-insert-if64
+    element-copy-out-insert-if64 (λ c κs. search needs) (λ c κs. search needs) mul-needed element-write-needed (λ c. search needs)
+    (λ c. search needs) loop-again returns)

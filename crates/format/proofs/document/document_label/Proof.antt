@@ -10,11 +10,9 @@ use Rattle.format.proofs.document.document_label.Tie as tie
 record-field-requires : tie.Need-record-field-requires
 record-field-requires c κs = (c .before .pre .0, (document-below _ _ (c .before .pre .1), omega arith, omega arith))
 
-cast-result : tie.Need-cast-result
-cast-result c = search needs
-
 returns : tie.Need-returns
 returns c = c .record-field .ensures .0 ∙ document-field _ (λ (r : DocumentRecord). r .label) _ 1 (λ a. refl) (c .before .before .pre .1)
 
 pub document-label-spec : {M : Type 1} → statement M
-document-label-spec = tie.close (tie.spec record-field-requires cast-result returns)
+document-label-spec =
+    tie.close (tie.spec record-field-requires (λ c. search needs) returns)

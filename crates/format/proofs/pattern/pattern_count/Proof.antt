@@ -5,11 +5,9 @@ use Rattle.format.proofs.SectionLaws.{pattern-count}
 use Rattle.format.proofs.pattern.pattern_count.Statement.{statement}
 use Rattle.format.proofs.pattern.pattern_count.Tie as tie
 
-field-requires : tie.Need-field-requires
-field-requires c κs = search needs
-
 returns : tie.Need-returns
 returns c = (c .field .ensures .0 ∙ sym (pattern-count _ _), c .field .ensures .1)
 
 pub pattern-count-spec : {M : Type 1} → statement M
-pattern-count-spec = tie.close (tie.spec field-requires returns)
+pattern-count-spec =
+    tie.close (tie.spec (λ c κs. search needs) returns)

@@ -10,11 +10,9 @@ use Rattle.format.proofs.pattern.pattern_label.Tie as tie
 record-field-requires : tie.Need-record-field-requires
 record-field-requires c κs = (c .before .pre .0, (pattern-below _ _ _ (c .before .pre .1), omega arith, omega arith))
 
-cast-result : tie.Need-cast-result
-cast-result c = search needs
-
 returns : tie.Need-returns
 returns c = c .record-field .ensures .0 ∙ pattern-field _ _ (λ (r : PatternRecord). r .label) _ 1 (λ a. refl) (c .before .before .pre .1)
 
 pub pattern-label-spec : {M : Type 1} → statement M
-pattern-label-spec = tie.close (tie.spec record-field-requires cast-result returns)
+pattern-label-spec =
+    tie.close (tie.spec record-field-requires (λ c. search needs) returns)

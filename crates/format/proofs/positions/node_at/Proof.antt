@@ -18,23 +18,11 @@ Inv-loop b at wanted m q₀ q = Seeking (λ (k : ℕ). eqb (position (patternAt 
 abbrev μ-loop : tie.MeasureT-loop
 μ-loop b at wanted m q₀ q = m - q
 
-pattern-count-requires : tie.Need-pattern-count-requires Inv-loop μ-loop
-pattern-count-requires c κs = search needs
-
 loop-holds : tie.Need-loop-holds Inv-loop μ-loop
 loop-holds c = seeking-start
 
-pattern-position-requires : tie.Need-pattern-position-requires Inv-loop μ-loop
-pattern-position-requires c κs = search needs
-
 returns : tie.Need-returns Inv-loop μ-loop
 returns c = seeking-found (c .before .before .before .loop .inv) (search needs) (eq-eqb _ _ (sym (c .before .pattern-position .ensures .0) ∙ c .if1 .taken))
-
-add-q : tie.Need-add-q Inv-loop μ-loop
-add-q c = search needs
-
-loop-less : tie.Need-loop-less Inv-loop μ-loop
-loop-less c = search needs
 
 loop-again : tie.Need-loop-again Inv-loop μ-loop
 loop-again c = seeking-step (c .before .before .before .loop .inv) (search needs) (ne-eqb _ _ (λ e. c .if1 .left (c .before .pattern-position .ensures .0 ∙ e)))
@@ -44,15 +32,5 @@ returns-2 c = c .before .before .pattern-count .ensures .0 ∙ seeking-end (c .b
 
 pub node-at-spec : {M : Type 1} → statement M
 node-at-spec =
-    tie.close
-    (tie.spec
-    Inv-loop
-    μ-loop
-    pattern-count-requires
-    loop-holds
-    pattern-position-requires
-    returns
-    add-q
-    loop-less
-    loop-again
-    returns-2)
+    tie.close (tie.spec Inv-loop μ-loop (λ c κs. search needs) loop-holds (λ c κs. search needs) returns (λ c. search needs)
+    (λ c. search needs) loop-again returns-2)

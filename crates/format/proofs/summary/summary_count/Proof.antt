@@ -5,11 +5,9 @@ use Rattle.format.proofs.SectionLaws.{summary-count}
 use Rattle.format.proofs.summary.summary_count.Statement.{statement}
 use Rattle.format.proofs.summary.summary_count.Tie as tie
 
-field-requires : tie.Need-field-requires
-field-requires c κs = search needs
-
 returns : tie.Need-returns
 returns c = (c .field .ensures .0 ∙ sym (summary-count _), c .field .ensures .1)
 
 pub summary-count-spec : {M : Type 1} → statement M
-summary-count-spec = tie.close (tie.spec field-requires returns)
+summary-count-spec =
+    tie.close (tie.spec (λ c κs. search needs) returns)

@@ -1,5 +1,4 @@
 -- `format::summary::summary_parent` meets its contract: the field read is the record's first. Assumes nothing.
-use borrow.Author.Needs.{needs}
 use mathlib.Core.Path.{sym, ap, _∙_}
 use Rattle.model.specs.Summary.{SummaryRecord}
 use Rattle.model.specs.Tree.{DocumentRecord}

@@ -1,5 +1,4 @@
 -- `format::summary::summary_strong` meets its contract: the field read is the record's third. Assumes nothing.
-use borrow.Author.Needs.{needs}
 use mathlib.Core.Path.{refl, _∙_}
 use Rattle.model.specs.Summary.{SummaryRecord}
 use native.Mathlib.Omega.{arith}

@@ -5,11 +5,9 @@ use Rattle.format.proofs.SectionLaws.{tree-count}
 use Rattle.format.proofs.tree.tree_count.Statement.{statement}
 use Rattle.format.proofs.tree.tree_count.Tie as tie
 
-field-requires : tie.Need-field-requires
-field-requires c κs = search needs
-
 returns : tie.Need-returns
 returns c = (c .field .ensures .0 ∙ sym (tree-count _ _), c .field .ensures .1)
 
 pub tree-count-spec : {M : Type 1} → statement M
-tree-count-spec = tie.close (tie.spec field-requires returns)
+tree-count-spec =
+    tie.close (tie.spec (λ c κs. search needs) returns)

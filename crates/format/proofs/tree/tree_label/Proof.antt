@@ -10,11 +10,9 @@ use Rattle.format.proofs.tree.tree_label.Tie as tie
 record-field-requires : tie.Need-record-field-requires
 record-field-requires c κs = (c .before .pre .0 .1 .whole, (tree-below _ _ _ (c .before .pre .1), omega arith, omega arith))
 
-cast-result : tie.Need-cast-result
-cast-result c = search needs
-
 returns : tie.Need-returns
 returns c = c .record-field .ensures .0 ∙ tree-field _ _ (λ (r : DocumentRecord). r .label) _ 1 (λ a. refl) (c .before .before .pre .1)
 
 pub tree-label-spec : {M : Type 1} → statement M
-tree-label-spec = tie.close (tie.spec record-field-requires cast-result returns)
+tree-label-spec =
+    tie.close (tie.spec record-field-requires (λ c. search needs) returns)

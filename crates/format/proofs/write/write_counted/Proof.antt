@@ -15,12 +15,6 @@ Inv-loop nodes k part₀ i₀ part i = WritingCounted nodes k part₀ part i
 abbrev μ-loop : tie.MeasureT-loop
 μ-loop nodes k part₀ i₀ part i = k - i
 
-cast-put-field : tie.Need-cast-put-field Inv-loop μ-loop
-cast-put-field c = search needs
-
-put-field-requires : tie.Need-put-field-requires Inv-loop μ-loop
-put-field-requires c κs = search needs
-
 -- the count is written where the loop begins
 counted : (c : tie.After-put-field Inv-loop μ-loop)
     → Written (c .before .before .before .before .args .k ∷ []) (now (c .before .before .before .before .args .part)) (c .put-field .last .0) 1
@@ -29,34 +23,10 @@ counted c = count-written _ _ (search needs) (c .put-field .ensures)
 loop-holds : tie.Need-loop-holds Inv-loop μ-loop
 loop-holds c = counted-start (counted (c .before .before))
 
-add-put-field : tie.Need-add-put-field Inv-loop μ-loop
-add-put-field c = search needs
-
-mul-put-field : tie.Need-mul-put-field Inv-loop μ-loop
-mul-put-field c = search needs
-
-shared-slice-read-put-field : tie.Need-shared-slice-read-put-field Inv-loop μ-loop
-shared-slice-read-put-field c = search needs
-
-put-field-requires-2 : tie.Need-put-field-requires-2 Inv-loop μ-loop
-put-field-requires-2 c κs = search needs
-
-add-i : tie.Need-add-i Inv-loop μ-loop
-add-i c = search needs
-
-loop-less : tie.Need-loop-less Inv-loop μ-loop
-loop-less c = search needs
-
 loop-again : tie.Need-loop-again Inv-loop μ-loop
 loop-again c =
     let turn = c .before .before .before .before .before in
     counted-step (turn .before .loop .inv) (turn .loop-test .taken) (search needs) (search needs) (c .before .before .put-field2 .ensures)
-
-mul-result : tie.Need-mul-result Inv-loop μ-loop
-mul-result c = search needs
-
-add-result : tie.Need-add-result Inv-loop μ-loop
-add-result c = search needs
 
 same-length : tie.Need-same-length Inv-loop μ-loop
 same-length c = c .before .loop .inv .written .size ∙ counted (c .before .before .before .before) .size
@@ -66,21 +36,6 @@ returns c = counted-end (counted (c .before .before .before .before)) (c .before
 
 pub write-counted-spec : {M : Type 1} → statement M
 write-counted-spec =
-    tie.close
-    (tie.spec
-    Inv-loop
-    μ-loop
-    cast-put-field
-    put-field-requires
-    loop-holds
-    add-put-field
-    mul-put-field
-    shared-slice-read-put-field
-    put-field-requires-2
-    add-i
-    loop-less
-    loop-again
-    mul-result
-    add-result
-    same-length
-    returns)
+    tie.close (tie.spec Inv-loop μ-loop (λ c. search needs) (λ c κs. search needs) loop-holds (λ c. search needs) (λ c. search needs)
+    (λ c. search needs) (λ c κs. search needs) (λ c. search needs) (λ c. search needs) loop-again (λ c. search needs)
+    (λ c. search needs) same-length returns)

@@ -37,29 +37,11 @@ read c = c .before .before .before .before .before
 numbered-at-requires : tie.Need-numbered-at-requires
 numbered-at-requires c κs = accepted-whole (facts (c .before .before) .case)
 
-slice-aggregate-read-list : tie.Need-slice-aggregate-read-list
-slice-aggregate-read-list c = search needs
-
 read-list-requires : tie.Need-read-list-requires
 read-list-requires c κs = list-fits (facts (c .before .before .before .before))
 
-slice-aggregate-lay-out : tie.Need-slice-aggregate-lay-out
-slice-aggregate-lay-out c = search needs
-
-slice-aggregate-lay-out-2 : tie.Need-slice-aggregate-lay-out-2
-slice-aggregate-lay-out-2 c = search needs
-
-slice-aggregate-lay-out-3 : tie.Need-slice-aggregate-lay-out-3
-slice-aggregate-lay-out-3 c = search needs
-
 lay-out-requires : tie.Need-lay-out-requires
 lay-out-requires c κs = (embedded (c .before .before .before .before), (omega arith, omega arith))
-
-slice-aggregate-records-of : tie.Need-slice-aggregate-records-of
-slice-aggregate-records-of c = search needs
-
-slice-aggregate-records-of-2 : tie.Need-slice-aggregate-records-of-2
-slice-aggregate-records-of-2 c = search needs
 
 records-of-requires : tie.Need-records-of-requires
 records-of-requires c κs =
@@ -84,16 +66,5 @@ returns c =
 
 pub accepted-layout-spec : {M : Type 1} → statement M
 accepted-layout-spec =
-    tie.close
-    (tie.spec
-    numbered-at-requires
-    slice-aggregate-read-list
-    read-list-requires
-    slice-aggregate-lay-out
-    slice-aggregate-lay-out-2
-    slice-aggregate-lay-out-3
-    lay-out-requires
-    slice-aggregate-records-of
-    slice-aggregate-records-of-2
-    records-of-requires
-    returns)
+    tie.close (tie.spec numbered-at-requires (λ c. search needs) read-list-requires (λ c. search needs) (λ c. search needs)
+    (λ c. search needs) lay-out-requires (λ c. search needs) (λ c. search needs) records-of-requires returns)

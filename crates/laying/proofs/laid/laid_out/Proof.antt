@@ -15,12 +15,6 @@ start c = c .before .before .before .before
 accepted : (c : tie.Else1) → layoutRefusal (now (start c .args .case)) (start c .args .number) (now (start c .args .list)) (start c .args .records) ≡ 0
 accepted c = sym (c .before .layout-refusal .ensures) ∙ c .if1 .left
 
-layout-refusal-requires : tie.Need-layout-refusal-requires
-layout-refusal-requires c κs = search needs
-
-blank-nodes-requires : tie.Need-blank-nodes-requires
-blank-nodes-requires c κs = search needs
-
 returns : tie.Need-returns
 returns c = laid-refused _ _ _ _ (c .before .before .layout-refusal .ensures) (c .before .if1 .taken) (c .blank-nodes .ensures)
 
@@ -32,10 +26,4 @@ returns-2 c = laid-larger _ _ _ _ (accepted (c .before)) (c .accepted-layout .en
 
 pub laid-out-spec : {M : Type 1} → statement M
 laid-out-spec =
-    tie.close
-    (tie.spec
-    layout-refusal-requires
-    blank-nodes-requires
-    returns
-    accepted-layout-requires
-    returns-2)
+    tie.close (tie.spec (λ c κs. search needs) (λ c κs. search needs) returns accepted-layout-requires returns-2)

@@ -5,15 +5,6 @@ use Rattle.laying.proofs.RecordLaws.{record-made}
 use Rattle.laying.proofs.laid.record_at.Statement.{statement}
 use Rattle.laying.proofs.laid.record_at.Tie as tie
 
-document-parent-requires : tie.Need-document-parent-requires
-document-parent-requires c κs = search needs
-
-summary-of-requires : tie.Need-summary-of-requires
-summary-of-requires c κs = search needs
-
-document-label-requires : tie.Need-document-label-requires
-document-label-requires c κs = search needs
-
 returns : tie.Need-returns
 returns c =
     let a = c .before .before .before .before .before .args in
@@ -21,5 +12,4 @@ returns c =
 
 pub record-at-spec : {M : Type 1} → statement M
 record-at-spec =
-    tie.close
-    (tie.spec document-parent-requires summary-of-requires document-label-requires returns)
+    tie.close (tie.spec (λ c κs. search needs) (λ c κs. search needs) (λ c κs. search needs) returns)

@@ -16,26 +16,8 @@ Inv-loop w on count nodes₀ i₀ nodes i = FilledUpTo (λ (k : ℕ). nodeRecord
 abbrev μ-loop : tie.MeasureT-loop
 μ-loop w on count nodes₀ i₀ nodes i = count - i
 
-blank-nodes-requires : tie.Need-blank-nodes-requires Inv-loop μ-loop
-blank-nodes-requires c κs = search needs
-
 loop-holds : tie.Need-loop-holds Inv-loop μ-loop
 loop-holds c = filled-start (search needs)
-
-record-at-requires : tie.Need-record-at-requires Inv-loop μ-loop
-record-at-requires c κs = search needs
-
-mul-nodes : tie.Need-mul-nodes Inv-loop μ-loop
-mul-nodes c = search needs
-
-array-set-from-nodes : tie.Need-array-set-from-nodes Inv-loop μ-loop
-array-set-from-nodes c = search needs
-
-add-i : tie.Need-add-i Inv-loop μ-loop
-add-i c = search needs
-
-loop-less : tie.Need-loop-less Inv-loop μ-loop
-loop-less c = search needs
 
 loop-again : tie.Need-loop-again Inv-loop μ-loop
 loop-again c = filled-step (c .before .before .loop .inv) (c .before .loop-test .taken) (let n = length-blank in search needs) (c .record-at .ensures)
@@ -47,16 +29,5 @@ returns c =
 
 pub records-of-spec : {M : Type 1} → statement M
 records-of-spec =
-    tie.close
-    (tie.spec
-    Inv-loop
-    μ-loop
-    blank-nodes-requires
-    loop-holds
-    record-at-requires
-    mul-nodes
-    array-set-from-nodes
-    add-i
-    loop-less
-    loop-again
-    returns)
+    tie.close (tie.spec Inv-loop μ-loop (λ c κs. search needs) loop-holds (λ c κs. search needs) (λ c. search needs) (λ c. search needs)
+    (λ c. search needs) (λ c. search needs) loop-again returns)

@@ -16,48 +16,14 @@ abbrev μ-loop : tie.MeasureT-loop
 μ-loop bytes h₀ i₀ i-end h i = i-end - i
 
 -- src/print.rt:43:5
-loop-holds : tie.Need-loop-holds Inv-loop μ-loop
-loop-holds c = search needs
-
 -- src/print.rt:44:32
-shared-slice-read-wide8 : tie.Need-shared-slice-read-wide8 Inv-loop μ-loop
-shared-slice-read-wide8 c = search needs
-
 -- src/print.rt:44:26
-wide8-requires : tie.Need-wide8-requires Inv-loop μ-loop
-wide8-requires c κs = search needs
-
 -- src/print.rt:44:9
-hash-byte-requires : tie.Need-hash-byte-requires Inv-loop μ-loop
-hash-byte-requires c κs = search needs
-
 -- src/print.rt:43:9
-add-i : tie.Need-add-i Inv-loop μ-loop
-add-i c = search needs
-
 -- src/print.rt:43:5
-loop-less : tie.Need-loop-less Inv-loop μ-loop
-loop-less c = search needs
-
 -- src/print.rt:43:5
-loop-again : tie.Need-loop-again Inv-loop μ-loop
-loop-again c = search needs
-
 -- src/print.rt:41:1
-returns : tie.Need-returns Inv-loop μ-loop
-returns c = search needs
-
 pub hash-spec : {M : Type 1} → statement M
 hash-spec =
-    tie.close
-    (tie.spec
-    Inv-loop
-    μ-loop
-    loop-holds
-    shared-slice-read-wide8
-    wide8-requires
-    hash-byte-requires
-    add-i
-    loop-less
-    loop-again
-    returns)
+    tie.close (tie.spec Inv-loop μ-loop (λ c. search needs) (λ c. search needs) (λ c κs. search needs) (λ c κs. search needs)
+    (λ c. search needs) (λ c. search needs) (λ c. search needs) (λ c. search needs))
