@@ -115,23 +115,23 @@ struct cadwezin_test_answer cadwezin_fits(const uint8_t *case_bytes, size_t case
 /* Is it a result: does some embedding of the pattern into the document take the positions 1 to k to the nodes of the list? Takes a
  * case, a selection (1 the first pattern, 2 the second), a document, which need not conform to the summary, and a list of document
  * nodes. Questions 3 to 8, 10, 12, 11, in this order. Answers holds. Writes nothing. */
-struct cadwezin_test_answer cadwezin_result(const uint8_t *case_bytes, size_t case_length, uint64_t selection,
+struct cadwezin_test_answer cadwezin_result(const uint8_t *case_bytes, size_t case_length, uint64_t number,
                                             const uint8_t *document, size_t document_length, const uint8_t *list, size_t list_length);
 
 /* Nodes at a position: which document nodes does the position have in any result? Takes a case, a selection, a document, which need
  * not conform to the summary, a position and an answer buffer. Questions 2 to 8, 10, 12. Answers how many there are, and writes their
  * count and their numbers, ascending, to the front of the answer buffer; where there are none, the count 0. */
-struct cadwezin_count_answer cadwezin_nodes(const uint8_t *case_bytes, size_t case_length, uint64_t selection, const uint8_t *document,
+struct cadwezin_count_answer cadwezin_nodes(const uint8_t *case_bytes, size_t case_length, uint64_t number, const uint8_t *document,
                                             size_t document_length, uint64_t position, uint8_t *answer, size_t answer_length);
 
 /* Paths of each node: which summary nodes does each pattern node take in some placement? Takes a case and a selection. Questions 3 to
  * 8, 12. Answers masks and counts. Writes nothing. */
-struct cadwezin_paths_answer cadwezin_paths(const uint8_t *case_bytes, size_t case_length, uint64_t selection);
+struct cadwezin_paths_answer cadwezin_paths(const uint8_t *case_bytes, size_t case_length, uint64_t number);
 
 /* Lay out a canonical document. Takes a case, a selection, a placement, which is a list of summary nodes, one for each pattern node,
  * and a table. Questions 2 to 8, 12, 13. Answers how many nodes the document has, at most 946, and writes their records to the front
  * of the table. */
-struct cadwezin_count_answer cadwezin_layout(const uint8_t *case_bytes, size_t case_length, uint64_t selection, const uint8_t *list,
+struct cadwezin_count_answer cadwezin_layout(const uint8_t *case_bytes, size_t case_length, uint64_t number, const uint8_t *list,
                                              size_t list_length, struct cadwezin_node_record *table, size_t table_length);
 
 #ifdef __cplusplus

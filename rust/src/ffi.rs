@@ -71,7 +71,7 @@ mod archive {
         pub fn cadwezin_result(
             case: *const u8,
             case_length: usize,
-            selection: u64,
+            number: u64,
             document: *const u8,
             document_length: usize,
             list: *const u8,
@@ -81,7 +81,7 @@ mod archive {
         pub fn cadwezin_nodes(
             case: *const u8,
             case_length: usize,
-            selection: u64,
+            number: u64,
             document: *const u8,
             document_length: usize,
             position: u64,
@@ -89,12 +89,12 @@ mod archive {
             answer_length: usize,
         ) -> CountAnswer;
 
-        pub fn cadwezin_paths(case: *const u8, case_length: usize, selection: u64) -> PathsAnswer;
+        pub fn cadwezin_paths(case: *const u8, case_length: usize, number: u64) -> PathsAnswer;
 
         pub fn cadwezin_layout(
             case: *const u8,
             case_length: usize,
-            selection: u64,
+            number: u64,
             list: *const u8,
             list_length: usize,
             table: *mut NodeRecord,
@@ -122,13 +122,13 @@ pub fn fits(case: &[u8], document: &[u8]) -> TestAnswer {
     unsafe { archive::cadwezin_fits(case.as_ptr(), case.len(), document.as_ptr(), document.len()) }
 }
 
-pub fn is_result(case: &[u8], selection: u64, document: &[u8], list: &[u8]) -> TestAnswer {
+pub fn is_result(case: &[u8], number: u64, document: &[u8], list: &[u8]) -> TestAnswer {
     // SAFETY: as in `verdict`.
     unsafe {
         archive::cadwezin_result(
             case.as_ptr(),
             case.len(),
-            selection,
+            number,
             document.as_ptr(),
             document.len(),
             list.as_ptr(),
@@ -139,7 +139,7 @@ pub fn is_result(case: &[u8], selection: u64, document: &[u8], list: &[u8]) -> T
 
 pub fn nodes_at(
     case: &[u8],
-    selection: u64,
+    number: u64,
     document: &[u8],
     position: u64,
     answer: &mut [u8],
@@ -149,7 +149,7 @@ pub fn nodes_at(
         archive::cadwezin_nodes(
             case.as_ptr(),
             case.len(),
-            selection,
+            number,
             document.as_ptr(),
             document.len(),
             position,
@@ -159,18 +159,18 @@ pub fn nodes_at(
     }
 }
 
-pub fn paths(case: &[u8], selection: u64) -> PathsAnswer {
+pub fn paths(case: &[u8], number: u64) -> PathsAnswer {
     // SAFETY: as in `verdict`.
-    unsafe { archive::cadwezin_paths(case.as_ptr(), case.len(), selection) }
+    unsafe { archive::cadwezin_paths(case.as_ptr(), case.len(), number) }
 }
 
-pub fn layout(case: &[u8], selection: u64, list: &[u8], table: &mut [NodeRecord]) -> CountAnswer {
+pub fn layout(case: &[u8], number: u64, list: &[u8], table: &mut [NodeRecord]) -> CountAnswer {
     // SAFETY: as in `verdict`; a record of the archive's has the layout of `NodeRecord`.
     unsafe {
         archive::cadwezin_layout(
             case.as_ptr(),
             case.len(),
-            selection,
+            number,
             list.as_ptr(),
             list.len(),
             table.as_mut_ptr(),
