@@ -68,7 +68,7 @@ pub fn subset64(a: u64, b: u64) -> bool
 }
 
 // A count as an index.
-fn wide(n: u32) -> usize
+fn index(n: u32) -> usize
     ensures { λ r. ⌜ r ≡ n ⌝ }
 {
     n as usize
@@ -78,12 +78,12 @@ fn wide(n: u32) -> usize
 pub fn count64(m: u64) -> usize
     ensures { λ r. ⌜ r ≡ ones m ⌝ }
 {
-    wide(u64::count_ones(m))
+    index(u64::count_ones(m))
 }
 
 // The least member, or 64 where there is none.
 pub fn first64(m: u64) -> usize
     ensures { λ r. ⌜ r ≡ trailingZeros 64 m ⌝ }
 {
-    wide(u64::trailing_zeros(m))
+    index(u64::trailing_zeros(m))
 }

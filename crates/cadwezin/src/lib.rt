@@ -86,7 +86,7 @@ pub extern "C" fn cadwezin_fits(case: &[u8], document: &[u8]) -> TestAnswer
     fits_call(case, document)
 }
 
-// Is the list a result of the pattern that selection names, in the document?
+// Is the list a result of the pattern that the number names, in the document?
 #[no_mangle]
 pub extern "C" fn cadwezin_result(
     case: &[u8],
@@ -116,7 +116,7 @@ pub extern "C" fn cadwezin_nodes(
     nodes_call(case, number, document, position, answer)
 }
 
-// The paths of each node of the pattern that selection names.
+// The paths of each node of the pattern that the number names.
 #[no_mangle]
 pub extern "C" fn cadwezin_paths(case: &[u8], number: u64) -> PathsAnswer
     ensures { λ r. ⌜ (r .refused ≡ pathsCall (now (case .entry)) number .refused)

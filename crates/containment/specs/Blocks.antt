@@ -19,27 +19,27 @@ upIn t x = getD t (1024 + x) 0
 abbrev pub fittingIn : List ℕ → ℕ → ℕ
 fittingIn t x = getD t (1088 + x) 0
 
-abbrev pub closedIn : List ℕ → ℕ → ℕ
-closedIn t x = getD t (1152 + x) 0
+abbrev pub closedSetIn : List ℕ → ℕ → ℕ
+closedSetIn t x = getD t (1152 + x) 0
 
 -- by position: the pattern nodes with it or none
 abbrev pub allowedIn : List ℕ → ℕ → ℕ
 allowedIn t n = getD t (1216 + n) 0
 
 -- the pattern nodes that hang by a descendant edge
-abbrev pub deepIn : List ℕ → ℕ
-deepIn t = getD t 1232 0
+abbrev pub deepSetIn : List ℕ → ℕ
+deepSetIn t = getD t 1232 0
 
 -- by byte: the pattern nodes all of whose children among the first eight nodes, or the other eight, are in it
-abbrev pub lowIn : List ℕ → ℕ → ℕ
-lowIn t b = getD t (1248 + b) 0
+abbrev pub lowHalfIn : List ℕ → ℕ → ℕ
+lowHalfIn t b = getD t (1248 + b) 0
 
-abbrev pub highIn : List ℕ → ℕ → ℕ
-highIn t b = getD t (1504 + b) 0
+abbrev pub highHalfIn : List ℕ → ℕ → ℕ
+highHalfIn t b = getD t (1504 + b) 0
 
 abbrev pub setsIn : List ℕ → Sets
 setsIn t =
-    record { up = upIn t; fitting = fittingIn t; closed = closedIn t; allowed = allowedIn t; low = lowIn t; high = highIn t; deep = deepIn t }
+    record { up = upIn t; fitting = fittingIn t; closed = closedSetIn t; allowed = allowedIn t; low = lowHalfIn t; high = highHalfIn t; deep = deepSetIn t }
 
 -- ---- `Masks`, 1,169 numbers, of the summary and the first pattern. From 0, by cell: in how many ways a node and all below it can be
 -- placed, cut at the cap

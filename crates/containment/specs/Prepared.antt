@@ -14,7 +14,7 @@ use Rattle.model.specs.Quick.{closed}
 use Rattle.matching.specs.Matching.{childrenIn}
 use Rattle.containment.specs.Blocks.{upIn, capIn, setsIn, candidatesIn}
 use Rattle.containment.specs.Judging.{fullBy, Sets}
-use Rattle.containment.specs.Sets.{mayHold, partTable}
+use Rattle.containment.specs.Sets.{mayHold, pathTable}
 use Rattle.containment.specs.Stepping.{Candidates}
 
 -- what one node takes
@@ -54,6 +54,6 @@ pub record SecondMade (S : Summary) (Q : Pattern) (t : List ℕ) : Type 0 where
 
 -- the block of a summary and a first pattern holds what stepping takes, if `parts` has the pattern's paths; no ways are counted yet
 pub record MasksMade (S : Summary) (parts : List ℕ) (cap : ℕ) (m : List ℕ) : Type 0 where
-  pub sets : (P : Pattern) → length P ≤ 16 → parts ≡ partTable S P → StepSets S P (candidatesIn m)
+  pub sets : (P : Pattern) → length P ≤ 16 → parts ≡ pathTable S P → StepSets S P (candidatesIn m)
   pub most : capIn m ≡ cap
   pub cells : (i : ℕ) → i < 1024 → getD m i 0 ≡ 0

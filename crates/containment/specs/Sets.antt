@@ -11,11 +11,10 @@ use Rattle.model.specs.Lists.{upFrom, maskBelow}
 use Rattle.model.specs.Summary.{Summary, noSummaryRecord, summaryParent, summaryLabel}
 use Rattle.model.specs.Pattern.{Pattern, patternLabel, descends, position, labelFits}
 use Rattle.model.specs.Embeddings.{pathMask}
-use Rattle.model.specs.Quick.{hangsFrom}
 use Rattle.model.specs.Bytes.{writtenAtFront}
 use Rattle.containment.specs.Judging.{gather, Sets, offersBy}
-use Rattle.containment.specs.declared.sets.Wanted.{Wanted}
-use Rattle.containment.specs.declared.sets.Wanted.the-variants.{Label, Position, Deep}
+use Rattle.containment.specs.declared.sets.Asked.{Asked}
+use Rattle.containment.specs.declared.sets.Asked.the-variants.{Label, Position, Deep}
 
 -- f's values at 0 to n - 1, then zeros, k entries in all
 abbrev pub tableOf : (ℕ → ℕ) → ℕ → ℕ → List ℕ
@@ -25,14 +24,14 @@ tableOf f n k = writtenAtFront (map f (upFrom 0 n)) (replicate k 0)
 pub record Put (from : ℕ) (part before after : List ℕ) : Type 0 where
   pub copy : after ≡ paste before from part (length part)
 
-pub record Filled (n v : ℕ) (before after : List ℕ) : Type 0 where
+pub record FilledFront (n v : ℕ) (before after : List ℕ) : Type 0 where
   pub copy : after ≡ writtenAtFront (map (λ _. v) (upFrom 0 n)) before
 
 -- ---- the first pattern
 
 -- by node, its paths
-abbrev pub partTable : Summary → Pattern → List ℕ
-partTable S P = map (pathMask S P) (upFrom 0 16)
+abbrev pub pathTable : Summary → Pattern → List ℕ
+pathTable S P = map (pathMask S P) (upFrom 0 16)
 
 -- ---- the second pattern
 
@@ -41,18 +40,14 @@ abbrev pub mayHold : Pattern → ℕ → ℕ → Bool
 mayHold Q n p = eqb (position Q p) 0 || eqb (position Q p) n
 
 -- p's label fits, its position is the one or none, or it hangs by a descendant edge
-abbrev pub wantedBy : Pattern → Wanted → ℕ → Bool
-wantedBy Q (Label l) p = labelFits (patternLabel Q p) l
-wantedBy Q (Position n) p = mayHold Q n p
-wantedBy Q Deep p = descends Q p
+abbrev pub askedBy : Pattern → Asked → ℕ → Bool
+askedBy Q (Label l) p = labelFits (patternLabel Q p) l
+askedBy Q (Position n) p = mayHold Q n p
+askedBy Q Deep p = descends Q p
 
 -- the nodes of which that is so
-unfoldable pub wantedSet : Pattern → Wanted → ℕ
-wantedSet Q w = maskBelow (wantedBy Q w) (length Q)
-
--- by node, its children
-abbrev pub kidTable : Pattern → List ℕ
-kidTable Q = map (λ p. maskBelow (hangsFrom Q p) (length Q)) (upFrom 0 16)
+unfoldable pub askedSet : Pattern → Asked → ℕ
+askedSet Q w = maskBelow (askedBy Q w) (length Q)
 
 -- of n nodes those whose children, from the bit that shift stands for on, are all in byte b; kids has each node's children
 unfoldable pub byteSet : List ℕ → ℕ → ℕ → ℕ → ℕ
@@ -60,10 +55,10 @@ byteSet kids n shift b = maskBelow (λ p. eqb (bitAnd (getD kids p 0 / shift % 2
 
 -- by summary node, by position, by byte
 abbrev pub fittingTable : Summary → Pattern → List ℕ
-fittingTable S Q = tableOf (λ x. wantedSet Q (Label (summaryLabel S x))) (length S) 64
+fittingTable S Q = tableOf (λ x. askedSet Q (Label (summaryLabel S x))) (length S) 64
 
 abbrev pub allowedTable : Pattern → List ℕ
-allowedTable Q = tableOf (λ n. wantedSet Q (Position n)) 9 16
+allowedTable Q = tableOf (λ n. askedSet Q (Position n)) 9 16
 
 abbrev pub byteTable : List ℕ → ℕ → ℕ → List ℕ
 byteTable kids n shift = tableOf (byteSet kids n shift) 256 256

@@ -28,7 +28,7 @@ pub record Answered (b : List ℕ) (L tally : ℕ) (before after : List ℕ) (an
   pub outcome : outcomeOf answer after total ≡ verdictCall b L tally before
   pub demand3 : verdictRefusal b L tally (length before) ≡ 0 → Demand3 (caseOf b) L tally before (outcomeOf answer after total)
 
--- the answer that a verdict over columns is, and its tried
+-- the answer that a verdict is, and its tried
 abbrev pub asAnswer : Containment → Answer
 asAnswer (run.Contained tried) = Contained tried
 asAnswer (run.NotContained tried) = NotContained tried

@@ -17,7 +17,7 @@ use Rattle.model.proofs.ListLaws.{bool-ext, and-intro, and-left, and-right, all
 use Rattle.model.proofs.Paths.{pathIn}
 use Rattle.model.proofs.Fitting.{rooted-exact, paths-inside-exact, strong-kept-exact}
 use Rattle.bits.proofs.MaskLaws.{subset-members, members-subset}
-use Rattle.fitting.specs.Steps.{OnPaths, Gathered, givesPath, givesStrong, keptIn}
+use Rattle.fitting.specs.Steps.{OnPaths, Gathered, givesPath, givesStrong, strongKeptIn}
 use Rattle.fitting.proofs.GatherLaws.{gathered-exact}
 
 -- any number is below two to its power
@@ -46,7 +46,7 @@ module _ (S : Summary) (W : Document) (tree : IsTree W) where
   module _ {path : List ℕ} (on : OnPaths S W path (length W)) {kids needed : List ℕ} (rows : Gathered W (givesPath path) kids)
       (strong : Gathered (asDocument S) (givesStrong S) needed) where
     -- one row within another
-    row-kept : (v : ℕ) → v < length W → keptIn path kids needed v ≡ strongKept S W v
+    row-kept : (v : ℕ) → v < length W → strongKeptIn path kids needed v ≡ strongKept S W v
     row-kept v h = ap (λ (s : ℕ). eqb (bitAnd (getD needed s 0) b) (getD needed s 0)) (on .same v h) ∙ bool-ext (eqb (bitAnd a b) a) (strongKept S W v) forth back
       where
         a : ℕ
@@ -75,7 +75,7 @@ module _ (S : Summary) (W : Document) (tree : IsTree W) where
             let r = strong-kept-exact S W v .0 e t (edge t (gathered-exact strong (pathIn S W v) t .0 h)) in
             gathered-exact rows v t .1 (r .0, r .1, eq-eqb t (getD path (r .0) 0) (sym (on .same (r .0) (r .1 .inside) ∙ r .2)))))
 
-    pub all-inside : {r : Bool} → r ≡ allOf (keptIn path kids needed) (upFrom 0 (length W)) → r ≡ fits S W
+    pub all-inside : {r : Bool} → r ≡ allOf (strongKeptIn path kids needed) (upFrom 0 (length W)) → r ≡ fits S W
     all-inside e =
-        e ∙ all-agree (keptIn path kids needed) (strongKept S W) (upFrom 0 (length W)) (λ v m. let h = upFrom-mem 0 (length W) v m in row-kept v (omega arith))
+        e ∙ all-agree (strongKeptIn path kids needed) (strongKept S W) (upFrom 0 (length W)) (λ v m. let h = upFrom-mem 0 (length W) v m in row-kept v (omega arith))
         ∙ decided true (paths-inside-exact S W .1 (λ v h. subst (λ (s : ℕ). s < length S) (on .same v h) (on .inside v h)))

@@ -18,7 +18,7 @@ use Rattle.model.specs.Fitting.{childLabelled}
 use Rattle.model.proofs.ListLaws.{first-miss, upFrom-mem, and-left}
 use Rattle.model.proofs.TreeLaws.{length-asDocument, test-child, rooted-lt}
 use Rattle.model.proofs.Paths.{pathIn, path-root, path-next}
-use Rattle.fitting.specs.Steps.{labelledAt, OnPaths, Filled}
+use Rattle.fitting.specs.Steps.{labelledAt, OnPaths, PathsFilled}
 use Rattle.fitting.proofs.LoopLaws.{first-at}
 
 -- ---- the child with a label
@@ -123,11 +123,11 @@ module _ {S : Summary} {W : Document} {path : List ℕ} where
       here = getD-set-same path i x 0 (omega arith)
 
   -- all of them do
-  pub filling-end : {i : ℕ} → Filling S W path i → length W ≤ i → Filled S W path true
+  pub filling-end : {i : ℕ} → Filling S W path i → length W ≤ i → PathsFilled S W path true
   filling-end {i} f h =
       let done : i ≡ length W = omega arith in
       record { all = λ _. subst (λ (k : ℕ). OnPaths S W path k) done (f .on); none = λ e. absurd (false≢true (sym e)) }
 
   -- or a node has no summary node
-  pub filling-stop : {i x n : ℕ} → i < length W → x ≡ pathIn S W i → x ≡ n → n ≡ length S → Filled S W path false
+  pub filling-stop : {i x n : ℕ} → i < length W → x ≡ pathIn S W i → x ≡ n → n ≡ length S → PathsFilled S W path false
   filling-stop {i} {x} {n} h e f g = record { all = λ e. absurd (false≢true e); none = λ _. (i, h, omega arith) }

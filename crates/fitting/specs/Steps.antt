@@ -35,7 +35,7 @@ pub record OnPaths (S : Summary) (W : Document) (path : List ℕ) (i : ℕ) : Ty
   pub inside : (v : ℕ) → v < i → getD path v 0 < length S
 
 -- it has those of all, or some document node has none
-pub record Filled (S : Summary) (W : Document) (path : List ℕ) (found : Bool) : Type 0 where
+pub record PathsFilled (S : Summary) (W : Document) (path : List ℕ) (found : Bool) : Type 0 where
   pub all : found ≡ true → OnPaths S W path (length W)
   pub none : found ≡ false → (v : ℕ) × (v < length W) × (length S ≤ pathIn S W v)
 
@@ -52,5 +52,5 @@ abbrev pub givesStrong : Summary → ℕ → ℕ → Bool
 givesStrong S j t = eqb (getD S j noSummaryRecord .strong) 1 && eqb t j
 
 -- what the path of document node v needs is among the paths of its children
-abbrev pub keptIn : List ℕ → List ℕ → List ℕ → ℕ → Bool
-keptIn path kids needed v = eqb (bitAnd (getD needed (getD path v 0) 0) (getD kids v 0)) (getD needed (getD path v 0) 0)
+abbrev pub strongKeptIn : List ℕ → List ℕ → List ℕ → ℕ → Bool
+strongKeptIn path kids needed v = eqb (bitAnd (getD needed (getD path v 0) 0) (getD kids v 0)) (getD needed (getD path v 0) 0)

@@ -18,7 +18,7 @@ ghost use Rattle.model.specs.Limits.{maxDocument};
 ghost use Rattle.model.specs.Bytes.{documentOf};
 ghost use Rattle.model.specs.Fitting.{childLabelled};
 ghost use Rattle.format.specs.Given.{summaryIn, SummaryGiven, DocumentGiven};
-ghost use Rattle.fitting.specs.Steps.{Cleared, labelledAt, IsPath, OnPaths, Filled};
+ghost use Rattle.fitting.specs.Steps.{Cleared, labelledAt, IsPath, OnPaths, PathsFilled};
 
 // Summary node t has parent s and label l.
 fn is_labelled(case: &[u8], t: SummaryNode, s: SummaryNode, l: u16) -> bool
@@ -76,7 +76,7 @@ fn path_of(case: &[u8], w: &[u8], path: &Paths, v: DocumentNode) -> SummaryNode
 // The path map goes to the table, up to the first node with no summary node. The result is whether there is no such node.
 pub fn fill_paths(case: &[u8], w: &[u8], path: &mut Paths) -> bool
     requires { ⌜ SummaryGiven (now case) × DocumentGiven (now w) × Cleared maxDocument (now path) ⌝ }
-    ensures { λ r. ⌜ Filled (summaryIn (now (case .entry))) (documentOf (now (w .entry))) (now (path .exit)) r ⌝ }
+    ensures { λ r. ⌜ PathsFilled (summaryIn (now (case .entry))) (documentOf (now (w .entry))) (now (path .exit)) r ⌝ }
 {
     let n = summary_count(case);
     let count = document_count(w);

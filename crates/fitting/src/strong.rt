@@ -20,7 +20,7 @@ ghost use Rattle.model.specs.Bytes.{documentOf};
 ghost use Rattle.model.specs.Lists.{upFrom, allOf};
 ghost use Rattle.model.specs.Summary.{asDocument};
 ghost use Rattle.format.specs.Given.{summaryIn, SummaryGiven, DocumentGiven};
-ghost use Rattle.fitting.specs.Steps.{Cleared, Gathered, givesPath, givesStrong, keptIn};
+ghost use Rattle.fitting.specs.Steps.{Cleared, Gathered, givesPath, givesStrong, strongKeptIn};
 
 // Each node but the root puts its path into its parent's row.
 pub fn child_paths(w: &[u8], path: &Paths, kids: &mut Kids)
@@ -51,7 +51,7 @@ pub fn strong_children(case: &[u8], needed: &mut Needed)
 pub fn all_kept(w: &[u8], path: &Paths, kids: &Kids, needed: &Needed) -> bool
     requires { ⌜ DocumentGiven (now w) ⌝ }
     requires { ⌜ ((v : ℕ) → v < length (documentOf (now w)) → getD (now path) v 0 < maxSummary) ⌝ }
-    ensures { λ r. ⌜ r ≡ allOf (keptIn (now (path .entry)) (now (kids .entry)) (now (needed .entry))) (upFrom 0 (length (documentOf (now (w .entry))))) ⌝ }
+    ensures { λ r. ⌜ r ≡ allOf (strongKeptIn (now (path .entry)) (now (kids .entry)) (now (needed .entry))) (upFrom 0 (length (documentOf (now (w .entry))))) ⌝ }
 {
     let count = document_count(w);
     for v in 0..count {

@@ -19,6 +19,13 @@ pub fn wide(x: u16) -> usize
     x as usize
 }
 
+// An index as a number of the largest width.
+pub fn wide64(x: usize) -> u64
+    ensures { λ r. ⌜ r ≡ x ⌝ }
+{
+    x as u64
+}
+
 // Field i, which the slice holds whole.
 pub fn field(s: &[u8], i: usize) -> usize
     requires { do ⌜ 2 * i + 1 < (← ⟦s.len()⟧) ⌝ }

@@ -21,7 +21,7 @@ use Rattle.model.proofs.Masks.{mask-none}
 use Rattle.bits.proofs.MaskLaws.{mask-agree, mask-or, any-cons}
 use Rattle.matching.specs.Matching.{fitsAt, offersAt, offered, partAt}
 use Rattle.matching.specs.Wanted.{deepIn, countIn, Wants, markPin, fitsBy}
-use Rattle.matching.specs.Tables.{partTable, Cleared, settleAt}
+use Rattle.matching.specs.Tables.{partTable, AllZero, settleAt}
 use Rattle.matching.proofs.PartLaws.{offered-elim, offered-intro, part-fits}
 use Rattle.matching.proofs.TurnLaws.{offerUp-root, offerUp-parent, entries-front, set-here, set-else}
 use Rattle.matching.proofs.WantedLaws.{fits-mask, offers-mask}
@@ -83,7 +83,7 @@ pub record Settling (Q : Pattern) (W : Document) (pin : ℕ → ℕ → Bool) (t
   pub waiting : (v : ℕ) → v < i → getD t v 0 ≡ maskBelow (offeredFrom Q W pin i v) (length Q)
   pub after : (v : ℕ) → length W ≤ v → getD t v 0 ≡ getD t₀ v 0
 
-pub settling-start : (Q : Pattern) (W : Document) (pin : ℕ → ℕ → Bool) (t : List ℕ) {n : ℕ} → Cleared t → n ≡ length W → Settling Q W pin t t n
+pub settling-start : (Q : Pattern) (W : Document) (pin : ℕ → ℕ → Bool) (t : List ℕ) {n : ℕ} → AllZero t → n ≡ length W → Settling Q W pin t t n
 settling-start Q W pin t {n} z e =
     record {
       turns = omega arith;

@@ -30,8 +30,8 @@ abbrev pub TreeLent : ℕ → List ℕ → Type 0
 TreeLent width t = (most : ℕ) × TreeGiven width t most
 
 -- a table of zeros
-abbrev pub Cleared : List ℕ → Type 0
-Cleared t = (v : ℕ) → getD t v 0 ≡ 0
+abbrev pub AllZero : List ℕ → Type 0
+AllZero t = (v : ℕ) → getD t v 0 ≡ 0
 
 -- the table of the pattern whose block is w, over the tree in t, stands at the front, the rest untouched
 abbrev pub HoldsParts : ℕ → List ℕ → List ℕ → List ℕ → List ℕ → Type 0

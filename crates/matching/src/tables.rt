@@ -15,7 +15,7 @@ ghost use lib.ListN.{length, getD, set};
 ghost use Rattle.model.specs.Tree.{parentOf};
 ghost use Rattle.format.specs.Given.{treeOf};
 ghost use Rattle.matching.specs.Wanted.{Wanting};
-ghost use Rattle.matching.specs.Tables.{TreeLent, Cleared, HoldsParts, HoldsStands, offerUp, settleAt, leftAt, leaveAt};
+ghost use Rattle.matching.specs.Tables.{TreeLent, AllZero, HoldsParts, HoldsStands, offerUp, settleAt, leftAt, leaveAt};
 
 // What node v offers goes to its parent.
 fn offer_up(t: &[u8], width: usize, v: usize, offer: u16, table: &mut [u16])
@@ -43,7 +43,7 @@ fn settle(t: &[u8], width: usize, v: usize, wanted: &Wanted, table: &mut [u16])
 // Where the part of the pattern from a node down embeds, each node where its mark lets it. The table is lent cleared.
 pub fn parts(t: &[u8], width: usize, wanted: &Wanted, table: &mut [u16])
     requires { ⌜ TreeLent width (now t) × Wanting (now wanted) ⌝ }
-    requires { ⌜ (length (treeOf width (now t)) ≤ length (now table)) × Cleared (now table) ⌝ }
+    requires { ⌜ (length (treeOf width (now t)) ≤ length (now table)) × AllZero (now table) ⌝ }
     ensures { λ _. ⌜ HoldsParts width (now (t .entry)) (now (wanted .entry)) (now (table .entry)) (now (table .exit)) ⌝ }
 {
     let mut v = tree_count(t, width);
@@ -78,7 +78,7 @@ fn descend(v: usize, may: u16, wanted: &Wanted, table: &mut [u16], left: &mut [u
 // Where a node stands in a whole embedding, each node where its mark lets it. The table is lent cleared; left takes what each node
 // leaves to its children.
 pub fn stands(t: &[u8], width: usize, wanted: &Wanted, table: &mut [u16], left: &mut [u16])
-    requires { ⌜ TreeLent width (now t) × Wanting (now wanted) × Cleared (now table) ⌝ }
+    requires { ⌜ TreeLent width (now t) × Wanting (now wanted) × AllZero (now table) ⌝ }
     requires { ⌜ (length (treeOf width (now t)) ≤ length (now table)) × (length (treeOf width (now t)) ≤ length (now left)) ⌝ }
     ensures { λ _. ⌜ HoldsStands width (now (t .entry)) (now (wanted .entry)) (now (table .entry)) (now (table .exit)) ⌝ }
 {

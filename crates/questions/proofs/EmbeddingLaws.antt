@@ -24,7 +24,7 @@ use Rattle.format.specs.Given.{summaryIn, patternAt}
 use Rattle.format.proofs.GivenLaws.{given-summary}
 use Rattle.format.proofs.ListLaws.{list-count}
 use Rattle.questions.specs.Numbered.{numberedAt}
-use Rattle.questions.specs.Images.{imageReached, imageKept, keptIn, Images}
+use Rattle.questions.specs.Images.{imageReached, imageKept, imageKeptIn, Images}
 use Rattle.questions.proofs.NumberedLaws.{numbered-pattern}
 use Rattle.questions.proofs.RefusalLaws.{accepted}
 use Rattle.questions.proofs.AcceptedLaws.{given-numbered}
@@ -204,7 +204,7 @@ module _ (b : List ℕ) (s at : ℕ) (l : List ℕ) (accepts : refusal (caseQues
       record { summary = given-summary (accepted b accepts); pattern = given-numbered (accepted b accepts) s p; count = list-count l ∙ half ∙ e }
 
   -- 13, by the fields
-  pub embedding-asked : (r : Bool) → r ≡ (eqb (length l % 2) 0 && (eqb (length l / 2) (length (patternAt b at)) && allOf (keptIn b at l) (upFrom 0 (length (patternAt b at)))))
+  pub embedding-asked : (r : Bool) → r ≡ (eqb (length l % 2) 0 && (eqb (length l / 2) (length (patternAt b at)) && allOf (imageKeptIn b at l) (upFrom 0 (length (patternAt b at)))))
       → r ≡ isSummaryEmbedding (caseOf b) s l
   unfolding isSummaryEmbedding isWholeList
   embedding-asked r e =

@@ -25,8 +25,8 @@ imageKept S P es q = ltb (imageIn es q) (length S) && labelFits (patternLabel P 
 abbrev pub reachedIn : List ℕ → ℕ → List ℕ → ℕ → Bool
 reachedIn b at l = imageReached (summaryIn b) (patternAt b at) (listOf l)
 
-abbrev pub keptIn : List ℕ → ℕ → List ℕ → ℕ → Bool
-keptIn b at l = imageKept (summaryIn b) (patternAt b at) (listOf l)
+abbrev pub imageKeptIn : List ℕ → ℕ → List ℕ → ℕ → Bool
+imageKeptIn b at l = imageKept (summaryIn b) (patternAt b at) (listOf l)
 
 -- what the test asks of the bytes: the two trees, and an image for each pattern node
 pub record Images (b : List ℕ) (at : ℕ) (l : List ℕ) : Type 0 where

@@ -12,7 +12,7 @@ ghost use Rattle.model.specs.Embeddings.{childTest, belowTest, edgeTest, imageI
 ghost use Rattle.model.specs.Bytes.{caseOf, listOf, WholeSection};
 ghost use Rattle.model.specs.Questions.{isSummaryEmbedding, refusal, caseQuestions};
 ghost use Rattle.format.specs.Given.{summaryIn, patternAt, SummaryGiven};
-ghost use Rattle.questions.specs.Images.{reachedIn, keptIn, Images};
+ghost use Rattle.questions.specs.Images.{reachedIn, imageKeptIn, Images};
 use crate::pattern::numbered_at;
 use format::field::field;
 use format::labels::label_fits;
@@ -94,7 +94,7 @@ pub fn image_reached(b: &[u8], at: usize, l: &[u8], q: PatternNode) -> bool
 pub fn image_kept(b: &[u8], at: usize, l: &[u8], q: PatternNode) -> bool
     requires { ⌜ Images (now b) at (now l) ⌝ }
     requires { ⌜ q .0 < length (patternAt (now b) at) ⌝ }
-    ensures { λ r. ⌜ r ≡ keptIn (now (b .entry)) at (now (l .entry)) (q .0) ⌝ }
+    ensures { λ r. ⌜ r ≡ imageKeptIn (now (b .entry)) at (now (l .entry)) (q .0) ⌝ }
 {
     let v = image_at(l, q);
     if summary_count(b) <= v.0 {
@@ -109,7 +109,7 @@ pub fn image_kept(b: &[u8], at: usize, l: &[u8], q: PatternNode) -> bool
 // Every node does.
 pub fn images_kept(b: &[u8], at: usize, l: &[u8]) -> bool
     requires { ⌜ Images (now b) at (now l) ⌝ }
-    ensures { λ r. ⌜ r ≡ allOf (keptIn (now (b .entry)) at (now (l .entry))) (upFrom 0 (length (patternAt (now (b .entry)) at))) ⌝ }
+    ensures { λ r. ⌜ r ≡ allOf (imageKeptIn (now (b .entry)) at (now (l .entry))) (upFrom 0 (length (patternAt (now (b .entry)) at))) ⌝ }
 {
     let n = pattern_count(b, at);
     for q in 0..n {

@@ -11,10 +11,10 @@ use calls::paths::paths_call;
 use calls::result::result_call;
 use deciding::Answer;
 use deciding::verdict_call;
+use format::field::wide64;
 use laying::laid::NodeRecord;
 use laying::laid::laid_out;
 use read::Head;
-use read::wide;
 
 // A number of the vector as a length.
 fn size(n: u64) -> usize {
@@ -47,7 +47,7 @@ fn run_verdict(h: Head, case: &[u8], answer: &mut [u8]) {
     print_answer(a);
     print::word(b" tally");
     print::number(tally);
-    print::lent(wide(answer.len()), print::hash(answer));
+    print::lent(wide64(answer.len()), print::hash(answer));
 }
 
 fn run_fits(case: &[u8], document: &[u8]) {
@@ -74,7 +74,7 @@ fn run_nodes(h: Head, case: &[u8], document: &[u8], answer: &mut [u8]) {
     print::number(r.refused);
     print::word(b" count");
     print::number(r.count);
-    print::lent(wide(answer.len()), print::hash(answer));
+    print::lent(wide64(answer.len()), print::hash(answer));
 }
 
 fn print_all(numbers: &[u64]) {
@@ -142,8 +142,8 @@ fn run_layout(
     print::word(b" refused");
     print::number(r.refused);
     print::word(b" count");
-    print::number(wide(r.count));
-    print::lent(wide(parent.len()), print::hash_table(parent, at, label));
+    print::number(wide64(r.count));
+    print::lent(wide64(parent.len()), print::hash_table(parent, at, label));
 }
 
 // A call that is lent an answer buffer.

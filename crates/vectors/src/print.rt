@@ -1,5 +1,7 @@
 // What a vector's line is made of: words, numbers and the hash of a buffer or table afterwards.
 
+use format::field::wide;
+use format::field::wide64;
 use std::num::wrapping_add_u64;
 
 // FNV-1a of no bytes.
@@ -62,16 +64,12 @@ fn hash_field(h: u64, field: u64) -> u64 {
     hash_byte(hash_byte(h, field % 256), field / 256)
 }
 
-fn wide16(x: u16) -> u64 {
-    x as u64
-}
-
 // Number i of a column, or 0 where it ends before.
 fn element(column: &[u16], i: usize) -> u64 {
     if column.len() <= i {
         return 0;
     }
-    wide16(column[i])
+    wide64(wide(column[i]))
 }
 
 // The hash of a table in columns, record by record.

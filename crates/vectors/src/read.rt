@@ -1,6 +1,7 @@
 // Vectors from standard input: one call's numbers and byte strings after another.
 
 use format::field::field;
+use format::field::wide64;
 ghost use mathlib.Core.Path.{_≡_};
 ghost use Prim.Native.Nat.{_+_, _*_, _<_, _≤_};
 ghost use lib.ListN.{length};
@@ -15,26 +16,20 @@ pub struct Head {
     pub length: u64,
 }
 
-pub fn wide(x: usize) -> u64
-    ensures { λ r. ⌜ r ≡ x ⌝ }
-{
-    x as u64
-}
-
 // The 64-bit number whose first field is field i, low byte first.
 fn number(s: &[u8], i: usize) -> u64
     requires { ⌜ 2 * i + 8 ≤ length (now s) ⌝ }
 {
-    wide(field(s, i))
-        + 65536 * wide(field(s, i + 1))
-        + 4294967296 * wide(field(s, i + 2))
-        + 281474976710656 * wide(field(s, i + 3))
+    wide64(field(s, i))
+        + 65536 * wide64(field(s, i + 1))
+        + 4294967296 * wide64(field(s, i + 2))
+        + 281474976710656 * wide64(field(s, i + 3))
 }
 
 // The numbers of a vector's first 44 bytes.
 fn head_of(bytes: &[u8; 44]) -> Head {
     Head {
-        call: wide(field(bytes, 0)),
+        call: wide64(field(bytes, 0)),
         limit: number(bytes, 2),
         tally: number(bytes, 6),
         number: number(bytes, 10),

@@ -5,12 +5,9 @@ mod text;
 use deciding::Answer;
 use deciding::verdict_call;
 use format::field::field;
+use format::field::wide64;
 ghost use Prim.Native.Nat.{_≤_, _<_};
 ghost use lib.ListN.{length};
-
-fn wide(x: usize) -> u64 {
-    x as u64
-}
 
 // Field i of the answer buffer, or 0 past its end.
 fn shown_field(answer: &[u8], i: usize) -> usize
@@ -29,9 +26,9 @@ fn node(answer: &[u8], i: usize, out: &mut [u8], at: usize) -> usize
     ensures { λ r. ⌜ r ≤ length (now (out .entry)) ⌝ }
 {
     let mut end = text::word(out, at, b"node");
-    end = text::number(out, end, wide(i));
-    end = text::number(out, end, wide(shown_field(answer, 1 + 2 * i)));
-    end = text::number(out, end, wide(shown_field(answer, 2 + 2 * i)));
+    end = text::number(out, end, wide64(i));
+    end = text::number(out, end, wide64(shown_field(answer, 1 + 2 * i)));
+    end = text::number(out, end, wide64(shown_field(answer, 2 + 2 * i)));
     text::word(out, end, b"\n")
 }
 
@@ -55,7 +52,7 @@ fn result(answer: &[u8], from: usize, out: &mut [u8], at: usize) -> usize
 {
     let mut end = text::word(out, at, b"answer");
     for i in 0..shown_field(answer, from) {
-        end = text::number(out, end, wide(shown_field(answer, from + 1 + i)));
+        end = text::number(out, end, wide64(shown_field(answer, from + 1 + i)));
     }
     text::word(out, end, b"\n")
 }

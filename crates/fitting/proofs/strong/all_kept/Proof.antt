@@ -10,13 +10,13 @@ use lib.ListN.{getD}
 use borrow.Author.Count.{below-none, below-more}
 use borrow.Author.Tests.{not-true, not-false}
 use borrow.Author.Needs.{needs}
-use Rattle.fitting.specs.Steps.{keptIn}
+use Rattle.fitting.specs.Steps.{strongKeptIn}
 use Rattle.fitting.proofs.LoopLaws.{Passed, passed-end, passed-not}
 use Rattle.fitting.proofs.strong.all_kept.Statement.{statement}
 use Rattle.fitting.proofs.strong.all_kept.Tie as tie
 
 abbrev Inv-loop : tie.InvT-loop
-Inv-loop w path kids needed count v₀ v = (v ≤ count) × Passed (keptIn path kids needed) v
+Inv-loop w path kids needed count v₀ v = (v ≤ count) × Passed (strongKeptIn path kids needed) v
 
 abbrev μ-loop : tie.MeasureT-loop
 μ-loop w path kids needed count v₀ v = count - v
@@ -31,7 +31,7 @@ inside c =
 kept : (c : tie.After-subset64 Inv-loop μ-loop)
     → (let turn = c .before .before .before .before .before .before in
     let a = turn .before .before .before .args in
-    c .subset64 .result ≡ keptIn (now (a .path)) (now (a .kids)) (now (a .needed)) (turn .loop .v))
+    c .subset64 .result ≡ strongKeptIn (now (a .path)) (now (a .kids)) (now (a .needed)) (turn .loop .v))
 kept c =
     let path = c .before .before .before in
     let turn = path .before .before .before in

@@ -1,12 +1,12 @@
 -- `questions::embedding::images_kept` meets its contract. The loop's invariant: every node before q stands well. Assumes nothing.
 use Prim.Native.Nat.{_-_}
-use Rattle.questions.specs.Images.{keptIn}
+use Rattle.questions.specs.Images.{imageKeptIn}
 use Rattle.questions.proofs.LoopLaws.{Passed, kept}
 use Rattle.questions.proofs.embedding.images_kept.Statement.{statement}
 use Rattle.questions.proofs.embedding.images_kept.Tie as tie
 
 abbrev Inv-loop : tie.InvT-loop
-Inv-loop b at l n q₀ q = Passed (keptIn b at l) 0 q
+Inv-loop b at l n q₀ q = Passed (imageKeptIn b at l) 0 q
 
 abbrev μ-loop : tie.MeasureT-loop
 μ-loop b at l n q₀ q = n - q
