@@ -1,6 +1,6 @@
--- The loops that read the tables off: an array filled from the front, and the list of the nodes that pass a test. After i
--- turns each has what it should of the numbers below i. Assumes nothing.
-use Prim.Native.Nat.{ℕ, _+_, _/_, _≤_, _<_}
+-- What the loops that read the tables off have: zeros after what is not 0, and the list of the nodes that pass a test, of which after v
+-- turns those below v stand. Assumes nothing.
+use Prim.Native.Nat.{ℕ, _+_, _≤_, _<_}
 use mathlib.Core.Path.{_≡_, refl, sym, ap, ap₂, _∙_}
 use mathlib.Core.Bool.{Bool, true, false}
 use mathlib.Core.List.{List, [], _∷_, _++_, map, append-nil}
@@ -11,42 +11,19 @@ use lib.ListN.{length, getD, set, replicate, length-set, length-append, length-r
 use lib.Seq.{ext-getD}
 use borrow.Author.Tests.{ltb-true, ltb-false}
 use Rattle.model.specs.Lists.{upFrom, keep}
-use Rattle.model.specs.Bytes.{field, listOf, writtenAtFront}
+use Rattle.model.specs.Bytes.{listOf, writtenAtFront}
 use Rattle.model.proofs.ListLaws.{mem-at, length-map-upFrom}
 use Rattle.model.proofs.Bytes.{front-none}
 use Rattle.model.proofs.CallFacts.{ListFacts}
 use Rattle.format.proofs.RangeLaws.{upFrom-last, getD-map-below}
-use Rattle.format.proofs.FrontLaws.{fill-none, fill-more, front-set}
+use Rattle.format.proofs.FrontLaws.{front-set}
 use Rattle.matching.specs.Wanted.{SmallNumbers}
 use Rattle.matching.specs.Outcomes.{pushIf, countIf}
 use Rattle.matching.proofs.TurnLaws.{front-entry, front-after-entry, front-size, zeros-at}
 
--- ---- an array filled from the front
-
--- the first i entries are f's, the others b's
-pub record Filling (f : ℕ → ℕ) (n : ℕ) (b t : List ℕ) (i : ℕ) : Type 0 where
-  pub turns : i ≤ n
-  pub size : length t ≡ length b
-  pub front : t ≡ writtenAtFront (map f (upFrom 0 i)) b
-
-module _ (f : ℕ → ℕ) {n : ℕ} {b : List ℕ} where
-  pub filling-start : Filling f n b b 0
-  filling-start = record { turns = omega arith; size = refl; front = sym (fill-none f b) }
-
-  pub filling-step : {t : List ℕ} {i x : ℕ} → Filling f n b t i → n ≤ length b → i < n → x ≡ f i → Filling f n b (set t i x) (i + 1)
-  filling-step {t} {i} {x} s room h e =
-      record {
-        turns = omega arith;
-        size = length-set t i x ∙ s .size;
-        front = ap₂ (λ (l : List ℕ) (y : ℕ). set l i y) (s .front) e ∙ fill-more f b i (omega arith);
-      }
-
-  pub filling-end : {t : List ℕ} {i : ℕ} → Filling f n b t i → n ≤ i → t ≡ writtenAtFront (map f (upFrom 0 n)) b
-  filling-end {t} {i} s h = let e : i ≡ n = omega (arith, s .turns) in s .front ∙ ap (λ (k : ℕ). writtenAtFront (map f (upFrom 0 k)) b) e
-
 -- an array of zeros filled as far as f is not 0
-pub filling-zeros : (f : ℕ → ℕ) (n k : ℕ) → n ≤ k → ((i : ℕ) → n ≤ i → i < k → f i ≡ 0) → writtenAtFront (map f (upFrom 0 n)) (replicate k 0) ≡ map f (upFrom 0 k)
-filling-zeros f n k h none =
+pub filled-zeros : (f : ℕ → ℕ) (n k : ℕ) → n ≤ k → ((i : ℕ) → n ≤ i → i < k → f i ≡ 0) → writtenAtFront (map f (upFrom 0 n)) (replicate k 0) ≡ map f (upFrom 0 k)
+filled-zeros f n k h none =
     ext-getD 0 t (map f (upFrom 0 k)) (size ∙ sym (length-map-upFrom f 0 k)) (λ i l. (let j : i < k = omega (arith, size) in entry i j (ltb i n) refl ∙ sym (getD-map-below f k i 0 j)))
   where
     t : List ℕ
@@ -129,16 +106,6 @@ module _ {test : ℕ → Bool} {n : ℕ} {b : List ℕ} where
   listing-end {l} {count} {v} s h =
       let e : v ≡ n = omega (arith, s .turns) in
       (s .number ∙ ap (λ (k : ℕ). length (keep test (upFrom 0 k))) e, s .front ∙ ap (λ (k : ℕ). writtenAtFront (keep test (upFrom 0 k)) b) e)
-
--- ---- a list of bytes
-
-pub list-count : (b : List ℕ) → length (listOf b) ≡ length b / 2
-unfolding listOf
-list-count b = length-map-upFrom (field b) 0 (length b / 2)
-
-pub list-entry : (b : List ℕ) (i : ℕ) → i < length b / 2 → getD (listOf b) i 0 ≡ field b i
-unfolding listOf
-list-entry b i h = getD-map-below (field b) (length b / 2) i 0 h
 
 -- the numbers of a document's nodes are small
 pub list-small : {k n : ℕ} {l : List ℕ} → ListFacts k n l → n < 65536 → SmallNumbers l

@@ -1,7 +1,7 @@
 -- `matching::outcomes::path_masks` meets its contract: a node's paths are where it stands. After q turns the first q masks stand; the
 -- measure is what is left of the count. Assumes nothing.
 use Prim.Native.Nat.{_-_}
-use mathlib.Core.Path.{_∙_}
+use mathlib.Core.Path.{refl, _∙_}
 use native.Mathlib.Omega.{arith}
 use lib.ListN.{length, replicate}
 use borrow.Author.Needs.{needs}
@@ -12,13 +12,14 @@ use Rattle.format.specs.Given.{summaryIn, patternAt}
 use Rattle.format.proofs.SectionLaws.{tree-summary}
 use Rattle.format.proofs.GivenLaws.{summary-as-tree}
 use Rattle.matching.proofs.Answers.{path-read}
-use Rattle.matching.proofs.ReadLoops.{Filling, filling-start, filling-step, filling-end, filling-zeros}
+use Rattle.format.proofs.FrontLoops.{FilledUpTo, filled-start, filled-step, filled-end}
+use Rattle.matching.proofs.ReadLoops.{filled-zeros}
 use Rattle.matching.proofs.TurnLaws.{zeros-at}
 use Rattle.matching.proofs.outcomes.path_masks.Statement.{statement}
 use Rattle.matching.proofs.outcomes.path_masks.Tie as tie
 
 abbrev Inv-loop : tie.InvT-loop
-Inv-loop case p at table n m r₀ q₀ r q = Filling (pathMask (summaryIn case) (patternAt p at)) (length (patternAt p at)) (replicate 16 0) r q
+Inv-loop case p at table n m r₀ q₀ r q = FilledUpTo (pathMask (summaryIn case) (patternAt p at)) (length (patternAt p at)) (replicate 16 0) r q
 
 abbrev μ-loop : tie.MeasureT-loop
 μ-loop case p at table n m r₀ q₀ r q = m - q
@@ -29,7 +30,7 @@ stands-requires c κs =
     (((maxSummary, d), (_, c .before .before .before .wanted-of .ensures .0), zeros-at 64), (d .few, d .few))
 
 loop-holds : tie.Need-loop-holds Inv-loop μ-loop
-loop-holds c = filling-start _
+loop-holds c = filled-start refl
 
 stand-mask-requires : tie.Need-stand-mask-requires Inv-loop μ-loop
 stand-mask-requires c κs =
@@ -46,14 +47,14 @@ loop-again c =
     let counted = c .before .before .before .before .before in
     let made = counted .before .before .before .before .before .before .before in
     let s = made .before .before .before in
-    filling-step _ (c .before .before .before .loop .inv) (s .pre .1 .few) (omega arith)
+    filled-step (c .before .before .before .loop .inv) (omega arith) (s .pre .1 .few)
     (c .stand-mask .ensures ∙ path-read _ (made .wanted-of .ensures .0) summaryWidth (s .args .case .now) _ (made .wanted-of .ensures .1) (tree-summary (s .args .case .now))
     (s .pre .0 .tree) (counted .before .before .before .stands .ensures) (counted .summary-count .ensures .0) (omega arith))
 
 returns : tie.Need-returns Inv-loop μ-loop
 returns c =
     let s = c .before .before .before .before .before .before .before .before .before .before .before .before .before in
-    filling-end _ (c .before .loop .inv) (omega arith) ∙ filling-zeros _ _ 16 (s .pre .1 .few) (λ i h l. path-mask-beyond _ _ i h)
+    filled-end (c .before .loop .inv) (omega arith) ∙ filled-zeros _ _ 16 (s .pre .1 .few) (λ i h l. path-mask-beyond _ _ i h)
 
 pub path-masks-spec : {M : Type 1} → statement M
 path-masks-spec =

@@ -4,7 +4,7 @@ use mathlib.Core.Path.{sym, ap, _∙_}
 use native.Mathlib.Omega.{arith}
 use borrow.Author.Needs.{needs}
 use Rattle.matching.proofs.WantedLaws.{mark-none, mark-some}
-use Rattle.matching.proofs.ReadLoops.{list-count, list-entry}
+use Rattle.format.proofs.ListLaws.{list-count, list-entry}
 use Rattle.matching.proofs.wanted.mark_at.Statement.{statement}
 use Rattle.matching.proofs.wanted.mark_at.Tie as tie
 
