@@ -30,7 +30,6 @@ use Rattle.containment.proofs.GatherLaws.{gather-entries}
 
 module _ (S : Summary) (P Q : Pattern) (T : Sets) (C : ChainSets S Q T) (t : IsTree (asDocument S)) (p : IsPatternTree P) (small : length P ≤ 16)
     (range : (c : ℕ) → c < length P → position P c ≤ maxPosition) where
-
   -- what c passes on to its parent, where g hangs from it
   pub pass-mask : (es : List ℕ) (c : ℕ) (g : ℕ → Bool) → c < length P → Below (asDocument S) (imageIn es (patternParent P c)) (imageIn es c)
       → passBy T P es c (maskBelow g (length Q)) ≡ maskBelow (hang S Q (position P c) g (chain S (imageIn es (patternParent P c)) (imageIn es c))) (length Q)

@@ -51,7 +51,8 @@ pub fn strong_children(case: &[u8], needed: &mut Needed)
 pub fn all_kept(w: &[u8], path: &Paths, kids: &Kids, needed: &Needed) -> bool
     requires { ⌜ DocumentGiven (now w) ⌝ }
     requires { ⌜ ((v : ℕ) → v < length (documentOf (now w)) → getD (now path) v 0 < maxSummary) ⌝ }
-    ensures { λ r. ⌜ r ≡ allOf (strongKeptIn (now (path .entry)) (now (kids .entry)) (now (needed .entry))) (upFrom 0 (length (documentOf (now (w .entry))))) ⌝ }
+    ensures { λ r. ⌜ r ≡ allOf (strongKeptIn (now (path .entry)) (now (kids .entry)) (now (needed .entry)))
+        (upFrom 0 (length (documentOf (now (w .entry))))) ⌝ }
 {
     let count = document_count(w);
     for v in 0..count {

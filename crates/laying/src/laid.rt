@@ -1,9 +1,9 @@
 // The layout of the call "lay out a trial" by value: the nodes' records in an array, for a table of records that a caller lends.
 
 use canonical::lay_out;
-use format::list::read_list;
 use format::document::document_label;
 use format::document::document_parent;
+use format::list::read_list;
 use format::nodes::DocumentNode;
 use format::nodes::SummaryNode;
 use format::nodes::summary_of;
