@@ -64,7 +64,7 @@ pub fn subset16(a: u16, b: u16) -> bool
 pub fn subset64(a: u64, b: u64) -> bool
     ensures { λ r. ⌜ r ≡ eqb (bitAnd a b) a ⌝ }
 {
-    a & b == a
+    (a & b) == a
 }
 
 // A count as an index.
