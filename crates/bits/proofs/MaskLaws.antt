@@ -15,10 +15,10 @@ use lib.Dec.{eqb, eqb·suc-suc, eqb·zero-suc, eqb·suc-zero}
 use lib.Pow.{pow-pos, pow-lt, shr-lt}
 use lib.Bits.{bitAnd, bitOr, and-shr, and-mod, and-lt, and-le-l, or-shr, or-mod, or-lt, or-shifted-r, shifted-half, shifted-even}
 use borrow.Author.Tests.{eqb-true, eq-eqb}
-use Rattle.model.specs.Lists.{upFrom, anyOf, allOf, maskBelow}
+use Rattle.model.specs.Lists.{upFrom, anyOf, allOf, maskBelow, has}
 use Rattle.bits.specs.Sets.{insertIf}
 use Rattle.model.proofs.ListLaws.{bool-ext, and-right, all-below, below-all}
-use Rattle.model.proofs.Masks.{has, has-zero, has-suc, has-past, mask-lt, mask-below}
+use Rattle.model.proofs.Masks.{has-zero, has-suc, has-past, mask-lt, mask-below}
 
 -- ---- members of a mask
 

@@ -6,7 +6,7 @@ ghost use Prim.Native.Nat.{_<_, _^_};
 ghost use lib.Bits.{bitAnd, bitOr};
 ghost use lib.Count.{ones, trailingZeros};
 ghost use lib.Dec.{eqb};
-ghost use Rattle.model.proofs.Masks.{has};
+ghost use Rattle.model.specs.Lists.{has};
 ghost use Rattle.bits.specs.Sets.{insertIf};
 
 // i is in the set.

@@ -9,12 +9,12 @@ use lib.Dec.{eqb}
 use lib.ListN.{length}
 use borrow.Author.Tests.{eqb-true, eqb-false}
 use Rattle.model.specs.Limits.{maxSummary, maxCanonical}
-use Rattle.model.specs.Tree.{Document, IsTree, Child, Below, parentOf}
+use Rattle.model.specs.Tree.{Document, IsTree, Child, Below, parentOf, AtOrBelow}
 use Rattle.model.specs.Summary.{Summary, asDocument, summaryParent}
 use Rattle.model.specs.Canonical.{Spot, chain, appendChain}
 use Rattle.model.proofs.ListLaws.{length-snoc}
 use Rattle.model.proofs.TreeLaws.{below-cases, child-lt, length-asDocument}
-use Rattle.model.proofs.Chains.{AtOrBelow, end, step, way-append, at-or-below-way, chain-way}
+use Rattle.model.proofs.Chains.{end, step, way-append, at-or-below-way, chain-way}
 use Rattle.model.proofs.Segment.{chainSpot, append-chain}
 use Rattle.canonical.specs.Draft.{Draft, Drafted, appended}
 use Rattle.canonical.specs.Given.{Hanging, HangsFrom, Hung}

@@ -13,13 +13,13 @@ use lib.ListN.{length, getD, drop, set, length-set, length-map, List·getD-appen
 use lib.Seq.{sets, getD-append-seam, getD-set-same, getD-set-other, set-append-left, ext-getD}
 use borrow.Author.Tests.{eqb-true, eqb-false, eq-eqb, ne-eqb, ltb-true, ltb-false, lt-ltb}
 use Rattle.model.specs.Limits.{minTable, maxSummary, maxCanonical}
-use Rattle.model.specs.Lists.{upFrom, anyOf}
+use Rattle.model.specs.Lists.{upFrom, anyOf, has}
 use Rattle.model.specs.Summary.{Summary, summaryLabel}
 use Rattle.model.specs.Bytes.{fieldBytes, bytesOf, documentFields, sectionFields, encodeDocument, writtenAtFront}
 use Rattle.model.specs.Canonical.{Spot, rootSpot, spotParent, spotAt, spotRecord, hasChildOn}
 use Rattle.model.proofs.ListLaws.{bool-ext, and-left, and-right, any-agree, any-below, upFrom-mem, length-snoc, length-map-upFrom, getD-map}
 use Rattle.model.proofs.TreeLaws.{length-asDocument}
-use Rattle.model.proofs.Masks.{has, mask-none}
+use Rattle.model.proofs.Masks.{mask-none}
 use Rattle.model.proofs.Bytes.{length-bytes, front-length}
 use Rattle.bits.proofs.MaskLaws.{mask-has, mask-agree, mask-insert, any-snoc}
 use Rattle.format.proofs.RangeLaws.{upFrom-last, map-last, getD-map-below}

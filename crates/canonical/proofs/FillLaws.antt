@@ -11,7 +11,7 @@ use lib.Dec.{eqb, ltb}
 use lib.ListN.{length, getD}
 use borrow.Author.Tests.{lt-ltb, le-ltb, eq-eqb, ne-eqb}
 use Rattle.model.specs.Limits.{maxSummary, maxCanonical}
-use Rattle.model.specs.Lists.{upFrom, keep}
+use Rattle.model.specs.Lists.{upFrom, keep, has}
 use Rattle.model.specs.Tree.{IsTree}
 use Rattle.model.specs.Summary.{Summary, asDocument, noSummaryRecord, summaryParent}
 use Rattle.model.specs.Embeddings.{childTest}
@@ -19,7 +19,6 @@ use Rattle.model.specs.Fitting.{strongChildren}
 use Rattle.model.specs.Canonical.{Spot, rootSpot, spotAt, hasChildOn, addMissing, addAll, fillNode, fillFrom}
 use Rattle.model.proofs.ListLaws.{by-bool, length-snoc}
 use Rattle.model.proofs.TreeLaws.{length-asDocument, test-child-and, child-lt}
-use Rattle.model.proofs.Masks.{has}
 use Rattle.format.proofs.RangeLaws.{upFrom-last}
 use Rattle.canonical.specs.Draft.{Draft, Drafted, appended}
 use Rattle.canonical.specs.Given.{strongTest, Missing, Visitable, Fillable}

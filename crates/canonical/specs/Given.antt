@@ -6,12 +6,12 @@ use mathlib.Core.List.{List, map}
 use lib.Dec.{eqb}
 use lib.ListN.{length, getD, take, replicate}
 use Rattle.model.specs.Limits.{maxCanonical}
+use Rattle.model.specs.Tree.{AtOrBelow}
 use Rattle.model.specs.Summary.{Summary, asDocument, noSummaryRecord}
 use Rattle.model.specs.Pattern.{Pattern, SummaryEmbedding}
 use Rattle.model.specs.Embeddings.{imageIn, childTest}
 use Rattle.model.specs.Bytes.{encodeDocument, writtenAtFront}
 use Rattle.model.specs.Canonical.{Spot, chain, appendChain, addAll, fillNode, fillFrom, canonicalSpots, canonical, ownNodes}
-use Rattle.model.proofs.Chains.{AtOrBelow}
 use Rattle.format.specs.Given.{summaryIn, patternAt, SummaryGiven, PatternGiven}
 use Rattle.canonical.specs.Draft.{Draft, Drafted}
 use Rattle.canonical.specs.declared.LaidOut.{LaidOut}

@@ -7,10 +7,9 @@ use mathlib.Core.List.{List, List·Memᴰ}
 use native.Mathlib.Omega.{arith}
 use lib.ListN.{getD}
 use lib.Seq.{getD-set-other}
-use Rattle.model.specs.Lists.{upFrom}
+use Rattle.model.specs.Lists.{upFrom, has}
 use Rattle.model.specs.Tree.{Rooted}
 use Rattle.model.proofs.ListLaws.{upFrom-mem, keep-elim}
-use Rattle.model.proofs.Masks.{has}
 use Rattle.containment.specs.Blocks.{cell, setsIn, candidatesIn, capIn}
 use Rattle.containment.specs.Stepping.{members}
 use Rattle.containment.specs.Skipping.{joinAt, climbRow}

@@ -10,13 +10,13 @@ use lib.ListN.{length}
 use borrow.Author.Tests.{lt-ltb, le-ltb}
 use Rattle.model.specs.Limits.{maxPosition}
 use Rattle.model.specs.Lists.{maskBelow}
-use Rattle.model.specs.Tree.{Document, IsTree, parentOf, Child, Below}
+use Rattle.model.specs.Tree.{Document, IsTree, parentOf, Child, Below, AtOrBelow}
 use Rattle.model.specs.Summary.{Summary, asDocument}
 use Rattle.model.specs.Pattern.{Pattern}
 use Rattle.model.specs.Canonical.{chain}
 use Rattle.model.specs.Quick.{offers, closed, union, hang}
 use Rattle.model.proofs.TreeLaws.{child-lt, below-lt, below-cases, length-asDocument}
-use Rattle.model.proofs.Chains.{AtOrBelow, Way, end, step, below-way, chain-way, chain-self}
+use Rattle.model.proofs.Chains.{Way, end, step, below-way, chain-way, chain-self}
 use Rattle.model.proofs.QuickLaws.{hold, hang-nil, hang-cons}
 use Rattle.containment.specs.Judging.{Sets, nodeBy, climbBy, hangBy}
 use Rattle.containment.specs.Prepared.{ChainSets}

@@ -10,7 +10,7 @@ use lib.Dec.{eqb, ltb}
 use lib.ListN.{length, getD, replicate, length-replicate, getD-replicate}
 use borrow.Author.Tests.{eqb-true}
 use Rattle.model.specs.Limits.{maxPosition}
-use Rattle.model.specs.Lists.{upFrom, anyOf, maskBelow}
+use Rattle.model.specs.Lists.{upFrom, anyOf, maskBelow, has}
 use Rattle.model.specs.Tree.{IsTree, Below}
 use Rattle.model.specs.Summary.{Summary, asDocument}
 use Rattle.model.specs.Pattern.{Pattern, IsPatternTree, patternParent, descends, position, Embeds}
@@ -18,7 +18,7 @@ use Rattle.model.specs.Embeddings.{imageIn}
 use Rattle.model.specs.Canonical.{chain}
 use Rattle.model.specs.Quick.{hangsFrom, meets, closed, union, hang, given, quick}
 use Rattle.model.proofs.ListLaws.{any-agree, upFrom-mem}
-use Rattle.model.proofs.Masks.{has, mask-below}
+use Rattle.model.proofs.Masks.{mask-below}
 use Rattle.model.proofs.TreeLaws.{edge-below, length-asDocument}
 use Rattle.model.proofs.QuickLaws.{given-equation}
 use Rattle.bits.proofs.MaskLaws.{mask-or}

@@ -11,10 +11,10 @@ use lib.Dec.{ltb}
 use lib.ListN.{length, getD, set, take, replicate}
 use lib.Seq.{getD-take, getD-set-same, getD-set-other}
 use borrow.Author.Tests.{ltb-true, ltb-false, lt-ltb, le-ltb, not-true, not-false}
+use Rattle.model.specs.Lists.{has}
 use Rattle.model.specs.Pattern.{Pattern, IsPatternTree, patternParent}
 use Rattle.model.specs.Skipping.{skip}
 use Rattle.model.proofs.ListLaws.{and-right}
-use Rattle.model.proofs.Masks.{has}
 use Rattle.containment.specs.Blocks.{cell}
 use Rattle.containment.specs.Judging.{joinUp, gather, Sets, passBy, givenBy, rootBy, judgeBy}
 use Rattle.containment.specs.Stepping.{Candidates, members, placesBy}

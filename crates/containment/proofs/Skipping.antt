@@ -12,7 +12,7 @@ use lib.Dec.{eqb, ltb}
 use lib.ListN.{length, getD, take}
 use lib.Seq.{length-take-le, getD-take}
 use borrow.Author.Tests.{ltb-true, ltb-false}
-use Rattle.model.specs.Lists.{upFrom, keep, anyOf, maskBelow}
+use Rattle.model.specs.Lists.{upFrom, keep, anyOf, maskBelow, has}
 use Rattle.model.specs.Limits.{maxPosition}
 use Rattle.model.specs.Tree.{parentOf, Edge, Below}
 use Rattle.model.specs.Summary.{Summary, asDocument}
@@ -24,7 +24,7 @@ use Rattle.model.specs.Quick.{hangsFrom, hang}
 use Rattle.model.specs.Verdict.{going, run}
 use Rattle.model.specs.Skipping.{placesOf, productOf, completions, ways, waysLeft, skip, low, sure, surely}
 use Rattle.model.proofs.ListLaws.{and-left, and-right, upFrom-mem, keep-elim, any-agree}
-use Rattle.model.proofs.Masks.{has, mask-below, mask-none}
+use Rattle.model.proofs.Masks.{mask-below, mask-none}
 use Rattle.model.proofs.TreeLaws.{test-edge, edge-below, length-asDocument}
 use Rattle.model.proofs.Verdict.{AllPass}
 use Rattle.model.proofs.WaysLaws.{product-agree, length-completions}

@@ -15,9 +15,9 @@ use lib.Dec.{eqb}
 use lib.ListN.{length, getD, set, take, length-set}
 use lib.Seq.{length-take-le, take-length, take-take, take-suc-set, take-set-le, getD-take, getD-set-same, getD-set-other}
 use borrow.Author.Tests.{eqb-true, eqb-false}
+use Rattle.model.specs.Lists.{has}
 use Rattle.model.specs.Pattern.{Pattern, patternParent, descends}
 use Rattle.model.specs.Verdict.{Progress, going, failed, halted, step, run}
-use Rattle.model.proofs.Masks.{has}
 use Rattle.model.proofs.Verdict.{run-append, run-failed, run-halted, step-pass, step-fail}
 use Rattle.containment.specs.Judging.{Sets, judgeBy}
 use Rattle.containment.specs.Room.{Judgeable}

@@ -6,8 +6,8 @@ use mathlib.Core.List.{List}
 use lib.Bits.{bitAnd, bitOr}
 use lib.Dec.{ltb}
 use lib.ListN.{length, getD, set, replicate}
+use Rattle.model.specs.Lists.{has}
 use Rattle.model.specs.Pattern.{Pattern, patternParent, position}
-use Rattle.model.proofs.Masks.{has}
 
 -- ---- tables that are gathered from the leaves up
 

@@ -7,11 +7,10 @@ use mathlib.Core.List.{List, [], _∷_, List·Memᴰ}
 use lib.Bits.{bitAnd, bitOr}
 use lib.Dec.{eqb, ltb}
 use lib.ListN.{length, getD, set, take, replicate}
-use Rattle.model.specs.Lists.{upFrom}
+use Rattle.model.specs.Lists.{upFrom, has}
 use Rattle.model.specs.Pattern.{Pattern, patternParent, descends, position}
 use Rattle.model.specs.Verdict.{going, run}
 use Rattle.model.specs.Skipping.{skip}
-use Rattle.model.proofs.Masks.{has}
 use Rattle.containment.specs.Judging.{gather, Sets, nodeBy, passBy, rootBy, judgeBy}
 use Rattle.containment.specs.Stepping.{members, stepFrom, Candidates, placesBy, sitesBy}
 use Rattle.containment.specs.Blocks.{cell}

@@ -7,11 +7,10 @@ use mathlib.Core.Bool.{Bool, true, false, _&&_}
 use mathlib.Core.List.{List, [], _∷_, _++_, flatMap, List·Memᴰ}
 use lib.Bits.{bitAnd}
 use lib.ListN.{length, getD, drop}
-use Rattle.model.specs.Lists.{upFrom, keep}
+use Rattle.model.specs.Lists.{upFrom, keep, has}
 use Rattle.model.specs.Tree.{Document, labelOf}
 use Rattle.model.specs.Pattern.{Pattern, patternLabel, patternParent, descends, labelFits, Embeds}
 use Rattle.model.specs.Embeddings.{edgeTest, extend, embeddings, imageIn}
-use Rattle.model.proofs.Masks.{has}
 
 -- the members of a mask, ascending
 unfoldable pub members : ℕ → List ℕ

@@ -13,12 +13,11 @@ use Rattle.model.specs.Limits.{maxPattern, maxPosition}
 use Rattle.model.specs.Summary.{Summary}
 use Rattle.model.specs.Pattern.{Pattern, arity, SummaryEmbedding}
 use Rattle.model.specs.Embeddings.{imageIn}
-use Rattle.model.specs.Facts.{CaseFacts}
+use Rattle.model.specs.Facts.{CaseFacts, AcceptedCase}
 use Rattle.model.specs.Verdict.{Verdict, included, notIncluded, stopped}
 use Rattle.model.specs.Bytes.{Case, caseOf, firstAt, secondAt, writtenAtFront}
 use Rattle.model.specs.Calls.{shown}
 use Rattle.model.proofs.Bytes.{front-none, front-written}
-use Rattle.model.proofs.CaseFacts.{AcceptedCase}
 use Rattle.model.proofs.Decision.{placed}
 use Rattle.model.proofs.Verdict.{verdict-shown}
 use Rattle.format.specs.Given.{summaryIn, patternAt, PatternGiven}

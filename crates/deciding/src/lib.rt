@@ -12,7 +12,7 @@ ghost use Prim.Native.Nat.{_≤_};
 ghost use lib.ListN.{length};
 ghost use Rattle.model.specs.Limits.{maxLimit, minBuffer};
 ghost use Rattle.model.specs.Bytes.{caseOf};
-ghost use Rattle.model.proofs.CaseFacts.{AcceptedCase};
+ghost use Rattle.model.specs.Facts.{AcceptedCase};
 ghost use Rattle.deciding.specs.Told.{Told};
 ghost use Rattle.deciding.specs.Outcome.{asAnswer, triedIn, Answered};
 

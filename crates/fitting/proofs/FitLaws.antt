@@ -12,9 +12,8 @@ use borrow.Author.Tests.{eqb-true, eq-eqb}
 use Rattle.model.specs.Lists.{upFrom, allOf}
 use Rattle.model.specs.Tree.{Document, IsTree, parentOf, Child}
 use Rattle.model.specs.Summary.{Summary, asDocument, noSummaryRecord, StrongEdge}
-use Rattle.model.specs.Fitting.{pathMap, strongKept, fits}
+use Rattle.model.specs.Fitting.{pathMap, strongKept, fits, pathIn}
 use Rattle.model.proofs.ListLaws.{bool-ext, and-intro, and-left, and-right, all-agree, upFrom-mem}
-use Rattle.model.proofs.Paths.{pathIn}
 use Rattle.model.proofs.Fitting.{rooted-exact, paths-inside-exact, strong-kept-exact}
 use Rattle.bits.proofs.MaskLaws.{subset-members, members-subset}
 use Rattle.fitting.specs.Steps.{OnPaths, Gathered, givesPath, givesStrong, strongKeptIn}

@@ -12,12 +12,11 @@ use lib.Dec.{eqb}
 use lib.ListN.{length, getD, set, replicate, length-replicate, length-set}
 use lib.Seq.{getD-set-same, getD-set-other}
 use borrow.Author.Tests.{eqb-true, eqb-false, lt-ltb}
-use Rattle.model.specs.Lists.{upFrom, anyOf}
+use Rattle.model.specs.Lists.{upFrom, anyOf, has}
 use Rattle.model.specs.Tree.{Document, IsTree, parentOf, Child}
 use Rattle.model.specs.Embeddings.{childTest}
 use Rattle.model.proofs.ListLaws.{and-intro, and-left, and-right, any-below, below-any}
 use Rattle.model.proofs.TreeLaws.{test-child, child-test}
-use Rattle.model.proofs.Masks.{has}
 use Rattle.bits.specs.Sets.{insertIf}
 use Rattle.bits.proofs.MaskLaws.{has-none, has-insert, any-snoc}
 use Rattle.format.proofs.RangeLaws.{upFrom-last}

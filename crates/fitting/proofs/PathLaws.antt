@@ -14,10 +14,10 @@ use Rattle.model.specs.Lists.{upFrom}
 use Rattle.model.specs.Tree.{Document, IsTree, parentOf, labelOf}
 use Rattle.model.specs.Summary.{Summary, asDocument, summaryParent, summaryLabel}
 use Rattle.model.specs.Embeddings.{childTest}
-use Rattle.model.specs.Fitting.{childLabelled}
+use Rattle.model.specs.Fitting.{childLabelled, pathIn}
 use Rattle.model.proofs.ListLaws.{first-miss, upFrom-mem, and-left}
 use Rattle.model.proofs.TreeLaws.{length-asDocument, test-child, rooted-lt}
-use Rattle.model.proofs.Paths.{pathIn, path-root, path-next}
+use Rattle.model.proofs.Paths.{path-root, path-next}
 use Rattle.fitting.specs.Steps.{labelledAt, OnPaths, PathsFilled}
 use Rattle.fitting.proofs.LoopLaws.{first-at}
 

@@ -8,12 +8,11 @@ use mathlib.Core.List.{List}
 use lib.Bits.{bitAnd}
 use lib.Dec.{eqb}
 use lib.ListN.{length, getD}
-use Rattle.model.specs.Lists.{upFrom, anyOf}
+use Rattle.model.specs.Lists.{upFrom, anyOf, has}
 use Rattle.model.specs.Tree.{Document}
 use Rattle.model.specs.Summary.{Summary, summaryParent, summaryLabel, noSummaryRecord}
 use Rattle.model.specs.Embeddings.{childTest}
-use Rattle.model.proofs.Masks.{has}
-use Rattle.model.proofs.Paths.{pathIn}
+use Rattle.model.specs.Fitting.{pathIn}
 
 -- a table of n entries is cleared
 pub record Cleared (n : ℕ) (table : List ℕ) : Type 0 where

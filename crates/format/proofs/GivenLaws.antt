@@ -9,9 +9,8 @@ use borrow.Author.Tests.{eqb-true}
 use Rattle.model.specs.Limits.{maxSummary, maxDocument, summaryWidth, documentWidth}
 use Rattle.model.specs.Tree.{Document, IsTree}
 use Rattle.model.specs.Bytes.{firstAt, secondAt, sectionEnd, caseOf, WholeSection, isWholeDocument}
+use Rattle.model.specs.Facts.{DocumentFacts, AcceptedCase}
 use Rattle.model.proofs.TreeLaws.{length-asDocument}
-use Rattle.model.proofs.CallFacts.{DocumentFacts}
-use Rattle.model.proofs.CaseFacts.{AcceptedCase}
 use Rattle.format.specs.Given.{summaryIn, SummaryGiven, PatternGiven, DocumentGiven, TreeGiven}
 use Rattle.format.proofs.SectionLaws.{tree-document, tree-summary}
 

@@ -10,7 +10,7 @@ use native.Mathlib.Omega.{arith}
 use lib.Dec.{eqb}
 use lib.ListN.{length, getD}
 use borrow.Author.Tests.{eqb-true, eq-eqb}
-use Rattle.model.specs.Lists.{upFrom, keep, anyOf, maskBelow}
+use Rattle.model.specs.Lists.{upFrom, keep, anyOf, maskBelow, has}
 use Rattle.model.specs.Tree.{Document, IsTree}
 use Rattle.model.specs.Summary.{Summary, asDocument}
 use Rattle.model.specs.Pattern.{Pattern, IsPatternTree, arity, position, nodeAt, Embeds, Result}
@@ -19,7 +19,7 @@ use Rattle.model.specs.Facts.{PatternFacts}
 use Rattle.model.specs.Bytes.{writtenAtFront}
 use Rattle.model.proofs.ListLaws.{bool-ext, or-cases, or-left, or-right, upFrom-mem}
 use Rattle.model.proofs.TreeLaws.{length-asDocument}
-use Rattle.model.proofs.Masks.{has, mask-below}
+use Rattle.model.proofs.Masks.{mask-below}
 use Rattle.model.proofs.NodeByNode.{Can, can, Pinned, result-can}
 use Rattle.model.proofs.Results.{takes-exact, result-exact, path-mask-of}
 use Rattle.bits.proofs.MaskLaws.{mask-agree}

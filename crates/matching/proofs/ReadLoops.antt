@@ -12,9 +12,9 @@ use lib.Seq.{ext-getD}
 use borrow.Author.Tests.{ltb-true, ltb-false}
 use Rattle.model.specs.Lists.{upFrom, keep}
 use Rattle.model.specs.Bytes.{listOf, writtenAtFront}
+use Rattle.model.specs.Facts.{ListFacts}
 use Rattle.model.proofs.ListLaws.{mem-at, length-map-upFrom}
 use Rattle.model.proofs.Bytes.{front-none}
-use Rattle.model.proofs.CallFacts.{ListFacts}
 use Rattle.format.proofs.RangeLaws.{upFrom-last, getD-map-below}
 use Rattle.format.proofs.FrontLaws.{front-set}
 use Rattle.matching.specs.Wanted.{SmallNumbers}

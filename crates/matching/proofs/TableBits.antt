@@ -6,11 +6,11 @@ use mathlib.Core.Bool.{Bool, true}
 use mathlib.Core.Logic.{_↔_}
 use mathlib.Core.List.{map}
 use lib.ListN.{length, getD}
-use Rattle.model.specs.Lists.{upFrom, maskBelow}
+use Rattle.model.specs.Lists.{upFrom, maskBelow, has}
 use Rattle.model.specs.Tree.{Document, IsTree}
 use Rattle.model.specs.Pattern.{Pattern, IsPatternTree}
 use Rattle.model.proofs.NodeByNode.{Can}
-use Rattle.model.proofs.Masks.{has, mask-below}
+use Rattle.model.proofs.Masks.{mask-below}
 use Rattle.format.proofs.RangeLaws.{getD-map-below}
 use Rattle.matching.specs.Matching.{partAt, standsAt}
 use Rattle.matching.specs.Tables.{partTable, standTable}

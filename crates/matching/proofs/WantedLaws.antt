@@ -9,12 +9,12 @@ use lib.Bits.{bitAnd, bitOr}
 use lib.Dec.{eqb, ltb}
 use lib.ListN.{length, getD, set, replicate, length-set, length-replicate}
 use borrow.Author.Tests.{eqb-true, eqb-false, eq-eqb, ne-eqb, ltb-true, ltb-false}
-use Rattle.model.specs.Lists.{maskBelow}
+use Rattle.model.specs.Lists.{maskBelow, has}
 use Rattle.model.specs.Tree.{Rooted, Document, labelOf}
 use Rattle.model.specs.Pattern.{Pattern, IsPatternTree, patternParent, patternLabel, position, labelFits}
 use Rattle.model.specs.Quick.{hangsFrom}
 use Rattle.model.proofs.ListLaws.{bool-ext}
-use Rattle.model.proofs.Masks.{has, mask-below}
+use Rattle.model.proofs.Masks.{mask-below}
 use Rattle.bits.proofs.MaskLaws.{mask-agree, mask-and, mask-or, subset-all}
 use Rattle.matching.specs.Matching.{hangsDeep, childrenIn, fitsAt, offersAt, partAt, leaves, resultPin}
 use Rattle.matching.specs.Masks.{kidMasks}

@@ -4,8 +4,8 @@ use mathlib.Core.Path.{_≡_}
 use mathlib.Core.Bool.{Bool, true, false}
 use mathlib.Core.List.{List}
 use lib.ListN.{length, getD, set}
+use Rattle.model.specs.Lists.{has}
 use Rattle.model.specs.Bytes.{writtenAtFront}
-use Rattle.model.proofs.Masks.{has}
 
 -- pattern node q is in the mask of tree node v
 abbrev pub inMask : List ℕ → ℕ → ℕ → Bool

@@ -13,11 +13,10 @@ use mathlib.Core.List.{List}
 use lib.Bits.{bitAnd}
 use lib.Dec.{eqb, ltb}
 use lib.ListN.{length, getD, set}
-use Rattle.model.specs.Lists.{maskBelow}
+use Rattle.model.specs.Lists.{maskBelow, has}
 use Rattle.model.specs.Pattern.{Pattern, IsPatternTree, patternParent, patternLabel, position, labelFits}
 use Rattle.model.specs.Quick.{hangsFrom}
 use Rattle.model.specs.Bytes.{listOf}
-use Rattle.model.proofs.Masks.{has}
 use Rattle.matching.specs.Matching.{hangsDeep}
 
 abbrev pub deepIn : List ℕ → ℕ

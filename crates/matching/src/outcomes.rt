@@ -21,9 +21,8 @@ ghost use lib.ListN.{length, getD};
 ghost use Rattle.model.specs.Lists.{upFrom, keep, maskBelow};
 ghost use Rattle.model.specs.Pattern.{arity};
 ghost use Rattle.model.specs.Embeddings.{isResult, nodesAt, pathMask};
-ghost use Rattle.model.specs.Facts.{PatternFacts};
+ghost use Rattle.model.specs.Facts.{PatternFacts, ListFacts};
 ghost use Rattle.model.specs.Bytes.{documentOf, listOf};
-ghost use Rattle.model.proofs.CallFacts.{ListFacts};
 ghost use Rattle.format.specs.Given.{summaryIn, patternAt, SummaryGiven, PatternGiven, DocumentGiven};
 ghost use Rattle.matching.specs.Outcomes.{inMask, pushIf, countIf, Written};
 

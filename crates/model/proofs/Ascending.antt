@@ -5,17 +5,12 @@ use mathlib.Core.Path.{_≡_, refl, sym, _∙_, subst}
 use mathlib.Core.Bool.{Bool, true, false}
 use mathlib.Core.Logic.{_⊎_, inl, inr, _↔_}
 use mathlib.Core.List.{List, [], _∷_, _++_, flatMap, List·Memᴰ, List·Memᴰ·head, List·Memᴰ·tail, List·Memᴰ·not-nil, List·Memᴰ·cases-cons, List·Memᴰ·append-cases}
-use Rattle.model.specs.Lists.{upFrom, keep}
+use Rattle.model.specs.Lists.{upFrom, keep, Ascending}
 use Rattle.model.proofs.ListLaws.{upFrom-mem, keep-elim, flat-elim}
 
 module _ {A : Type 0} (R : A → A → Type 0) where
-  -- each element stands in the relation R to every later one
-  abbrev pub Ascending : List A → Type 0
-  Ascending [] = Unit {0}
-  Ascending (x ∷ xs) = ((y : A) → List·Memᴰ y xs → R x y) × Ascending xs
-
   -- two ascending lists with the same members are equal
-  pub ascending-unique : ((x y : A) → R x y → R y x → ⊥) → (xs ys : List A) → Ascending xs → Ascending ys
+  pub ascending-unique : ((x y : A) → R x y → R y x → ⊥) → (xs ys : List A) → Ascending R xs → Ascending R ys
       → ((x : A) → List·Memᴰ x xs ↔ List·Memᴰ x ys) → xs ≡ ys
   ascending-unique asym [] [] a b same = refl
   ascending-unique asym [] (y ∷ ys) a b same = absurd (List·Memᴰ·not-nil (same y .1 (List·Memᴰ·head refl)))
@@ -41,7 +36,7 @@ module _ {A : Type 0} (R : A → A → Type 0) where
       later u us w ws f e z m (inl q) = let h : R u u = subst (R u) (q ∙ sym e) (f z m) in absurd (asym u u h h)
       later u us w ws f e z m (inr n) = n
 
-  pub ascending-append : (xs ys : List A) → Ascending xs → Ascending ys → ((x y : A) → List·Memᴰ x xs → List·Memᴰ y ys → R x y) → Ascending (xs ++ ys)
+  pub ascending-append : (xs ys : List A) → Ascending R xs → Ascending R ys → ((x y : A) → List·Memᴰ x xs → List·Memᴰ y ys → R x y) → Ascending R (xs ++ ys)
   ascending-append [] ys a b h = b
   ascending-append (x ∷ xs) ys a b h = (λ y m. go y (List·Memᴰ·append-cases xs m), ascending-append xs ys (a .1) b (λ u w m n. h u w (List·Memᴰ·tail m) n))
     where
@@ -49,12 +44,12 @@ module _ {A : Type 0} (R : A → A → Type 0) where
       go y (inl m) = a .0 y m
       go y (inr m) = h x y (List·Memᴰ·head refl) m
 
-  pub ascending-keep : (test : A → Bool) (xs : List A) → Ascending xs → Ascending (keep test xs)
+  pub ascending-keep : (test : A → Bool) (xs : List A) → Ascending R xs → Ascending R (keep test xs)
   unfolding keep
   ascending-keep test [] a = tt
   ascending-keep test (x ∷ xs) a = go (test x) (ascending-keep test xs (a .1))
     where
-      go : (t : Bool) → Ascending (keep test xs) → Ascending (elim t as (λ _. List A) [ true ↦ x ∷ keep test xs | false ↦ keep test xs ])
+      go : (t : Bool) → Ascending R (keep test xs) → Ascending R (elim t as (λ _. List A) [ true ↦ x ∷ keep test xs | false ↦ keep test xs ])
       go true b = (λ y m. a .0 y (keep-elim test y xs m .0), b)
       go false b = b
 

@@ -11,26 +11,20 @@ use lib.ListN.{length}
 use borrow.Author.Tests.{eqb-true, eqb-false, leb-true, ltb-true}
 use Rattle.model.specs.Lists.{sameList}
 use Rattle.model.specs.Limits.{maxLimit, maxTally, minBuffer, minTable, maxDocument}
-use Rattle.model.specs.Tree.{IsTree, parentOf, labelOf}
+use Rattle.model.specs.Tree.{parentOf, labelOf}
 use Rattle.model.specs.Pattern.{arity}
 use Rattle.model.specs.Embeddings.{summaryEmbeddings}
 use Rattle.model.specs.Fitting.{parentRule}
 use Rattle.model.specs.Bytes.{Case, caseOf, documentOf, listOf, isWholeDocument, isWholeList}
 use Rattle.model.specs.Questions.{between, limitInRange, bufferLargeEnough, tableLargeEnough, tallyInRange, documentRecordKept, documentKept, listInRange, patternGiven, selected, positionGiven, isSummaryEmbedding, ask, verdictRefusal, fitsRefusal, resultRefusal, nodesRefusal, pathsRefusal, layoutRefusal}
+use Rattle.model.specs.Facts.{AcceptedCase, DocumentFacts, ListFacts}
 use Rattle.model.proofs.ListLaws.{and-left, and-right, true-or-false, all-elim, all-below, any-elim, same-eq}
 use Rattle.model.proofs.Fitting.{rooted}
-use Rattle.model.proofs.CaseFacts.{between-facts, AcceptedCase, asked}
+use Rattle.model.proofs.CaseFacts.{between-facts, asked}
 
 -- ---- the other questions
 
 -- 10: the volume
-pub record DocumentFacts (w : List ℕ) : Type 0 where
-  pub whole : isWholeDocument w ≡ true
-  pub someNodes : 1 ≤ length (documentOf w)
-  pub size : length (documentOf w) ≤ maxDocument
-  pub tree : IsTree (documentOf w)
-  pub labels : (i : ℕ) → i < length (documentOf w) → 0 < labelOf (documentOf w) i
-
 pub document-facts : (w : List ℕ) → documentKept w ≡ true → DocumentFacts w
 unfolding documentKept documentRecordKept
 document-facts w kept =
@@ -47,11 +41,6 @@ document-facts w kept =
     }
 
 -- 11: the list
-pub record ListFacts (k n : ℕ) (r : List ℕ) : Type 0 where
-  pub whole : isWholeList r ≡ true
-  pub count : length (listOf r) ≡ k
-  pub below : (v : ℕ) → List·Memᴰ v (listOf r) → v < n
-
 pub list-facts : (k n : ℕ) (r : List ℕ) → listInRange k n r ≡ true → ListFacts k n r
 unfolding listInRange
 list-facts k n r e =

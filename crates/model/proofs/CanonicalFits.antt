@@ -7,7 +7,7 @@ use mathlib.Core.Logic.{_⊎_, inl, inr}
 use mathlib.Core.List.{List, [], _∷_, map}
 use native.Mathlib.Omega.{arith}
 use lib.ListN.{length}
-use Rattle.model.specs.Tree.{IsTree, Child, Below, Edge, Hom}
+use Rattle.model.specs.Tree.{IsTree, Child, Below, Edge, Hom, AtOrBelow}
 use Rattle.model.specs.Summary.{Summary, asDocument, summaryLabel, StrongEdge, OnPath, Fits}
 use Rattle.model.specs.Pattern.{Pattern, IsPatternTree, patternParent, patternLabel, labelFits, descends, returnNodes, Embeds, Result, SummaryEmbedding}
 use Rattle.model.specs.Embeddings.{imageIn}
@@ -16,7 +16,7 @@ use Rattle.model.specs.Facts.{SummaryFacts}
 use Rattle.model.proofs.TreeLaws.{length-asDocument}
 use Rattle.model.proofs.Laid.{Laid, SpotChild, ChainChild, InChain, TopOfChain, spotOwner, spotFilled}
 use Rattle.model.proofs.Paths.{on-path-unique, hom-on-path}
-use Rattle.model.proofs.Chains.{AtOrBelow, child-below, chain-self, chain-step}
+use Rattle.model.proofs.Chains.{child-below, chain-self, chain-step}
 use Rattle.model.proofs.SpotLaws.{spotDocument, in-table, in-document, spot-label, spot-child, laid-tree, laid-summary}
 
 module _ {S : Summary} {P : Pattern} {es : List ℕ} {spots : List Spot} {own : List ℕ} where

@@ -8,19 +8,20 @@ use mathlib.Core.Logic.{_⊎_, inl, inr}
 use mathlib.Core.List.{List, _∷_, map, map-map, nil≢cons}
 use native.Mathlib.Omega.{arith}
 use lib.ListN.{length}
-use Rattle.model.specs.Tree.{Document, IsTree, Child, Below, Hom}
+use Rattle.model.specs.Tree.{Document, IsTree, Child, Below, Hom, AtOrBelow}
 use Rattle.model.specs.Summary.{Summary, asDocument, summaryLabel, OnPath, Fits}
 use Rattle.model.specs.Pattern.{Pattern, IsPatternTree, patternParent, descends, returnNodes, Embeds, SummaryEmbedding}
 use Rattle.model.specs.Embeddings.{imageIn}
+use Rattle.model.specs.Fitting.{pathIn}
 use Rattle.model.specs.Canonical.{Spot, spotParent, spotAt, chain}
 use Rattle.model.specs.Facts.{SummaryFacts, PatternFacts}
 use Rattle.model.proofs.ListLaws.{map-agree}
 use Rattle.model.proofs.TreeLaws.{length-asDocument, below-lt, edge-below, hom-below, hom-embeds}
 use Rattle.model.proofs.Laid.{Laid, SpotChild, InChain, TopOfChain, spotOwner, spotFilled}
-use Rattle.model.proofs.Paths.{pathIn, hom-on-path, path-hom, path-on}
+use Rattle.model.proofs.Paths.{hom-on-path, path-hom, path-on}
 use Rattle.model.proofs.Embeddings.{embeds-ext, imagesOf, image-imagesOf}
 use Rattle.model.proofs.ReturnNodes.{return-inside}
-use Rattle.model.proofs.Chains.{AtOrBelow, hom-at-or-below, first-step, chain-self, chain-step}
+use Rattle.model.proofs.Chains.{hom-at-or-below, first-step, chain-self, chain-step}
 use Rattle.model.proofs.SpotLaws.{spotDocument, in-table, spot-label, child-spot, laid-inside}
 use Rattle.model.proofs.CanonicalFits.{chain-down}
 use Rattle.model.proofs.TreeChoice.{Chosen, choose}

@@ -16,9 +16,9 @@ use Rattle.model.specs.Tree.{DocumentRecord, IsTree, Child}
 use Rattle.model.specs.Summary.{Summary, noSummaryRecord, withoutStrong, asDocument, summaryParent, summaryLabel}
 use Rattle.model.specs.Pattern.{PatternRecord, Pattern, noPatternRecord, IsPatternTree, patternParent, position, arity, nodeAt}
 use Rattle.model.specs.Fitting.{parentRule}
-use Rattle.model.specs.Bytes.{Case, caseOf, WholeCase}
+use Rattle.model.specs.Bytes.{Case, caseOf}
 use Rattle.model.specs.Questions.{between, caseWhole, countsInRange, summaryRecordKept, summaryKept, alike, siblingsDiffer, patternRecordKept, patternKept, patternsKept, positionsOnce, positionsKept, selected, Question, refusal, caseQuestions}
-use Rattle.model.specs.Facts.{SummaryFacts, PatternFacts, CaseFacts}
+use Rattle.model.specs.Facts.{SummaryFacts, PatternFacts, CaseFacts, AcceptedCase}
 use Rattle.model.proofs.ListLaws.{by-bool, and-intro, and-left, and-right, not-both, true-or-false, all-elim, all-below, mem-upFrom, upFrom-mem, first-hit}
 use Rattle.model.proofs.TreeLaws.{length-asDocument}
 use Rattle.model.proofs.Fitting.{rooted}
@@ -178,11 +178,6 @@ numbered-case b = (omega arith, (omega arith, (omega arith, (omega arith, (omega
 -- a case that questions 3 to 8 accept has the facts of an accepted case
 pub accepted-case : (b : List ℕ) → refusal (caseQuestions b) ≡ 0 → CaseFacts (caseOf b)
 accepted-case b e = all-yes-case b (accepted-all-yes (caseQuestions b) (numbered-case b) e)
-
--- what the case questions establish of the bytes too
-pub record AcceptedCase (b : List ℕ) : Type 0 where
-  pub whole : WholeCase b
-  pub facts : CaseFacts (caseOf b)
 
 case-accepted : (b : List ℕ) → AllYes (caseQuestions b) → AcceptedCase b
 unfolding caseQuestions caseWhole

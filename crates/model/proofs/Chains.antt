@@ -8,16 +8,12 @@ use mathlib.Core.List.{List, [], _∷_, _++_, append-nil, append-assoc}
 use native.Mathlib.Omega.{arith}
 use native.Mathlib.Nat.{le-refl}
 use borrow.Author.Tests.{eq-eqb, ne-eqb}
-use Rattle.model.specs.Tree.{Document, IsTree, Child, Below, once, down, Hom}
+use Rattle.model.specs.Tree.{Document, IsTree, Child, Below, once, down, AtOrBelow, Hom}
 use Rattle.model.specs.Summary.{Summary, asDocument}
 use Rattle.model.specs.Canonical.{chainIn, chain}
 use Rattle.model.proofs.TreeLaws.{child-lt, below-trans, hom-below}
 
 -- ---- at or below
-
--- b is a, or a descendant of a
-abbrev pub AtOrBelow : Document → ℕ → ℕ → Type 0
-AtOrBelow W a b = (a ≡ b) ⊎ Below W a b
 
 pub hom-at-or-below : {W D : Document} {h : ℕ → ℕ} {a b : ℕ} → Hom W D h → AtOrBelow W a b → AtOrBelow D (h a) (h b)
 hom-at-or-below {h = h} m (inl p) = inl (ap h p)

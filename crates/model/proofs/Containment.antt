@@ -10,12 +10,12 @@ use Rattle.model.specs.Tree.{Document, IsTree, Hom}
 use Rattle.model.specs.Summary.{Summary, Fits}
 use Rattle.model.specs.Pattern.{Pattern, returnNodes, Result, ResultOfSome, SummaryEmbedding, Contained, ContainedIn}
 use Rattle.model.specs.Embeddings.{imageIn}
+use Rattle.model.specs.Fitting.{pathIn}
 use Rattle.model.specs.Canonical.{canonicalSpots, canonical, ownNodes, ownResult}
 use Rattle.model.specs.Facts.{SummaryFacts, PatternFacts}
 use Rattle.model.proofs.TreeLaws.{hom-result}
 use Rattle.model.proofs.Laid.{Laid}
 use Rattle.model.proofs.Embeddings.{length-imagesOf, image-imagesOf}
-use Rattle.model.proofs.Paths.{pathIn}
 use Rattle.model.proofs.Canonical.{canonical-laid}
 use Rattle.model.proofs.SpotLaws.{spotDocument}
 use Rattle.model.proofs.CanonicalFits.{laid-fits, laid-result}

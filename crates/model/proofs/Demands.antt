@@ -10,7 +10,7 @@ use native.Mathlib.Nat.{zero-add}
 use lib.Count.{ones}
 use lib.Dec.{eqb}
 use lib.ListN.{length, getD, take, length-append, length-map}
-use Rattle.model.specs.Lists.{upFrom}
+use Rattle.model.specs.Lists.{upFrom, Ascending, has}
 use Rattle.model.specs.Limits.{maxPattern, maxPosition, maxCanonical, minBuffer}
 use Rattle.model.specs.Tree.{Document}
 use Rattle.model.specs.Summary.{Summary, Fits}
@@ -25,8 +25,6 @@ use Rattle.model.specs.Calls.{kindIncluded, kindNotIncluded, kindStopped
 use Rattle.model.specs.Facts.{SummaryFacts, PatternFacts, CaseFacts}
 use Rattle.model.specs.Demands.{SomeCounterExample, AllEmbeddingsPass, SomeEmbeddingFails, Shown, Demand3}
 use Rattle.model.proofs.ListLaws.{by-bool, length-map-upFrom, getD-map-upFrom}
-use Rattle.model.proofs.Ascending.{Ascending}
-use Rattle.model.proofs.Masks.{has}
 use Rattle.model.proofs.ReturnNodes.{length-returnNodes}
 use Rattle.model.proofs.Results.{result-exact, nodes-at-exact, nodes-at-ascending, path-mask-exact, path-mask-beyond, path-count-ones}
 use Rattle.model.proofs.Fitting.{fits-exact}

@@ -11,13 +11,13 @@ use lib.Dec.{eqb, ltb}
 use lib.ListN.{length, getD, drop, length-drop, List·getD-append}
 use lib.Seq.{getD-append-seam}
 use borrow.Author.Tests.{eqb-true, eq-eqb, ltb-true, ltb-false}
-use Rattle.model.specs.Lists.{upFrom, keep}
+use Rattle.model.specs.Lists.{upFrom, keep, Ascending}
 use Rattle.model.specs.Tree.{Document, IsTree, labelOf, Edge}
 use Rattle.model.specs.Pattern.{PatternRecord, Pattern, noPatternRecord, patternParent, patternLabel, descends, IsPatternTree, labelFits, Embeds}
 use Rattle.model.specs.Embeddings.{edgeTest, reaches, candidate, extend, embeddings, Precedes, imageIn}
 use Rattle.model.proofs.ListLaws.{and-intro, and-left, and-right, length-snoc, drop-begins, length-map-upFrom, getD-map-upFrom, mem-upFrom, upFrom-mem, keep-intro, keep-elim, flat-intro, flat-elim}
 use Rattle.model.proofs.TreeLaws.{test-edge, edge-test}
-use Rattle.model.proofs.Ascending.{Ascending, ascending-unique, ascending-keep, ascending-upFrom, ascending-flat}
+use Rattle.model.proofs.Ascending.{ascending-unique, ascending-keep, ascending-upFrom, ascending-flat}
 
 -- ---- embeddings, node by node
 

@@ -14,10 +14,10 @@ use Rattle.model.specs.Tree.{Rooted, Document, IsTree, parentOf, labelOf
 use Rattle.model.specs.Summary.{Summary, asDocument, noSummaryRecord, StrongEdge, OnPath, Fits}
 use Rattle.model.specs.Facts.{SummaryFacts}
 use Rattle.model.specs.Embeddings.{childTest}
-use Rattle.model.specs.Fitting.{parentRule, isRooted, strongChildren, pathMap, strongKept, fits}
+use Rattle.model.specs.Fitting.{parentRule, isRooted, strongChildren, pathMap, strongKept, fits, pathIn}
 use Rattle.model.proofs.ListLaws.{and-intro, and-left, and-right, all-intro, all-elim, keep-intro, keep-elim, all-below, below-all, any-below, below-any, mem-upFrom, mem-at, at-mem}
 use Rattle.model.proofs.TreeLaws.{length-asDocument, test-child-and, child-and-test}
-use Rattle.model.proofs.Paths.{pathIn, on-path-unique, hom-on-path, length-pathMap, inside-hom, path-hom, path-on}
+use Rattle.model.proofs.Paths.{on-path-unique, hom-on-path, length-pathMap, inside-hom, path-hom, path-on}
 
 -- ---- trees
 

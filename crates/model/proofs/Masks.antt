@@ -10,11 +10,7 @@ use lib.Pow.{pow-mono, shr-shr, high}
 use lib.Bits.{block-half, block-odd}
 use lib.Count.{ones, ones-cat, trailingZeros, under}
 use borrow.Author.Tests.{eq-eqb, ltb-true, ltb-false}
-use Rattle.model.specs.Lists.{maskBelow, countBelow}
-
--- bit i of the mask m is set
-abbrev pub has : ℕ → ℕ → Bool
-has m i = eqb (m / 2 ^ i % 2) 1
+use Rattle.model.specs.Lists.{has, maskBelow, countBelow}
 
 -- ---- digits
 

@@ -16,13 +16,9 @@ use Rattle.model.specs.Tree.{DocumentRecord, noDocumentRecord, Document,
 use Rattle.model.specs.Summary.{Summary, asDocument, summaryParent, summaryLabel, OnPath, Fits}
 use Rattle.model.specs.Facts.{SummaryFacts}
 use Rattle.model.specs.Embeddings.{childTest}
-use Rattle.model.specs.Fitting.{childLabelled, nextPath, pathsFrom, pathMap}
+use Rattle.model.specs.Fitting.{childLabelled, nextPath, pathsFrom, pathMap, pathIn}
 use Rattle.model.proofs.ListLaws.{length-snoc, mem-upFrom, first-hit, first-or}
 use Rattle.model.proofs.TreeLaws.{length-asDocument, test-child-and, child-and-test}
-
--- a node's summary node by the path map
-abbrev pub pathIn : Summary → Document → ℕ → ℕ
-pathIn S W i = getD (pathMap S W) i 0
 
 -- ---- paths of labels
 

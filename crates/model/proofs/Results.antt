@@ -12,7 +12,7 @@ use native.Mathlib.Nat.{le-trans}
 use lib.Pow.{pow-pos, pow-mono}
 use lib.Count.{ones}
 use borrow.Author.Tests.{eqb-true, eq-eqb, lt-ltb, le-ltb, ltb-true, ltb-false}
-use Rattle.model.specs.Lists.{upFrom, anyOf, sameList, maskBelow, countBelow}
+use Rattle.model.specs.Lists.{upFrom, anyOf, sameList, maskBelow, countBelow, Ascending, has}
 use Rattle.model.specs.Tree.{Document, IsTree}
 use Rattle.model.specs.Summary.{Summary, asDocument}
 use Rattle.model.specs.Pattern.{Pattern, IsPatternTree, arity, nodeAt, returnNodes, Embeds, Result, PathOf, AtPosition}
@@ -20,10 +20,10 @@ use Rattle.model.specs.Embeddings.{embeddings, summaryEmbeddings, imageI
 use Rattle.model.specs.Facts.{SummaryFacts, PatternFacts}
 use Rattle.model.proofs.ListLaws.{not-both, map-agree, mem-upFrom, any-intro, any-elim, keep-intro, keep-elim, same-eq, eq-same}
 use Rattle.model.proofs.TreeLaws.{length-asDocument}
-use Rattle.model.proofs.Ascending.{Ascending, ascending-keep, ascending-upFrom}
+use Rattle.model.proofs.Ascending.{ascending-keep, ascending-upFrom}
 use Rattle.model.proofs.Embeddings.{embeddings-sound, imagesOf, image-imagesOf, embeddings-complete}
 use Rattle.model.proofs.ReturnNodes.{return-inside}
-use Rattle.model.proofs.Masks.{has, has-past, mask-lt, mask-below, mask-none, ones-mask}
+use Rattle.model.proofs.Masks.{has-past, mask-lt, mask-below, mask-none, ones-mask}
 
 -- ---- results
 

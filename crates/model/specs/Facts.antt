@@ -1,12 +1,14 @@
--- What the questions establish of an accepted case: the facts that the theorems need.
+-- What the questions establish of an accepted case, of a volume and of a list: the facts that the theorems need.
 use Prim.Native.Nat.{ℕ, _≤_, _<_}
 use mathlib.Core.Path.{_≡_}
+use mathlib.Core.Bool.{true}
+use mathlib.Core.List.{List, List·Memᴰ}
 use lib.ListN.{length}
-use Rattle.model.specs.Limits.{maxSummary, maxPattern, maxPosition}
-use Rattle.model.specs.Tree.{IsTree, Child}
+use Rattle.model.specs.Limits.{maxSummary, maxPattern, maxPosition, maxDocument}
+use Rattle.model.specs.Tree.{IsTree, Child, labelOf}
 use Rattle.model.specs.Summary.{Summary, asDocument, summaryLabel}
 use Rattle.model.specs.Pattern.{Pattern, IsPatternTree, arity, position, nodeAt}
-use Rattle.model.specs.Bytes.{Case}
+use Rattle.model.specs.Bytes.{Case, caseOf, documentOf, listOf, WholeCase, isWholeDocument, isWholeList}
 
 -- an outline by the rules: a tree whose siblings have different labels
 pub record SummaryFacts (S : Summary) : Type 0 where
@@ -32,3 +34,22 @@ pub record CaseFacts (c : Case) : Type 0 where
   pub summarySize : length (c .summary) ≤ maxSummary
   pub firstSize : length (c .first) ≤ maxPattern
   pub secondSize : length (c .second) ≤ maxPattern
+
+-- the bytes of an accepted case: questions 3 to 8
+pub record AcceptedCase (b : List ℕ) : Type 0 where
+  pub whole : WholeCase b
+  pub facts : CaseFacts (caseOf b)
+
+-- the bytes of a volume: question 10
+pub record DocumentFacts (w : List ℕ) : Type 0 where
+  pub whole : isWholeDocument w ≡ true
+  pub someNodes : 1 ≤ length (documentOf w)
+  pub size : length (documentOf w) ≤ maxDocument
+  pub tree : IsTree (documentOf w)
+  pub labels : (i : ℕ) → i < length (documentOf w) → 0 < labelOf (documentOf w) i
+
+-- the bytes of a list of k nodes, of a volume with n: question 11
+pub record ListFacts (k n : ℕ) (r : List ℕ) : Type 0 where
+  pub whole : isWholeList r ≡ true
+  pub count : length (listOf r) ≡ k
+  pub below : (v : ℕ) → List·Memᴰ v (listOf r) → v < n

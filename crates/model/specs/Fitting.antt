@@ -39,9 +39,13 @@ pathsFrom S (r ∷ rs) ms = pathsFrom S rs (ms ++ nextPath S ms r ∷ [])
 unfoldable pub pathMap : Summary → Document → List ℕ
 pathMap S W = pathsFrom S W []
 
+-- a volume node's outline node by the outline map
+abbrev pub pathIn : Summary → Document → ℕ → ℕ
+pathIn S W i = getD (pathMap S W) i 0
+
 -- each strong edge from the path of volume node i has a child of i on its other end
 unfoldable pub strongKept : Summary → Document → ℕ → Bool
-strongKept S W i = allOf (λ t. anyOf (λ j. childTest W i j && eqb (getD (pathMap S W) j 0) t) (upFrom 0 (length W))) (strongChildren S (getD (pathMap S W) i 0))
+strongKept S W i = allOf (λ t. anyOf (λ j. childTest W i j && eqb (pathIn S W j) t) (upFrom 0 (length W))) (strongChildren S (pathIn S W i))
 
 -- fits
 unfoldable pub fits : Summary → Document → Bool

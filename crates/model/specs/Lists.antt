@@ -1,7 +1,7 @@
 -- Lists that the other definitions compute with: ranges, tests over lists, sets of numbers as masks.
-use Prim.Native.Nat.{ℕ, zero, suc, _+_, _^_}
+use Prim.Native.Nat.{ℕ, zero, suc, _+_, _/_, _%_, _^_}
 use mathlib.Core.Bool.{Bool, true, false}
-use mathlib.Core.List.{List, [], _∷_}
+use mathlib.Core.List.{List, [], _∷_, List·Memᴰ}
 use lib.Dec.{eqb}
 
 -- the n numbers from a on, ascending
@@ -30,6 +30,12 @@ module _ {A : Type 0} where
   countOf test [] = 0
   countOf test (x ∷ xs) = elim (test x) [ true ↦ suc (countOf test xs) | false ↦ countOf test xs ]
 
+module _ {A : Type 0} (R : A → A → Type 0) where
+  -- each element stands in the relation R to every later one
+  abbrev pub Ascending : List A → Type 0
+  Ascending [] = Unit {0}
+  Ascending (x ∷ xs) = ((y : A) → List·Memᴰ y xs → R x y) × Ascending xs
+
 -- the first number that passes the test, or d where none does
 unfoldable pub firstOf : (ℕ → Bool) → ℕ → List ℕ → ℕ
 firstOf test d [] = d
@@ -41,6 +47,10 @@ sameList [] [] = true
 sameList [] (y ∷ ys) = false
 sameList (x ∷ xs) [] = false
 sameList (x ∷ xs) (y ∷ ys) = elim (eqb x y) [ true ↦ sameList xs ys | false ↦ false ]
+
+-- bit i of the mask m is set
+abbrev pub has : ℕ → ℕ → Bool
+has m i = eqb (m / 2 ^ i % 2) 1
 
 -- the mask whose bit i, for i below n, says whether i passes the test
 unfoldable pub maskBelow : (ℕ → Bool) → ℕ → ℕ

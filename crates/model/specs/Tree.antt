@@ -3,6 +3,7 @@
 use Prim.Native.Nat.{ℕ, _<_}
 use mathlib.Core.Path.{_≡_}
 use mathlib.Core.Bool.{Bool, true, false}
+use mathlib.Core.Logic.{_⊎_}
 use mathlib.Core.List.{List, [], _∷_}
 use lib.ListN.{length, getD}
 
@@ -45,6 +46,10 @@ pub record Child (W : Document) (a b : ℕ) : Type 0 where
 pub data Below (W : Document) (a : ℕ) : ℕ → Type 0 where
   once : {b : ℕ} → Child W a b → Below W a b
   down : {b c : ℕ} → Below W a b → Child W b c → Below W a c
+
+-- b is a, or a descendant of a
+abbrev pub AtOrBelow : Document → ℕ → ℕ → Type 0
+AtOrBelow W a b = (a ≡ b) ⊎ Below W a b
 
 -- what an edge asks of the two images: a descendant edge (true) a descendant, a child edge (false) a child
 abbrev pub Edge : Bool → Document → ℕ → ℕ → Type 0

@@ -8,12 +8,12 @@ use lib.Dec.{eqb}
 use lib.ListN.{length}
 use Rattle.model.specs.Limits.{maxPattern}
 use Rattle.model.specs.Pattern.{PatternRecord, Pattern}
-use Rattle.model.specs.Facts.{PatternFacts}
+use Rattle.model.specs.Facts.{PatternFacts, AcceptedCase}
 use Rattle.model.specs.Bytes.{caseOf, isWholeCase}
 use Rattle.model.specs.Questions.{selected}
 use Rattle.model.proofs.ListLaws.{by-bool}
 use Rattle.model.proofs.Bytes.{whole-case}
-use Rattle.model.proofs.CaseFacts.{AcceptedCase, selected-facts}
+use Rattle.model.proofs.CaseFacts.{selected-facts}
 use Rattle.format.specs.Given.{patternAt, PatternGiven}
 use Rattle.questions.specs.Numbered.{numberedAt}
 use Rattle.questions.proofs.NumberedLaws.{numbered-section, numbered-pattern}

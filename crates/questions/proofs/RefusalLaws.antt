@@ -10,9 +10,10 @@ use borrow.Author.Needs.{needs}
 use Rattle.model.specs.Limits.{documentWidth}
 use Rattle.model.specs.Bytes.{isWholeCase, WholeSection}
 use Rattle.model.specs.Questions.{caseWhole, documentKept, ask, Question, refusal, caseQuestions}
+use Rattle.model.specs.Facts.{AcceptedCase}
 use Rattle.model.proofs.Bytes.{whole-case}
 use Rattle.model.proofs.CallFacts.{document-facts}
-use Rattle.model.proofs.CaseFacts.{AcceptedCase, accepted-case}
+use Rattle.model.proofs.CaseFacts.{accepted-case}
 use Rattle.model.proofs.Refusals.{AllYes, Numbered, accepted-all-yes, refusal-after, refusal-kept, refusal-yes, refusal-no}
 use Rattle.format.proofs.GivenLaws.{whole-document}
 use Rattle.questions.proofs.TestLaws.{said-no, said-yes}

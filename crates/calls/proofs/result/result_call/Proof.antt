@@ -11,7 +11,8 @@ use Rattle.model.specs.Pattern.{Pattern, arity}
 use Rattle.model.specs.Embeddings.{isResult}
 use Rattle.model.specs.Bytes.{documentOf, listOf}
 use Rattle.model.specs.Calls.{resultCall}
-use Rattle.model.proofs.CallFacts.{ListFacts, ResultFacts, accepted-result}
+use Rattle.model.specs.Facts.{ListFacts}
+use Rattle.model.proofs.CallFacts.{ResultFacts, accepted-result}
 use Rattle.model.proofs.Calls.{result-refused, result-accepted}
 use Rattle.format.proofs.GivenLaws.{given-document}
 use Rattle.questions.proofs.NumberedLaws.{numbered-pattern}

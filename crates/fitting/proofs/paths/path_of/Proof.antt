@@ -3,8 +3,7 @@
 use mathlib.Core.Path.{sym, ap, _∙_}
 use native.Mathlib.Omega.{arith}
 use borrow.Author.Needs.{needs}
-use Rattle.model.specs.Fitting.{childLabelled}
-use Rattle.model.proofs.Paths.{pathIn}
+use Rattle.model.specs.Fitting.{childLabelled, pathIn}
 use Rattle.fitting.proofs.PathLaws.{next-entry, parent-inside}
 use Rattle.fitting.proofs.paths.path_of.Statement.{statement}
 use Rattle.fitting.proofs.paths.path_of.Tie as tie

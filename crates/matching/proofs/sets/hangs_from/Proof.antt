@@ -4,7 +4,7 @@ use mathlib.Core.Path.{ap, _∙_}
 use native.Mathlib.Omega.{arith}
 use lib.ListN.{length}
 use borrow.Author.Tests.{lt-ltb, le-ltb}
-use Rattle.model.proofs.Masks.{has}
+use Rattle.model.specs.Lists.{has}
 use Rattle.matching.specs.Wanted.{hangsBy}
 use Rattle.matching.proofs.sets.hangs_from.Statement.{statement}
 use Rattle.matching.proofs.sets.hangs_from.Tie as tie
