@@ -1,13 +1,13 @@
 -- A document's section that stands at the front of a buffer is read back as the document: every field that is read stands inside what
 -- was written. Assumes nothing.
-use Prim.Native.Nat.{ℕ, suc, _+_, _*_, _≤_, _<_}
+use Prim.Native.Nat.{ℕ, _+_, _*_, _≤_, _<_}
 use mathlib.Core.Path.{_≡_, sym, ap, ap₂, _∙_, subst}
-use mathlib.Core.List.{List, _∷_, map, flatMap, List·Memᴰ·head, List·Memᴰ·tail}
+use mathlib.Core.List.{List, map}
 use native.Mathlib.Omega.{arith}
 use lib.ListN.{length}
 use Rattle.model.specs.Lists.{upFrom}
 use Rattle.model.specs.Limits.{documentWidth}
-use Rattle.model.specs.Tree.{Document, parentOf, labelOf}
+use Rattle.model.specs.Tree.{Document}
 use Rattle.model.specs.Bytes.{field, section, recordsAt, documentRecordAt, documentFields, sectionFields, documentOf, encodeDocument, WholeSection, writtenAtFront}
 use Rattle.model.proofs.Bytes.{FitFields, document-back, document-whole, front-length}
 use Rattle.format.proofs.FrontLaws.{front-getD}
@@ -49,15 +49,3 @@ module _ (W : Document) (fit : FitFields (sectionFields documentFields W)) (b : 
 
   pub written-whole : length (encodeDocument W) ≤ length b → WholeSection documentWidth (writtenAtFront (encodeDocument W) b) 0
   written-whole = front-whole (encodeDocument W) b (whole-document (encodeDocument W) (document-whole W fit))
-
--- the fields of a document's section fit, if its count does and of each node the parent and the label do
-records-fit : (W : Document) → ((i : ℕ) → i < length W → (parentOf W i < 65_536) × (labelOf W i < 65_536)) → FitFields (flatMap documentFields W)
-unfolding flatMap
-records-fit (r ∷ W) h f (List·Memᴰ·head e) = subst (λ (x : ℕ). x < 65_536) (sym e) (h 0 (omega arith) .0)
-records-fit (r ∷ W) h f (List·Memᴰ·tail (List·Memᴰ·head e)) = subst (λ (x : ℕ). x < 65_536) (sym e) (h 0 (omega arith) .1)
-records-fit (r ∷ W) h f (List·Memᴰ·tail (List·Memᴰ·tail m)) = records-fit W (λ i l. h (suc i) (omega arith)) f m
-
-pub fields-fit : (W : Document) → length W < 65_536 → ((i : ℕ) → i < length W → (parentOf W i < 65_536) × (labelOf W i < 65_536)) → FitFields (sectionFields documentFields W)
-unfolding sectionFields
-fields-fit W n h f (List·Memᴰ·head e) = subst (λ (x : ℕ). x < 65_536) (sym e) n
-fields-fit W n h f (List·Memᴰ·tail m) = records-fit W h f m

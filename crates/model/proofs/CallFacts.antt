@@ -16,11 +16,12 @@ use Rattle.model.specs.Pattern.{arity}
 use Rattle.model.specs.Embeddings.{summaryEmbeddings}
 use Rattle.model.specs.Fitting.{parentRule}
 use Rattle.model.specs.Bytes.{Case, caseOf, documentOf, listOf, isWholeDocument, isWholeList}
-use Rattle.model.specs.Questions.{between, limitInRange, bufferLargeEnough, tableLargeEnough, tallyInRange, documentRecordKept, documentKept, listInRange, patternGiven, selected, positionGiven, isSummaryEmbedding, ask, verdictRefusal, fitsRefusal, resultRefusal, nodesRefusal, pathsRefusal, layoutRefusal}
+use Rattle.model.specs.Questions.{between, limitInRange, bufferLargeEnough, tableLargeEnough, tallyInRange, documentRecordKept, documentKept, listInRange, patternGiven, selected, positionGiven, isSummaryEmbedding, ask, caseQuestions, verdictRefusal, fitsRefusal, resultRefusal, nodesRefusal, pathsRefusal, layoutRefusal}
 use Rattle.model.specs.Facts.{AcceptedCase, DocumentFacts, ListFacts}
 use Rattle.model.proofs.ListLaws.{and-left, and-right, true-or-false, all-elim, all-below, any-elim, same-eq}
 use Rattle.model.proofs.Fitting.{rooted}
-use Rattle.model.proofs.CaseFacts.{between-facts, asked}
+use Rattle.model.proofs.CaseFacts.{between-facts, case-accepted, all-asked, asked}
+use Rattle.model.proofs.Refusals.{AllYes}
 
 -- ---- the other questions
 
@@ -70,6 +71,7 @@ embedding-given c s l e =
 -- ---- what each accepted call has
 
 pub record VerdictFacts (b : List ℕ) (L tally bufferBytes : ℕ) : Type 0 where
+  pub asked : AllYes (caseQuestions b)
   pub case : AcceptedCase b
   pub limitLow : 1 ≤ L
   pub limitHigh : L ≤ maxLimit
@@ -80,11 +82,12 @@ pub accepted-verdict : (b : List ℕ) (L tally bufferBytes : ℕ) → verdictRef
 unfolding verdictRefusal limitInRange bufferLargeEnough tallyInRange
 accepted-verdict b L tally bufferBytes e =
     let y =
-    asked b (ask 1 (limitInRange L) ∷ ask 2 (bufferLargeEnough bufferBytes) ∷ []) (ask 9 (tallyInRange tally L) ∷ [])
+    all-asked b (ask 1 (limitInRange L) ∷ ask 2 (bufferLargeEnough bufferBytes) ∷ []) (ask 9 (tallyInRange tally L) ∷ [])
     (omega arith, (omega arith, tt)) (omega arith, tt) e in
     let limit = between-facts 1 maxLimit L (y .0 .0) in
     record {
-      case = y .1;
+      asked = y .1;
+      case = case-accepted b (y .1);
       limitLow = limit .0;
       limitHigh = limit .1;
       buffer = leb-true minBuffer bufferBytes (y .0 .1 .0);

@@ -9,7 +9,7 @@ use native.Mathlib.Omega.{arith}
 use native.Mathlib.Nat.{le-refl}
 use lib.Dec.{eqb, leb, ltb}
 use lib.ListN.{length, getD, List·getD-map}
-use borrow.Author.Tests.{eqb-true, leb-true, ltb-false, eq-eqb, lt-ltb, not-true}
+use borrow.Author.Tests.{eqb-true, leb-true, ltb-true, ltb-false, eq-eqb, lt-ltb, not-true}
 use Rattle.model.specs.Lists.{upFrom, allOf, countOf}
 use Rattle.model.specs.Limits.{maxSummary, maxPattern, maxPosition}
 use Rattle.model.specs.Tree.{DocumentRecord, IsTree, Child}
@@ -179,21 +179,36 @@ numbered-case b = (omega arith, (omega arith, (omega arith, (omega arith, (omega
 pub accepted-case : (b : List ℕ) → refusal (caseQuestions b) ≡ 0 → CaseFacts (caseOf b)
 accepted-case b e = all-yes-case b (accepted-all-yes (caseQuestions b) (numbered-case b) e)
 
-case-accepted : (b : List ℕ) → AllYes (caseQuestions b) → AcceptedCase b
+pub case-accepted : (b : List ℕ) → AllYes (caseQuestions b) → AcceptedCase b
 unfolding caseQuestions caseWhole
 case-accepted b y = record { whole = whole-case b .0 (y .0); facts = all-yes-case b y }
 
 -- the case questions between others: all are answered yes
-pub asked : (b : List ℕ) (before after : List Question) → Numbered before → Numbered after → refusal (before ++ (caseQuestions b ++ after)) ≡ 0
-    → AllYes before × AcceptedCase b × AllYes after
-asked b before after k l e =
+pub all-asked : (b : List ℕ) (before after : List Question) → Numbered before → Numbered after → refusal (before ++ (caseQuestions b ++ after)) ≡ 0
+    → AllYes before × AllYes (caseQuestions b) × AllYes after
+all-asked b before after k l e =
     let y : AllYes (before ++ (caseQuestions b ++ after)) =
     accepted-all-yes (before ++ (caseQuestions b ++ after)) (numbered-append before (caseQuestions b ++ after) k (numbered-append (caseQuestions b) after (numbered-case b) l)) e in
-    let z : AllYes (caseQuestions b ++ after) = all-yes-right before (caseQuestions b ++ after) y in (
-      all-yes-left before (caseQuestions b ++ after) y,
-      case-accepted b (all-yes-left (caseQuestions b) after z),
-      all-yes-right (caseQuestions b) after z,
-    )
+    let z : AllYes (caseQuestions b ++ after) = all-yes-right before (caseQuestions b ++ after) y in
+    (all-yes-left before (caseQuestions b ++ after) y, all-yes-left (caseQuestions b) after z, all-yes-right (caseQuestions b) after z)
+
+-- so the case is accepted
+pub asked : (b : List ℕ) (before after : List Question) → Numbered before → Numbered after → refusal (before ++ (caseQuestions b ++ after)) ≡ 0
+    → AllYes before × AcceptedCase b × AllYes after
+asked b before after k l e = let y = all-asked b before after k l e in (y .0, case-accepted b (y .1), y .2)
+
+-- an outline's labels are not 0
+pub label-some : (S : Summary) → summaryKept S ≡ true → (s : ℕ) → s < length S → 0 < summaryLabel S s
+unfolding summaryKept summaryRecordKept
+label-some S kept s h =
+    let k : summaryRecordKept S s ≡ true = all-below (summaryRecordKept S) (length S) kept s h in
+    let e : summaryLabel S s ≡ getD S s noSummaryRecord .label = ap (λ (r : DocumentRecord). r .label) (List·getD-map withoutStrong S s noSummaryRecord) in
+    let l : 0 < getD S s noSummaryRecord .label = ltb-true 0 (getD S s noSummaryRecord .label) (and-right (parentRule s (getD S s noSummaryRecord .parent)) _ (and-left _ _ (and-left _ _ k))) in
+    omega arith
+
+pub labels-some : (b : List ℕ) → AllYes (caseQuestions b) → (s : ℕ) → s < length (caseOf b .summary) → 0 < summaryLabel (caseOf b .summary) s
+unfolding caseQuestions
+labels-some b y = label-some (caseOf b .summary) (y .1 .1 .0)
 
 -- a selection of an accepted case keeps the rules, whichever it is
 pub selected-facts : (c : Case) (s : ℕ) → CaseFacts c → PatternFacts (selected c s)

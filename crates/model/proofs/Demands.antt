@@ -1,68 +1,60 @@
--- Demands 2 and 3, each sentence a theorem about the outcome of an accepted call, proved by citing the layers below.
--- Assumes nothing.
+-- Demands 1, 2 and 3, each sentence a theorem about the outcome of a call, proved by citing the layers below; and of each call, that
+-- whoever has the model's outcome has the record of its contract. Assumes nothing.
 use Prim.Native.Nat.{ℕ, suc, _+_, _*_, _≤_, _<_}
 use mathlib.Core.Path.{_≡_, refl, sym, ap, _∙_, subst}
 use mathlib.Core.Bool.{Bool, true, false, true≢false}
 use mathlib.Core.Logic.{_↔_, Iff·trans, Iff·symm}
-use mathlib.Core.List.{List, [], _++_, map, List·Memᴰ}
+use mathlib.Core.List.{List, [], _++_, map, List·Memᴰ, List·Memᴰ·head, Memᴰ·append-right}
 use native.Mathlib.Omega.{arith}
 use native.Mathlib.Nat.{zero-add}
 use lib.Count.{ones}
 use lib.Dec.{eqb}
 use lib.ListN.{length, getD, take, length-append, length-map}
-use Rattle.model.specs.Lists.{upFrom, Ascending, has}
+use Rattle.model.specs.Lists.{upFrom}
 use Rattle.model.specs.Limits.{maxPattern, maxPosition, maxCanonical, minBuffer}
-use Rattle.model.specs.Tree.{Document}
-use Rattle.model.specs.Summary.{Summary, Fits}
-use Rattle.model.specs.Pattern.{PatternRecord, Pattern, arity, returnNodes, Result, AtPosition, PathOf, Contained, CounterExample}
+use Rattle.model.specs.Tree.{Document, labelOf}
+use Rattle.model.specs.Summary.{Summary}
+use Rattle.model.specs.Pattern.{PatternRecord, Pattern, arity, returnNodes, SummaryEmbedding, Contained, CounterExample}
 use Rattle.model.specs.Embeddings.{imageIn, summaryEmbeddings, isResult, nodesAt, pathMask, pathCount}
 use Rattle.model.specs.Fitting.{fits}
 use Rattle.model.specs.Canonical.{canonical, canonicalSpots, ownNodes, ownResult, passes, spotRecord}
-use Rattle.model.specs.Verdict.{Verdict, included, notIncluded, stopped, verdict}
-use Rattle.model.specs.Bytes.{Case, caseOf, documentOf, listOf, encodeDocument, encodeCounted, writtenAtFront}
-use Rattle.model.specs.Questions.{selected, verdictRefusal, fitsRefusal, resultRefusal, nodesRefusal, pathsRefusal, layoutRefusal}
-use Rattle.model.specs.Calls.{kindIncluded, kindNotIncluded, kindStopped, kindOf, shown, verdictAccepted, verdictCall, fitsCall, resultCall, NodesOutcome, nodesAccepted, nodesCall, PathsAnswer, pathsAccepted, pathsCall, LaidRecord, laidRecord, LayoutOutcome, layoutAccepted, layoutCall}
+use Rattle.model.specs.Verdict.{Verdict, included, notIncluded, stopped, verdict, triedOf}
+use Rattle.model.specs.Bytes.{Case, caseOf, documentOf, listOf, documentFields, sectionFields, encodeDocument, encodeCounted, writtenAtFront}
+use Rattle.model.specs.Questions.{selected, caseQuestions, verdictRefusal, fitsRefusal, resultRefusal, nodesRefusal, pathsRefusal, layoutRefusal}
+use Rattle.model.specs.Calls.{kindIncluded, kindNotIncluded, kindStopped, kindOf, shown, VerdictOutcome, verdictAccepted, verdictCall, TestAnswer, fitsCall, resultCall, NodesOutcome, nodesAccepted, nodesCall, PathsAnswer, pathsAccepted, pathsCall, LaidRecord, laidRecord, LayoutOutcome, layoutAccepted, layoutCall}
 use Rattle.model.specs.Facts.{SummaryFacts, PatternFacts, CaseFacts}
-use Rattle.model.specs.Demands.{SomeCounterExample, AllEmbeddingsPass, SomeEmbeddingFails, Shown, Demand3}
+use Rattle.model.specs.Demands.{TestTold, FitsTold, ResultTold, NodesTold, PathsTold, LayoutTold, SomeCounterExample, AllEmbeddingsPass, SomeEmbeddingFails, Shown, ReadsBack, Demand3, FitsAnswered, ResultAnswered, NodesAnswered, PathsAnswered, LayoutAnswered, VerdictAnswered}
 use Rattle.model.proofs.ListLaws.{by-bool, length-map-upFrom, getD-map-upFrom}
 use Rattle.model.proofs.ReturnNodes.{length-returnNodes}
 use Rattle.model.proofs.Results.{result-exact, nodes-at-exact, nodes-at-ascending, path-mask-exact, path-mask-beyond, path-count-ones}
 use Rattle.model.proofs.Fitting.{fits-exact}
-use Rattle.model.proofs.Decision.{listed-fits, listed-result, listed-small, contained-exact, contained-or-counter, counter-exact, failing-canonical}
-use Rattle.model.proofs.Verdict.{IsIncluded, IsNotIncluded, IsStopped, few-included, few-not-included, more-stopped, more-never-included, not-included-iff, stopped-iff, included-or-not, not-or-stopped, verdict-judge, verdict-tried, verdict-shown}
+use Rattle.model.proofs.Decision.{placed as placed-listed, listed-fits, listed-result, listed-small, contained-exact, contained-or-counter, counter-exact, failing-canonical}
+use Rattle.model.proofs.Verdict.{Included, IsIncluded, IsNotIncluded, IsStopped, judge-included, judge-not-included, judge-stopped, few-included, few-not-included, more-stopped, more-never-included, not-included-iff, stopped-iff, included-or-not, not-or-stopped, verdict-judge, verdict-tried, verdict-shown}
+use Rattle.model.proofs.Refusals.{AllYes}
 use Rattle.model.proofs.CallFacts.{accepted-verdict, accepted-fits, accepted-result, accepted-nodes, accepted-paths, accepted-layout}
-use Rattle.model.proofs.CaseFacts.{selected-facts}
-use Rattle.model.proofs.Calls.{verdict-accepted, fits-accepted, result-accepted, nodes-accepted, paths-accepted, layout-accepted, length-counted, verdict-length}
-use Rattle.model.proofs.Bytes.{front-none, length-document}
+use Rattle.model.proofs.CaseFacts.{selected-facts, labels-some}
+use Rattle.model.proofs.Calls.{verdict-refused, verdict-accepted, fits-refused, fits-accepted, result-refused, result-accepted, nodes-refused, nodes-accepted, paths-refused, paths-accepted, layout-refused, layout-accepted, length-counted, verdict-length}
+use Rattle.model.proofs.Bytes.{FitFields, front-none, length-document}
+use Rattle.model.proofs.ReadBack.{AreBytes, label-fits, canonical-labels, canonical-fields, reads-back}
 
 -- ---- Demand 2: fits, results, nodes at a position and paths are told exactly by the definitions
 
--- a yes is the answer 1
-yes-exact : (t : Bool) → (_≡_ {A = ℕ} (elim t as (λ _. ℕ) [ true ↦ 1 | false ↦ 0 ]) 1) ↔ (t ≡ true)
-yes-exact true = (λ e. refl, λ e. refl)
-yes-exact false = (λ e. absurd (omega arith), λ e. absurd (true≢false (sym e)))
+-- a test answers 1 or 0
+told : {Holds : Type 0} {a : TestAnswer} (test : Bool) → (test ≡ true) ↔ Holds → a ≡ record { refused = 0; holds = elim test [ true ↦ 1 | false ↦ 0 ] } → TestTold Holds a
+told {Holds} test exact e = subst (TestTold Holds) (sym e) (go test exact)
+  where
+    go : (t : Bool) → (t ≡ true) ↔ Holds → TestTold Holds (record { refused = 0; holds = elim t as (λ _. ℕ) [ true ↦ 1 | false ↦ 0 ] })
+    go true x = record { accepted = refl; saysYes = (λ h. x .0 refl, λ h. refl); saysNo = (λ h. absurd (omega arith), λ n. absurd (n (x .0 refl))) }
+    go false x = record { accepted = refl; saysYes = (λ h. absurd (omega arith), λ h. absurd (true≢false (sym (x .1 h)))); saysNo = (λ h k. true≢false (sym (x .1 k)), λ n. refl) }
 
--- Fits says yes exactly when the volume fits the outline
-pub fits-told : (b w : List ℕ) → fitsRefusal b w ≡ 0 → (fitsCall b w .holds ≡ 1) ↔ Fits (caseOf b .summary) (documentOf w)
+pub fits-told : (b w : List ℕ) → fitsRefusal b w ≡ 0 → FitsTold (caseOf b .summary) (documentOf w) (fitsCall b w)
 fits-told b w e =
-    let f = accepted-fits b w e in
-    rw (fits-accepted b w e) (Iff·trans (yes-exact (fits (caseOf b .summary) (documentOf w))) (fits-exact (f .case .facts .summary) (documentOf w)))
+    told (fits (caseOf b .summary) (documentOf w)) (fits-exact (accepted-fits b w e .case .facts .summary) (documentOf w)) (fits-accepted b w e)
 
--- Is it a result says yes exactly when the list is a result of the selection in the volume
-pub result-told : (b : List ℕ) (s : ℕ) (w r : List ℕ) → resultRefusal b s w r ≡ 0
-    → (resultCall b s w r .holds ≡ 1) ↔ Result (selected (caseOf b) s) (documentOf w) (listOf r)
+pub result-told : (b : List ℕ) (s : ℕ) (w r : List ℕ) → resultRefusal b s w r ≡ 0 → ResultTold (selected (caseOf b) s) (documentOf w) (listOf r) (resultCall b s w r)
 result-told b s w r e =
     let f = accepted-result b s w r e in
-    rw (result-accepted b s w r e)
-    (Iff·trans (yes-exact (isResult (selected (caseOf b) s) (documentOf w) (listOf r))) (result-exact (listOf r) (selected-facts (caseOf b) s (f .case .facts)) (f .document .tree)))
-
--- Nodes at a position writes exactly the nodes at that position in any result, ascending, after their count
-pub record NodesTold (P : Pattern) (W : Document) (p : ℕ) (before : List ℕ) (o : NodesOutcome) : Type 0 where
-  pub nodes : List ℕ
-  pub exact : (v : ℕ) → List·Memᴰ v nodes ↔ AtPosition P W p v
-  pub ascending : Ascending _<_ nodes
-  pub count : o .answer .count ≡ length nodes
-  pub written : o .buffer ≡ writtenAtFront (encodeCounted nodes) before
+    told (isResult (selected (caseOf b) s) (documentOf w) (listOf r)) (result-exact (listOf r) (selected-facts (caseOf b) s (f .case .facts)) (f .document .tree)) (result-accepted b s w r e)
 
 pub nodes-told : (b : List ℕ) (s : ℕ) (w : List ℕ) (p : ℕ) (buffer : List ℕ) → nodesRefusal b s w p (length buffer) ≡ 0
     → NodesTold (selected (caseOf b) s) (documentOf w) p buffer (nodesCall b s w p buffer)
@@ -72,20 +64,13 @@ nodes-told b s w p buffer e =
     let P : Pattern = selected (caseOf b) s in
     let q : nodesCall b s w p buffer ≡ nodesAccepted (nodesAt P (documentOf w) p) buffer = nodes-accepted b s w p buffer e in
     record {
+      accepted = ap (λ (o : NodesOutcome). o .answer .refused) q;
       nodes = nodesAt P (documentOf w) p;
       exact = λ v. nodes-at-exact p v (selected-facts (caseOf b) s (f .case .facts)) (f .document .tree) (f .positionLow) (f .positionHigh);
       ascending = nodes-at-ascending P (documentOf w) p;
       count = ap (λ (o : NodesOutcome). o .answer .count) q;
       written = ap (λ (o : NodesOutcome). o .buffer) q;
     }
-
--- Paths of each node: bit i of a node's mask exactly when outline node i is one of its paths, and how many there are; entries
--- past the last node are 0
-pub record PathsTold (S : Summary) (P : Pattern) (o : PathsAnswer) : Type 0 where
-  pub masks : (q i : ℕ) → q < length P → q < maxPattern → (has (getD (o .masks) q 0) i ≡ true) ↔ PathOf S P q i
-  pub counts : (q : ℕ) → q < maxPattern → getD (o .counts) q 0 ≡ ones (getD (o .masks) q 0)
-  pub past : (q : ℕ) → length P ≤ q → q < maxPattern → getD (o .masks) q 0 ≡ 0
-  pub sizes : (length (o .masks) ≡ maxPattern) × (length (o .counts) ≡ maxPattern)
 
 entry : (f : ℕ → ℕ) (q : ℕ) → q < maxPattern → getD (map f (upFrom 0 maxPattern)) q 0 ≡ f q
 entry f q h = getD-map-upFrom f 0 maxPattern q 0 h ∙ ap f (zero-add q)
@@ -94,6 +79,7 @@ paths-accepted-told : {S : Summary} {P : Pattern} → SummaryFacts S → Pattern
 unfolding pathsAccepted
 paths-accepted-told {S} {P} s p =
     record {
+      accepted = refl;
       masks = λ q i l h. rw (entry (pathMask S P) q h) (path-mask-exact q i (p .tree) s l);
       counts = λ q h. entry (pathCount S P) q h ∙ (path-count-ones S P q ∙ ap ones (sym (entry (pathMask S P) q h)));
       past = λ q l h. entry (pathMask S P) q h ∙ path-mask-beyond S P q l;
@@ -110,14 +96,6 @@ paths-told b s e =
 selected-size : (c : Case) (s : ℕ) → CaseFacts c → length (selected c s) ≤ maxPattern
 selected-size c s f = by-bool (λ t. length {A = PatternRecord} (elim t as (λ _. Pattern) [ true ↦ c .first | false ↦ c .second ]) ≤ maxPattern) (eqb s 1) (f .firstSize) (f .secondSize)
 
--- Lay out a trial fills the table's front with the trial volume of the placement, which fits and has at most 1,009 nodes
-pub record LayoutTold (S : Summary) (P : Pattern) (es : List ℕ) (before : List LaidRecord) (o : LayoutOutcome) : Type 0 where
-  pub fitting : Fits S (canonical S P es)
-  pub own : Result P (canonical S P es) (ownResult S P es)
-  pub small : o .answer .count ≤ maxCanonical
-  pub count : o .answer .count ≡ length (canonical S P es)
-  pub written : o .table ≡ writtenAtFront (map (laidRecord S) (canonicalSpots S P es)) before
-
 pub layout-told : (b : List ℕ) (s : ℕ) (l : List ℕ) (table : List LaidRecord) → layoutRefusal b s l (length table) ≡ 0
     → LayoutTold (caseOf b .summary) (selected (caseOf b) s) (listOf l) table (layoutCall b s l table)
 unfolding layoutAccepted canonical
@@ -133,6 +111,7 @@ layout-told b s l table e =
     ∙ (length-map (canonicalSpots S P es) (laidRecord S) ∙ sym (length-map (canonicalSpots S P es) (spotRecord S))) in
     let k : length (canonical S P es) ≤ maxCanonical = listed-small (f .case .facts .summary) g (f .embedding) (f .case .facts .summarySize) (selected-size (caseOf b) s (f .case .facts)) in
     record {
+      accepted = ap (λ (o : LayoutOutcome). o .answer .refused) q;
       fitting = listed-fits (f .case .facts .summary) g (f .embedding);
       own = listed-result (f .case .facts .summary) g (f .embedding);
       small = subst (λ (x : ℕ). x ≤ maxCanonical) (sym n) k;
@@ -215,43 +194,146 @@ module _ (c : Case) (f : CaseFacts c) (L : ℕ) where
       let k = verdict-shown S P Q L n es e in
       (failing-canonical (f .summary) (f .first) (f .second) (k .0) (k .1), listed-small (f .summary) (f .first) (k .0) (f .summarySize) (f .firstSize))
 
-  accepted-shows : (tally : ℕ) (buffer : List ℕ) → kindOf (verdict S P Q L) ≡ kindNotIncluded → Shown S P Q buffer (verdictAccepted c L tally buffer .buffer)
-  unfolding verdictAccepted
+  -- it is the earliest that does not pass, and tried is its rank from 1
+  accepted-shows : (tally : ℕ) (buffer : List ℕ) → kindOf (verdict S P Q L) ≡ kindNotIncluded → Shown S P Q L (triedOf (verdict S P Q L)) buffer (verdictAccepted c L tally buffer .buffer)
+  unfolding verdictAccepted triedOf
   accepted-shows tally buffer e =
       let k = kind-not-included (verdict S P Q L) .0 e in
       let es : List ℕ = k .1 in
       let s = shows (k .0) es (k .2) in
+      let d = judge-not-included (passes S P Q) L listed (k .0) es (sym (verdict-judge S P Q L) ∙ k .2) in
+      let n : triedOf (verdict S P Q L) ≡ suc (length (d .0 .before)) = ap triedOf (k .2) ∙ d .1 in
       record {
+        earlier = d .0 .before;
+        placement = es;
+        later = d .0 .after;
+        ordered = d .0 .split;
+        earlierPass = d .0 .pass;
+        fails = d .0 .fails;
+        rank = omega arith;
+        amongFirst = let w : length (d .0 .before) < L = d .0 .within in omega arith;
         document = canonical S P es;
         result = ownResult S P es;
+        trial = refl;
+        own = refl;
         counterExample = s .0;
         small = s .1;
         written = ap (λ (v : Verdict). writtenAtFront (shown S P v) buffer) (k .2) ∙ ap (λ (w : List ℕ). writtenAtFront w buffer) (shown-canonical S P (k .0) es);
       }
 
-  accepted-demand : (tally : ℕ) (buffer : List ℕ) → Demand3 c L tally buffer (verdictAccepted c L tally buffer)
-  unfolding verdictAccepted
-  accepted-demand tally buffer =
-      let v : Verdict = verdict S P Q L in
-      record {
-        notIncluded = λ h. Iff·trans (kind-not-included v) (few-counter h);
-        included = λ h. Iff·trans (kind-included v) (Iff·trans (few-contained h) (contained-or-counter (f .summary) (f .first) (f .second)));
-        inclusion = λ h. Iff·trans (kind-included v) (few-contained h);
-        stopped = λ h. Iff·trans (kind-stopped v) (more-stops h);
-        failing = λ h. Iff·trans (kind-not-included v) more-fails;
-        neverIncluded = λ h e. more-never h (kind-included v .0 e);
-        onlyStopped = λ e. stops-more (kind-stopped v .0 e);
-        shown = accepted-shows tally buffer;
-        silent = λ h. ap (λ (w : List ℕ). writtenAtFront w buffer) (shown-nothing S P v h) ∙ front-none buffer;
-        tallied = refl;
-        limited = verdict-tried S P Q L;
-      }
+  -- tried of the other two
+  stops-tried : IsStopped (verdict S P Q L) → triedOf (verdict S P Q L) ≡ L
+  unfolding triedOf
+  stops-tried k = ap triedOf (k .1) ∙ judge-stopped (passes S P Q) L listed (k .0) (sym (verdict-judge S P Q L) ∙ k .1) .0
+
+  includes : (k : IsIncluded (verdict S P Q L)) → (k .0 ≡ length listed) × Included (passes S P Q) L listed
+  includes k = judge-included (passes S P Q) L listed (k .0) (sym (verdict-judge S P Q L) ∙ k .1)
+
+  includes-tried : IsIncluded (verdict S P Q L) → triedOf (verdict S P Q L) ≡ length listed
+  unfolding triedOf
+  includes-tried k = ap triedOf (k .1) ∙ includes k .0
+
+-- what is shown of bytes that every question on the case accepts reads back
+shown-back : (b : List ℕ) → AreBytes b → AllYes (caseQuestions b) → CaseFacts (caseOf b) → {L n : ℕ} {before after : List ℕ}
+    → (s : Shown (caseOf b .summary) (caseOf b .first) (caseOf b .second) L n before after) → ReadsBack b after (s .document) (s .result)
+shown-back b small asked f {L} {n} {before} {after} s =
+    reads-back b asked f (s .counterExample) (let few : length (s .document) ≤ maxCanonical = s .small in omega arith)
+    (subst (λ (W : Document). (i : ℕ) → i < length W → 0 < labelOf W i) (sym (s .trial)) (canonical-labels S P es (f .summary .tree) (f .first .tree) placed (λ l. 0 < l) (labels-some b asked)))
+    (subst (λ (W : Document). FitFields (sectionFields documentFields W)) (sym (s .trial))
+    (canonical-fields S P es (f .summary .tree) (f .first .tree) placed (label-fits b small) (subst (λ (W : Document). length W ≤ maxCanonical) (s .trial) (s .small))))
+    before (s .written)
+  where
+    S : Summary
+    S = caseOf b .summary
+
+    P : Pattern
+    P = caseOf b .first
+
+    es : List ℕ
+    es = s .placement
+
+    placed : SummaryEmbedding S P (imageIn es)
+    placed = placed-listed (f .summary) (f .first) (subst (λ (l : List (List ℕ)). List·Memᴰ es l) (sym (s .ordered)) (Memᴰ·append-right (s .earlier) (List·Memᴰ·head refl))) .1
+
+accepted-demand : (b : List ℕ) → AreBytes b → AllYes (caseQuestions b) → CaseFacts (caseOf b) → (L tally : ℕ) (buffer : List ℕ) → Demand3 b L tally buffer (verdictAccepted (caseOf b) L tally buffer)
+unfolding verdictAccepted
+accepted-demand b small asked f L tally buffer =
+    let c : Case = caseOf b in
+    let v : Verdict = verdict (c .summary) (c .first) (c .second) L in
+    record {
+      accepted = refl;
+      notIncluded = λ h. Iff·trans (kind-not-included v) (few-counter c f L h);
+      included = λ h. Iff·trans (kind-included v) (Iff·trans (few-contained c f L h) (contained-or-counter (f .summary) (f .first) (f .second)));
+      inclusion = λ h. Iff·trans (kind-included v) (few-contained c f L h);
+      stopped = λ h. Iff·trans (kind-stopped v) (more-stops c f L h);
+      failing = λ h. Iff·trans (kind-not-included v) (more-fails c f L);
+      neverIncluded = λ h e. more-never c f L h (kind-included v .0 e);
+      onlyStopped = λ e. stops-more c f L (kind-stopped v .0 e);
+      stoppedTried = λ e. stops-tried c f L (kind-stopped v .0 e);
+      onlyIncluded = λ e. includes c f L (kind-included v .0 e) .1 .pass;
+      includedTried = λ e. includes-tried c f L (kind-included v .0 e);
+      shown = accepted-shows c f L tally buffer;
+      readsBack = λ e. shown-back b small asked f (accepted-shows c f L tally buffer e);
+      silent = λ h. ap (λ (w : List ℕ). writtenAtFront w buffer) (shown-nothing (c .summary) (c .first) v h) ∙ front-none buffer;
+      tallied = refl;
+      limited = verdict-tried (c .summary) (c .first) (c .second) L;
+    }
 
 -- the verdict call keeps demand 3
-pub demand-3 : (b : List ℕ) (L tally : ℕ) (buffer : List ℕ) → verdictRefusal b L tally (length buffer) ≡ 0 → Demand3 (caseOf b) L tally buffer (verdictCall b L tally buffer)
-demand-3 b L tally buffer e =
+pub demand-3 : (b : List ℕ) → AreBytes b → (L tally : ℕ) (buffer : List ℕ) → verdictRefusal b L tally (length buffer) ≡ 0 → Demand3 b L tally buffer (verdictCall b L tally buffer)
+demand-3 b small L tally buffer e =
     let f = accepted-verdict b L tally (length buffer) e in
-    subst (Demand3 (caseOf b) L tally buffer) (sym (verdict-accepted b L tally buffer e)) (accepted-demand (caseOf b) (f .case .facts) L tally buffer)
+    subst (Demand3 b L tally buffer) (sym (verdict-accepted b L tally buffer e)) (accepted-demand b small (f .asked) (f .case .facts) L tally buffer)
+
+-- ---- The calls: from the model's outcome to the record of the contract
+
+pub fits-answered : (b w : List ℕ) {a : TestAnswer} → a ≡ fitsCall b w → FitsAnswered b w a
+fits-answered b w e =
+    record {
+      outcome = e;
+      demand1 = λ f. e ∙ fits-refused b w f;
+      demand2 = λ z. subst (FitsTold (caseOf b .summary) (documentOf w)) (sym e) (fits-told b w z);
+    }
+
+pub result-answered : (b : List ℕ) (s : ℕ) (w r : List ℕ) {a : TestAnswer} → a ≡ resultCall b s w r → ResultAnswered b s w r a
+result-answered b s w r e =
+    record {
+      outcome = e;
+      demand1 = λ f. e ∙ result-refused b s w r f;
+      demand2 = λ z. subst (ResultTold (selected (caseOf b) s) (documentOf w) (listOf r)) (sym e) (result-told b s w r z);
+    }
+
+pub nodes-answered : (b : List ℕ) (s : ℕ) (w : List ℕ) (p : ℕ) (before : List ℕ) {o : NodesOutcome} → o ≡ nodesCall b s w p before → NodesAnswered b s w p before o
+nodes-answered b s w p before e =
+    record {
+      outcome = e;
+      demand1 = λ f. e ∙ nodes-refused b s w p before f;
+      demand2 = λ z. subst (NodesTold (selected (caseOf b) s) (documentOf w) p before) (sym e) (nodes-told b s w p before z);
+    }
+
+pub paths-answered : (b : List ℕ) (s : ℕ) {a : PathsAnswer} → a ≡ pathsCall b s → PathsAnswered b s a
+paths-answered b s e =
+    record {
+      outcome = e;
+      demand1 = λ f. e ∙ paths-refused b s f;
+      demand2 = λ z. subst (PathsTold (caseOf b .summary) (selected (caseOf b) s)) (sym e) (paths-told b s z);
+    }
+
+pub layout-answered : (b : List ℕ) (s : ℕ) (l : List ℕ) (before : List LaidRecord) {o : LayoutOutcome} → o ≡ layoutCall b s l before → LayoutAnswered b s l before o
+layout-answered b s l before e =
+    record {
+      outcome = e;
+      demand1 = λ f. e ∙ layout-refused b s l before f;
+      demand2 = λ z. subst (LayoutTold (caseOf b .summary) (selected (caseOf b) s) (listOf l) before) (sym e) (layout-told b s l before z);
+    }
+
+pub verdict-answered : (b : List ℕ) → AreBytes b → (L tally : ℕ) (before : List ℕ) {o : VerdictOutcome} → o ≡ verdictCall b L tally before → VerdictAnswered b L tally before o
+verdict-answered b small L tally before e =
+    record {
+      outcome = e;
+      demand1 = λ f. e ∙ verdict-refused b L tally before f;
+      demand3 = λ z. subst (Demand3 b L tally before) (sym e) (demand-3 b small L tally before z);
+    }
 
 -- ---- What is lent keeps its length: what a call writes fits
 

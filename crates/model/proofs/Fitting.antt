@@ -30,9 +30,15 @@ rooted n parent some each = record { inhabited = some; root = eqb-true (parent 0
     earlier zero p l = absurd (omega arith)
     earlier (suc i) p l = ltb-true (parent (suc i)) (suc i) (each (suc i) l)
 
+-- and a tree's parents keep it
+pub rooted-rule : {n : ℕ} {parent : ℕ → ℕ} → Rooted n parent → (i : ℕ) → i < n → parentRule i (parent i) ≡ true
+unfolding parentRule
+rooted-rule {n} {parent} r zero l = eq-eqb (parent 0) 0 (r .root)
+rooted-rule {n} {parent} r (suc i) l = lt-ltb (parent (suc i)) (suc i) (r .earlier (suc i) (omega arith) l)
+
 -- the test of a table says exactly that it is a rooted tree
 pub rooted-exact : (n : ℕ) (parent : ℕ → ℕ) → (isRooted n parent ≡ true) ↔ Rooted n parent
-unfolding isRooted parentRule
+unfolding isRooted
 rooted-exact n parent = (forth, back)
   where
     forth : (ltb 0 n && allOf (λ i. parentRule i (parent i)) (upFrom 0 n)) ≡ true → Rooted n parent
@@ -40,12 +46,8 @@ rooted-exact n parent = (forth, back)
         rooted n parent (ltb-true 0 n (and-left (ltb 0 n) (allOf (λ i. parentRule i (parent i)) (upFrom 0 n)) e))
         (all-below (λ i. parentRule i (parent i)) n (and-right (ltb 0 n) (allOf (λ i. parentRule i (parent i)) (upFrom 0 n)) e))
 
-    rule : Rooted n parent → (i : ℕ) → i < n → parentRule i (parent i) ≡ true
-    rule r zero l = eq-eqb (parent 0) 0 (r .root)
-    rule r (suc i) l = lt-ltb (parent (suc i)) (suc i) (r .earlier (suc i) (omega arith) l)
-
     back : Rooted n parent → (ltb 0 n && allOf (λ i. parentRule i (parent i)) (upFrom 0 n)) ≡ true
-    back r = and-intro (lt-ltb 0 n (r .inhabited)) (below-all (λ i. parentRule i (parent i)) n (rule r))
+    back r = and-intro (lt-ltb 0 n (r .inhabited)) (below-all (λ i. parentRule i (parent i)) n (rooted-rule r))
 
 -- ---- strong edges
 

@@ -34,6 +34,7 @@ pub mod CallFacts
 pub mod Calls
 pub mod Tally
 pub mod Decision
+pub mod ReadBack
 pub mod Demands
 pub mod Computing
 pub mod Examples

@@ -3,7 +3,7 @@ use Prim.Native.Nat.{ℕ, _+_, _*_, _/_, _%_, _≤_}
 use mathlib.Core.Bool.{Bool, true, false, _&&_}
 use mathlib.Core.List.{List, [], _∷_, _++_, map, flatMap}
 use lib.Dec.{eqb, leb}
-use lib.ListN.{length, getD, drop}
+use lib.ListN.{length, getD, take, drop}
 use Rattle.model.specs.Lists.{upFrom}
 use Rattle.model.specs.Limits.{maxCaseBytes, summaryWidth, patternWidth, documentWidth}
 use Rattle.model.specs.Tree.{DocumentRecord, Document}
@@ -146,3 +146,11 @@ encodeCounted ns = bytesOf (length ns ∷ ns)
 -- a buffer or table written at its front: what stands after what is written keeps its contents
 unfoldable pub writtenAtFront : {A : Type 0} → List A → List A → List A
 writtenAtFront written buffer = written ++ drop (length written) buffer
+
+-- what a reader takes off a buffer that "not included" wrote: the volume's section, which is a count and as many records as it says
+abbrev pub shownSection : List ℕ → List ℕ
+shownSection b = take (2 * sectionEnd documentWidth b 0) b
+
+-- and the result's list: after the count k that follows the section, k node numbers
+abbrev pub shownList : List ℕ → List ℕ
+shownList b = take (2 * field b (sectionEnd documentWidth b 0)) (drop (2 * (sectionEnd documentWidth b 0 + 1)) b)

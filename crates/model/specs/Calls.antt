@@ -84,6 +84,13 @@ pub record TestAnswer : Type 0 where
   pub refused : ℕ
   pub holds : ℕ
 
+-- the two that an accepted call gives
+abbrev pub yesAnswer : TestAnswer
+yesAnswer = record { refused = 0; holds = 1 }
+
+abbrev pub noAnswer : TestAnswer
+noAnswer = record { refused = 0; holds = 0 }
+
 unfoldable pub testAnswer : ℕ → Bool → TestAnswer
 testAnswer number test =
     elim (eqb number 0) [

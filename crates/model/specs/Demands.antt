@@ -1,19 +1,74 @@
--- What the demands on the calls say, in the demands' own words over the declarative definitions. proofs/Demands.antt shows that
--- the outcome of every accepted call keeps them.
+-- What the demands on the calls say, in the demands' own words over the declarative definitions; then, of each call, one record that
+-- holds its outcome and its demands, and is what its contract promises. proofs/Demands.antt shows that every call keeps them.
 use Prim.Native.Nat.{ℕ, _+_, _≤_, _<_}
 use mathlib.Core.Path.{_≡_}
 use mathlib.Core.Bool.{true, false}
 use mathlib.Core.Logic.{_↔_}
-use mathlib.Core.List.{List, _++_, List·Memᴰ}
-use lib.ListN.{length, take}
-use Rattle.model.specs.Limits.{maxCanonical}
+use mathlib.Core.List.{List, _∷_, _++_, map, List·Memᴰ}
+use lib.Count.{ones}
+use lib.ListN.{length, getD, take, replicate}
+use Rattle.model.specs.Lists.{Ascending, has}
+use Rattle.model.specs.Limits.{maxPattern, maxCanonical}
 use Rattle.model.specs.Tree.{Document}
-use Rattle.model.specs.Summary.{Summary}
-use Rattle.model.specs.Pattern.{Pattern, Contained, CounterExample}
+use Rattle.model.specs.Summary.{Summary, Fits}
+use Rattle.model.specs.Pattern.{Pattern, Result, AtPosition, PathOf, Contained, CounterExample}
 use Rattle.model.specs.Embeddings.{summaryEmbeddings}
-use Rattle.model.specs.Canonical.{passes}
-use Rattle.model.specs.Bytes.{Case, encodeDocument, encodeCounted, writtenAtFront}
-use Rattle.model.specs.Calls.{VerdictOutcome, kindIncluded, kindNotIncluded, kindStopped}
+use Rattle.model.specs.Canonical.{canonical, canonicalSpots, ownResult, passes}
+use Rattle.model.specs.Bytes.{caseOf, documentOf, listOf, encodeDocument, encodeCounted, writtenAtFront, shownSection, shownList}
+use Rattle.model.specs.Questions.{selected, verdictRefusal, fitsRefusal, resultRefusal, nodesRefusal, pathsRefusal, layoutRefusal}
+use Rattle.model.specs.Calls.{refusedAnswer, VerdictOutcome, kindIncluded, kindNotIncluded, kindStopped, verdictCall, TestAnswer, yesAnswer, noAnswer, fitsCall, resultCall, NodesOutcome, nodesCall, PathsAnswer, pathsCall, LaidRecord, laidRecord, LayoutOutcome, layoutCall}
+
+-- ---- Demand 1
+
+-- where a question refuses the call, whose number is then not 0, the outcome is the refusal with that number; each call's record
+-- says which that is: the number, zero in every other field, and every lent byte, record and tally as before
+abbrev pub Demand1 : {A : Type 0} → ℕ → A → (ℕ → A) → Type 0
+Demand1 number o refusal = (number ≡ 0 → ⊥) → o ≡ refusal number
+
+-- ---- Demand 2, of an accepted call other than the verdict
+
+-- yes exactly when it holds, no exactly when it does not
+pub record TestTold (Holds : Type 0) (a : TestAnswer) : Type 0 where
+  pub accepted : a .refused ≡ 0
+  pub saysYes : (a .holds ≡ 1) ↔ Holds
+  pub saysNo : (a .holds ≡ 0) ↔ (Holds → ⊥)
+
+-- Fits: whether the volume fits the outline
+abbrev pub FitsTold : Summary → Document → TestAnswer → Type 0
+FitsTold S W a = TestTold (Fits S W) a
+
+-- Is it a result: whether the list is a result of the selection in the volume
+abbrev pub ResultTold : Pattern → Document → List ℕ → TestAnswer → Type 0
+ResultTold P W r a = TestTold (Result P W r) a
+
+-- Nodes at a position: exactly the nodes at that position in any result are written, ascending, after their count
+pub record NodesTold (P : Pattern) (W : Document) (p : ℕ) (before : List ℕ) (o : NodesOutcome) : Type 0 where
+  pub accepted : o .answer .refused ≡ 0
+  pub nodes : List ℕ
+  pub exact : (v : ℕ) → List·Memᴰ v nodes ↔ AtPosition P W p v
+  pub ascending : Ascending _<_ nodes
+  pub count : o .answer .count ≡ length nodes
+  pub written : o .buffer ≡ writtenAtFront (encodeCounted nodes) before
+
+-- Paths of each node: bit i of a node's mask exactly when outline node i is one of its paths, and how many there are; entries
+-- past the last node are 0
+pub record PathsTold (S : Summary) (P : Pattern) (a : PathsAnswer) : Type 0 where
+  pub accepted : a .refused ≡ 0
+  pub masks : (q i : ℕ) → q < length P → q < maxPattern → (has (getD (a .masks) q 0) i ≡ true) ↔ PathOf S P q i
+  pub counts : (q : ℕ) → q < maxPattern → getD (a .counts) q 0 ≡ ones (getD (a .masks) q 0)
+  pub past : (q : ℕ) → length P ≤ q → q < maxPattern → getD (a .masks) q 0 ≡ 0
+  pub sizes : (length (a .masks) ≡ maxPattern) × (length (a .counts) ≡ maxPattern)
+
+-- Lay out a trial: the table's front is the trial volume of the placement, which fits and has at most 1,009 nodes
+pub record LayoutTold (S : Summary) (P : Pattern) (es : List ℕ) (before : List LaidRecord) (o : LayoutOutcome) : Type 0 where
+  pub accepted : o .answer .refused ≡ 0
+  pub fitting : Fits S (canonical S P es)
+  pub own : Result P (canonical S P es) (ownResult S P es)
+  pub small : o .answer .count ≤ maxCanonical
+  pub count : o .answer .count ≡ length (canonical S P es)
+  pub written : o .table ≡ writtenAtFront (map (laidRecord S) (canonicalSpots S P es)) before
+
+-- ---- Demand 3, of an accepted verdict call
 
 -- some fitting volume of any size has a result of the first selection that is none of the second
 abbrev pub SomeCounterExample : Summary → Pattern → Pattern → Type 0
@@ -26,32 +81,100 @@ AllEmbeddingsPass S P Q ess = (es : List ℕ) → List·Memᴰ es ess → passes
 abbrev pub SomeEmbeddingFails : Summary → Pattern → Pattern → List (List ℕ) → Type 0
 SomeEmbeddingFails S P Q ess = (es : List ℕ) × List·Memᴰ es ess × (passes S P Q es ≡ false)
 
--- a volume of at most 1,009 nodes and a result of the first selection there that is none of the second, written at the
--- buffer's front
-pub record Shown (S : Summary) (P Q : Pattern) (before after : List ℕ) : Type 0 where
+-- the earliest trial that does not pass, as one of the first L, and tried as its rank, from 1; its volume and the first selection's
+-- own nodes there, a result of the first selection that is none of the second; both written at the buffer's front
+pub record Shown (S : Summary) (P Q : Pattern) (L tried : ℕ) (before after : List ℕ) : Type 0 where
+  pub earlier : List (List ℕ)
+  pub placement : List ℕ
+  pub later : List (List ℕ)
+  pub ordered : summaryEmbeddings S P ≡ earlier ++ placement ∷ later
+  pub earlierPass : AllEmbeddingsPass S P Q earlier
+  pub fails : passes S P Q placement ≡ false
+  pub rank : tried ≡ length earlier + 1
+  pub amongFirst : tried ≤ L
   pub document : Document
   pub result : List ℕ
+  pub trial : document ≡ canonical S P placement
+  pub own : result ≡ ownResult S P placement
   pub counterExample : CounterExample S P Q document result
   pub small : length document ≤ maxCanonical
   pub written : after ≡ writtenAtFront (encodeDocument document ++ encodeCounted result) before
 
--- Demand 3, of an accepted verdict call on case c with limit L, from the tally and the buffer before it
-pub record Demand3 (c : Case) (L tally : ℕ) (buffer : List ℕ) (o : VerdictOutcome) : Type 0 where
+-- what is shown of case b reads back from the buffer: its section is the volume and its list the result; of these Fits says yes, and
+-- Is it a result says yes of the first selection and no of the second
+pub record ReadsBack (b after : List ℕ) (W : Document) (r : List ℕ) : Type 0 where
+  pub document : documentOf (shownSection after) ≡ W
+  pub result : listOf (shownList after) ≡ r
+  pub fits : fitsCall b (shownSection after) ≡ yesAnswer
+  pub ofFirst : resultCall b 1 (shownSection after) (shownList after) ≡ yesAnswer
+  pub notOfSecond : resultCall b 2 (shownSection after) (shownList after) ≡ noAnswer
+
+-- Demand 3, of the case with bytes b, outline S and selections P and Q, and of the limit L, from the tally and the buffer before
+pub record Demand3Of (b : List ℕ) (S : Summary) (P Q : Pattern) (L tally : ℕ) (buffer : List ℕ) (o : VerdictOutcome) : Type 0 where
+  pub accepted : o .answer .refused ≡ 0
   -- at most L placements: "not included" exactly when some fitting volume of any size has a result of the first selection that
   -- is none of the second, "included" exactly when there is none
-  pub notIncluded : length (summaryEmbeddings (c .summary) (c .first)) ≤ L → (o .answer .kind ≡ kindNotIncluded) ↔ SomeCounterExample (c .summary) (c .first) (c .second)
-  pub included : length (summaryEmbeddings (c .summary) (c .first)) ≤ L → (o .answer .kind ≡ kindIncluded) ↔ (SomeCounterExample (c .summary) (c .first) (c .second) → ⊥)
+  pub notIncluded : length (summaryEmbeddings S P) ≤ L → (o .answer .kind ≡ kindNotIncluded) ↔ SomeCounterExample S P Q
+  pub included : length (summaryEmbeddings S P) ≤ L → (o .answer .kind ≡ kindIncluded) ↔ (SomeCounterExample S P Q → ⊥)
   -- which is inclusion: in every fitting volume, each result of the first selection is a result of the second
-  pub inclusion : length (summaryEmbeddings (c .summary) (c .first)) ≤ L → (o .answer .kind ≡ kindIncluded) ↔ Contained (c .summary) (c .first) (c .second)
+  pub inclusion : length (summaryEmbeddings S P) ≤ L → (o .answer .kind ≡ kindIncluded) ↔ Contained S P Q
   -- more than L: "stopped" exactly when the first L trials all pass, "not included" exactly when one does not, "included" never
-  pub stopped : L < length (summaryEmbeddings (c .summary) (c .first)) → (o .answer .kind ≡ kindStopped) ↔ AllEmbeddingsPass (c .summary) (c .first) (c .second) (take L (summaryEmbeddings (c .summary) (c .first)))
-  pub failing : L < length (summaryEmbeddings (c .summary) (c .first)) → (o .answer .kind ≡ kindNotIncluded) ↔ SomeEmbeddingFails (c .summary) (c .first) (c .second) (take L (summaryEmbeddings (c .summary) (c .first)))
-  pub neverIncluded : L < length (summaryEmbeddings (c .summary) (c .first)) → o .answer .kind ≡ kindIncluded → ⊥
-  -- "stopped" only then
-  pub onlyStopped : o .answer .kind ≡ kindStopped → L < length (summaryEmbeddings (c .summary) (c .first))
-  -- what "not included" shows is such a volume and such a result; the others write nothing
-  pub shown : o .answer .kind ≡ kindNotIncluded → Shown (c .summary) (c .first) (c .second) buffer (o .buffer)
+  pub stopped : L < length (summaryEmbeddings S P) → (o .answer .kind ≡ kindStopped) ↔ AllEmbeddingsPass S P Q (take L (summaryEmbeddings S P))
+  pub failing : L < length (summaryEmbeddings S P) → (o .answer .kind ≡ kindNotIncluded) ↔ SomeEmbeddingFails S P Q (take L (summaryEmbeddings S P))
+  pub neverIncluded : L < length (summaryEmbeddings S P) → o .answer .kind ≡ kindIncluded → ⊥
+  -- "stopped" only then, and tried is the limit
+  pub onlyStopped : o .answer .kind ≡ kindStopped → L < length (summaryEmbeddings S P)
+  pub stoppedTried : o .answer .kind ≡ kindStopped → o .answer .tried ≡ L
+  -- "included" only where every trial passes, and tried is how many there are, 0 where there are none
+  pub onlyIncluded : o .answer .kind ≡ kindIncluded → AllEmbeddingsPass S P Q (summaryEmbeddings S P)
+  pub includedTried : o .answer .kind ≡ kindIncluded → o .answer .tried ≡ length (summaryEmbeddings S P)
+  -- "not included" shows the earliest trial that does not pass, and tried is its rank, from 1; what is shown reads back; the
+  -- others write nothing
+  pub shown : o .answer .kind ≡ kindNotIncluded → Shown S P Q L (o .answer .tried) buffer (o .buffer)
+  pub readsBack : (k : o .answer .kind ≡ kindNotIncluded) → ReadsBack b (o .buffer) (shown k .document) (shown k .result)
   pub silent : (o .answer .kind ≡ kindNotIncluded → ⊥) → o .buffer ≡ buffer
   -- the tally grows by tried, which is at most L
   pub tallied : o .tally ≡ tally + o .answer .tried
   pub limited : o .answer .tried ≤ L
+
+-- of the tables that the case's bytes hold
+abbrev pub Demand3 : List ℕ → ℕ → ℕ → List ℕ → VerdictOutcome → Type 0
+Demand3 b L tally buffer o = Demand3Of b (caseOf b .summary) (caseOf b .first) (caseOf b .second) L tally buffer o
+
+-- ---- The calls: the outcome is document 01's, a refusal keeps demand 1, an accepted call demand 2 or 3
+
+-- Fits: case, volume
+pub record FitsAnswered (b w : List ℕ) (a : TestAnswer) : Type 0 where
+  pub outcome : a ≡ fitsCall b w
+  pub demand1 : Demand1 (fitsRefusal b w) a (λ n. record { refused = n; holds = 0 })
+  pub demand2 : fitsRefusal b w ≡ 0 → FitsTold (caseOf b .summary) (documentOf w) a
+
+-- Is it a result: case, selection 1 or 2, volume, list
+pub record ResultAnswered (b : List ℕ) (s : ℕ) (w r : List ℕ) (a : TestAnswer) : Type 0 where
+  pub outcome : a ≡ resultCall b s w r
+  pub demand1 : Demand1 (resultRefusal b s w r) a (λ n. record { refused = n; holds = 0 })
+  pub demand2 : resultRefusal b s w r ≡ 0 → ResultTold (selected (caseOf b) s) (documentOf w) (listOf r) a
+
+-- Nodes at a position: case, selection, volume, position, answer buffer
+pub record NodesAnswered (b : List ℕ) (s : ℕ) (w : List ℕ) (p : ℕ) (before : List ℕ) (o : NodesOutcome) : Type 0 where
+  pub outcome : o ≡ nodesCall b s w p before
+  pub demand1 : Demand1 (nodesRefusal b s w p (length before)) o (λ n. record { answer = record { refused = n; count = 0 }; buffer = before })
+  pub demand2 : nodesRefusal b s w p (length before) ≡ 0 → NodesTold (selected (caseOf b) s) (documentOf w) p before o
+
+-- Paths of each node: case, selection
+pub record PathsAnswered (b : List ℕ) (s : ℕ) (a : PathsAnswer) : Type 0 where
+  pub outcome : a ≡ pathsCall b s
+  pub demand1 : Demand1 (pathsRefusal b s) a (λ n. record { refused = n; masks = replicate maxPattern 0; counts = replicate maxPattern 0 })
+  pub demand2 : pathsRefusal b s ≡ 0 → PathsTold (caseOf b .summary) (selected (caseOf b) s) a
+
+-- Lay out a trial: case, selection, placement list, lent table
+pub record LayoutAnswered (b : List ℕ) (s : ℕ) (l : List ℕ) (before : List LaidRecord) (o : LayoutOutcome) : Type 0 where
+  pub outcome : o ≡ layoutCall b s l before
+  pub demand1 : Demand1 (layoutRefusal b s l (length before)) o (λ n. record { answer = record { refused = n; count = 0 }; table = before })
+  pub demand2 : layoutRefusal b s l (length before) ≡ 0 → LayoutTold (caseOf b .summary) (selected (caseOf b) s) (listOf l) before o
+
+-- Verdict: case, limit, tally, answer buffer
+pub record VerdictAnswered (b : List ℕ) (L tally : ℕ) (before : List ℕ) (o : VerdictOutcome) : Type 0 where
+  pub outcome : o ≡ verdictCall b L tally before
+  pub demand1 : Demand1 (verdictRefusal b L tally (length before)) o (λ n. record { answer = refusedAnswer n; buffer = before; tally = tally })
+  pub demand3 : verdictRefusal b L tally (length before) ≡ 0 → Demand3 b L tally before o
