@@ -1,25 +1,23 @@
--- A table of records that is filled from the front, one record a turn, with the nodes that are laid out: afterwards it is the model's
--- table, since the array's front is the model's records and what stands after them keeps its place. Assumes nothing.
+-- A table of records that is filled from the front, one record a turn, with the nodes that are laid out: afterwards these stand at its
+-- front, as the layout by value promises for any table, and what stands after them keeps its place. Assumes nothing.
 use Prim.Native.Nat.{ℕ, zero, suc, _+_, _≤_, _<_}
-use mathlib.Core.Path.{_≡_, refl, sym, ap, ap₂, _∙_}
-use mathlib.Core.List.{List, [], _∷_, _++_, map, map-map, map-id, map-append}
+use mathlib.Core.Path.{_≡_, refl, sym, ap, _∙_, subst}
+use mathlib.Core.List.{List, [], _∷_, _++_, map, map-append}
 use native.Mathlib.Omega.{arith}
 use native.Mathlib.Numerals.{add-one}
 use lib.ListN.{length, getD, set, take, drop, length-map}
 use lib.Seq.{length-take-le, take-suc}
 use Rattle.model.specs.Limits.{minTable}
-use Rattle.model.specs.Bytes.{caseOf, writtenAtFront}
-use Rattle.model.specs.Questions.{layoutRefusal}
-use Rattle.model.specs.Calls.{LaidRecord, laidRecord, LayoutOutcome, layoutAccepted}
-use Rattle.model.proofs.Bytes.{front-length, front-written, front-none}
-use Rattle.model.proofs.Calls.{by-number, layout-refused, layout-accepted}
+use Rattle.model.specs.Bytes.{writtenAtFront}
+use Rattle.model.specs.Calls.{LaidRecord, LayoutOutcome}
+use Rattle.model.specs.Demands.{LayoutAnswered}
+use Rattle.model.proofs.Bytes.{front-length, front-none}
 use Rattle.format.proofs.FrontLaws.{front-set}
 use Rattle.laying.specs.declared.laid.NodeRecord.{NodeRecord}
 use Rattle.laying.specs.declared.laid.Laid.{Laid}
-use Rattle.laying.specs.Records.{laidNodes}
-use Rattle.laying.specs.Records.{nodeRecord, recordOf, blankNodes, atFront, laidFor, LaidBy}
-use Rattle.laying.proofs.RecordLaws.{laid-nothing, laid-records, laid-fits}
-use Rattle.cadwezin.specs.Table.{recordsIn, LayoutAnswered}
+use Rattle.laying.specs.Records.{nodeRecord, recordOf, LaidBy}
+use Rattle.laying.proofs.RecordLaws.{laid-fits}
+use Rattle.cadwezin.specs.Table.{recordsIn, layoutOf}
 
 -- ---- the loop
 
@@ -65,49 +63,18 @@ map-drop g (suc n) [] = refl
 map-drop g (suc n) (x ∷ l) = map-drop g n l
 
 -- the records at the front of a table, as the model has them
-records-front : (rs : List LaidRecord) (ys : List NodeRecord) → recordsIn (writtenAtFront (map nodeRecord rs) ys) ≡ writtenAtFront rs (recordsIn ys)
+records-front : (rs ys : List NodeRecord) → recordsIn (writtenAtFront rs ys) ≡ writtenAtFront (recordsIn rs) (recordsIn ys)
 unfolding writtenAtFront
 records-front rs ys =
-    map-append recordOf (map nodeRecord rs) (drop (length (map nodeRecord rs)) ys)
-    ∙ ap₂ (λ (v w : List LaidRecord). v ++ w) (map-map recordOf nodeRecord rs ∙ map-id rs)
-    (map-drop recordOf (length (map nodeRecord rs)) ys ∙ ap (λ (n : ℕ). drop n (recordsIn ys)) (length-map rs nodeRecord))
+    map-append recordOf rs (drop (length rs) ys)
+    ∙ ap (λ (w : List LaidRecord). recordsIn rs ++ w) (map-drop recordOf (length rs) ys ∙ ap (λ (n : ℕ). drop n (recordsIn ys)) (sym (length-map rs recordOf)))
 
 module _ {b : List ℕ} {s : ℕ} {l : List ℕ} (ys : List NodeRecord) {r : Laid} (g : LaidBy b s l (length ys) r) where
   pub laid-filling : length (r .nodes) ≡ minTable → Filling (r .nodes) ys (r .count)
   laid-filling n = let f = laid-fits b s l (length ys) g in record { inNodes = omega (arith, f .0); inTable = f .1; few = f .0 }
 
-  -- the nodes that are copied are the model's records
-  copied : take (r .count) (r .nodes) ≡ map nodeRecord (laidFor b s l (length ys))
-  unfolding atFront
-  copied =
-      let rs : List LaidRecord = laidFor b s l (length ys) in
-      ap₂ (λ (n : ℕ) (xs : List NodeRecord). take n xs) (g .counted ∙ sym (length-map rs nodeRecord)) (g .nodes) ∙ front-written (map nodeRecord rs) blankNodes
-
-  table-after : recordsIn (filled (r .nodes) ys (r .count)) ≡ writtenAtFront (laidFor b s l (length ys)) (recordsIn ys)
-  table-after = ap (λ (w : List NodeRecord). recordsIn (writtenAtFront w ys)) copied ∙ records-front (laidFor b s l (length ys)) ys
-
-  -- the model's refusal goes by the table's length
-  by-length : layoutRefusal b s l (length (recordsIn ys)) ≡ layoutRefusal b s l (length ys)
-  by-length = ap (layoutRefusal b s l) (length-map ys recordOf)
-
-  pub laid-answered : LayoutAnswered b s l ys (filled (r .nodes) ys (r .count)) (r .refused) (r .count)
-  unfolding layoutAccepted
+  pub laid-answered : LayoutAnswered b s l (recordsIn ys) (layoutOf (record { refused = r .refused; count = r .count }) (filled (r .nodes) ys (r .count)))
   laid-answered =
-      by-number (layoutRefusal b s l (length ys))
-      (λ e.
-      let q = layout-accepted b s l (recordsIn ys) (by-length ∙ e) in
-      let rs : List LaidRecord = map (laidRecord (caseOf b .summary)) (laidNodes b s l) in
-      let laid : laidFor b s l (length ys) ≡ rs = laid-records b s l (length ys) e in
-      record {
-        refusal = g .refusal ∙ e ∙ sym (ap (λ (o : LayoutOutcome). o .answer .refused) q);
-        counted = g .counted ∙ ap length laid ∙ sym (ap (λ (o : LayoutOutcome). o .answer .count) q);
-        table = table-after ∙ ap (λ (w : List LaidRecord). writtenAtFront w (recordsIn ys)) laid ∙ sym (ap (λ (o : LayoutOutcome). o .table) q);
-      })
-      (λ z.
-      let q = layout-refused b s l (recordsIn ys) (λ e. z (sym by-length ∙ e)) in
-      let none : laidFor b s l (length ys) ≡ [] = laid-nothing b s l (length ys) z in
-      record {
-        refusal = g .refusal ∙ sym by-length ∙ sym (ap (λ (o : LayoutOutcome). o .answer .refused) q);
-        counted = g .counted ∙ ap length none ∙ sym (ap (λ (o : LayoutOutcome). o .answer .count) q);
-        table = table-after ∙ ap (λ (w : List LaidRecord). writtenAtFront w (recordsIn ys)) none ∙ front-none (recordsIn ys) ∙ sym (ap (λ (o : LayoutOutcome). o .table) q);
-      })
+      subst (LayoutAnswered b s l (recordsIn ys))
+      (ap {B = LayoutOutcome} (λ (t : List LaidRecord). record { answer = record { refused = r .refused; count = r .count }; table = t }) (sym (records-front (take (r .count) (r .nodes)) ys)))
+      (g .answered (recordsIn ys) (length-map ys recordOf))

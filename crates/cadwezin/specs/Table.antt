@@ -1,8 +1,8 @@
--- The call "lay out a trial" over a lent table of node records: its whole outcome.
-use Prim.Native.Nat.{ℕ}
-use mathlib.Core.Path.{_≡_}
+-- The call "lay out a trial" over a lent table of node records: its outcome as the model has it.
 use mathlib.Core.List.{List, map}
-use Rattle.model.specs.Calls.{LaidRecord, layoutCall}
+use Rattle.model.specs.Calls.{LaidRecord, LayoutOutcome}
+use Rattle.calls.specs.Answers.{countedOf}
+use Rattle.calls.specs.declared.answers.CountAnswer.{CountAnswer}
 use Rattle.laying.specs.Records.{recordOf}
 use Rattle.laying.specs.declared.laid.NodeRecord.{NodeRecord}
 
@@ -11,7 +11,5 @@ abbrev pub recordsIn : List NodeRecord → List LaidRecord
 recordsIn table = map recordOf table
 
 -- the answer, and the table afterwards
-pub record LayoutAnswered (b : List ℕ) (s : ℕ) (l : List ℕ) (before after : List NodeRecord) (refused count : ℕ) : Type 0 where
-  pub refusal : refused ≡ layoutCall b s l (recordsIn before) .answer .refused
-  pub counted : count ≡ layoutCall b s l (recordsIn before) .answer .count
-  pub table : recordsIn after ≡ layoutCall b s l (recordsIn before) .table
+abbrev pub layoutOf : CountAnswer → List NodeRecord → LayoutOutcome
+layoutOf r after = record { answer = countedOf r; table = recordsIn after }

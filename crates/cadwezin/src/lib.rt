@@ -14,9 +14,10 @@ use laying::laid::NodeRecord;
 use laying::laid::laid_out;
 ghost use mathlib.Core.Path.{_≡_};
 ghost use Rattle.deciding.specs.Outcome.{valuesOf};
-ghost use Rattle.model.specs.Calls.{fitsCall, resultCall, nodesCall, pathsCall};
-ghost use Rattle.cadwezin.specs.Table.{LayoutAnswered};
-ghost use Rattle.cadwezin.specs.Verdict.{numbersOf, VerdictAnswered};
+ghost use Rattle.model.specs.Demands.{VerdictAnswered, FitsAnswered, ResultAnswered, NodesAnswered, PathsAnswered, LayoutAnswered};
+ghost use Rattle.calls.specs.Answers.{testOf, nodesOf, pathsOf};
+ghost use Rattle.cadwezin.specs.Table.{recordsIn, layoutOf};
+ghost use Rattle.cadwezin.specs.Verdict.{numbersOf, exportedOutcome};
 
 // Counts trials: it grows by tried with each verdict.
 #[repr(C)]
@@ -69,8 +70,8 @@ pub extern "C" fn cadwezin_verdict(
     tally: &mut Tally,
     answer: &mut [u8],
 ) -> VerdictAnswer
-    ensures { λ r. ⌜ VerdictAnswered (now (case .entry)) limit (now (tally .entry)) (now (answer .entry)) (now (answer .exit)) r
-        (now (tally .exit)) ⌝ }
+    ensures { λ r. ⌜ VerdictAnswered (now (case .entry)) limit (now (tally .entry) .count) (now (answer .entry))
+        (exportedOutcome r (now (answer .exit)) (now (tally .exit))) ⌝ }
 {
     let r = verdict_call(case, limit, tally.count, answer);
     tally.count = r.tally;
@@ -80,8 +81,7 @@ pub extern "C" fn cadwezin_verdict(
 // Fits: does the document conform to the case's summary?
 #[no_mangle]
 pub extern "C" fn cadwezin_fits(case: &[u8], document: &[u8]) -> TestAnswer
-    ensures { λ r. ⌜ (r .refused ≡ fitsCall (now (case .entry)) (now (document .entry)) .refused)
-        × (r .holds ≡ fitsCall (now (case .entry)) (now (document .entry)) .holds) ⌝ }
+    ensures { λ r. ⌜ FitsAnswered (now (case .entry)) (now (document .entry)) (testOf r) ⌝ }
 {
     fits_call(case, document)
 }
@@ -94,8 +94,7 @@ pub extern "C" fn cadwezin_result(
     document: &[u8],
     list: &[u8],
 ) -> TestAnswer
-    ensures { λ r. ⌜ (r .refused ≡ resultCall (now (case .entry)) number (now (document .entry)) (now (list .entry)) .refused)
-        × (r .holds ≡ resultCall (now (case .entry)) number (now (document .entry)) (now (list .entry)) .holds) ⌝ }
+    ensures { λ r. ⌜ ResultAnswered (now (case .entry)) number (now (document .entry)) (now (list .entry)) (testOf r) ⌝ }
 {
     result_call(case, number, document, list)
 }
@@ -109,9 +108,7 @@ pub extern "C" fn cadwezin_nodes(
     position: u64,
     answer: &mut [u8],
 ) -> CountAnswer
-    ensures answer { λ r. ⌜ (r .refused ≡ nodesCall (now (case .entry)) number (now (document .entry)) position (now (answer .entry)) .answer .refused)
-        × (r .count ≡ nodesCall (now (case .entry)) number (now (document .entry)) position (now (answer .entry)) .answer .count) ⌝ }
-    ensures buffer { λ _. ⌜ now (answer .exit) ≡ nodesCall (now (case .entry)) number (now (document .entry)) position (now (answer .entry)) .buffer ⌝ }
+    ensures { λ r. ⌜ NodesAnswered (now (case .entry)) number (now (document .entry)) position (now (answer .entry)) (nodesOf r (now (answer .exit))) ⌝ }
 {
     nodes_call(case, number, document, position, answer)
 }
@@ -119,9 +116,7 @@ pub extern "C" fn cadwezin_nodes(
 // The paths of each node of the pattern that the number names.
 #[no_mangle]
 pub extern "C" fn cadwezin_paths(case: &[u8], number: u64) -> PathsAnswer
-    ensures { λ r. ⌜ (r .refused ≡ pathsCall (now (case .entry)) number .refused)
-        × (r .masks ≡ pathsCall (now (case .entry)) number .masks)
-        × (r .counts ≡ pathsCall (now (case .entry)) number .counts) ⌝ }
+    ensures { λ r. ⌜ PathsAnswered (now (case .entry)) number (pathsOf r) ⌝ }
 {
     paths_call(case, number)
 }
@@ -134,8 +129,7 @@ pub extern "C" fn cadwezin_layout(
     list: &[u8],
     table: &mut [NodeRecord],
 ) -> CountAnswer
-    ensures { λ r. ⌜ LayoutAnswered (now (case .entry)) number (now (list .entry)) (now (table .entry)) (now (table .exit))
-        (r .refused) (r .count) ⌝ }
+    ensures { λ r. ⌜ LayoutAnswered (now (case .entry)) number (now (list .entry)) (recordsIn (now (table .entry))) (layoutOf r (now (table .exit))) ⌝ }
 {
     let laid = laid_out(case, number, list, table.len());
     let nodes = laid.nodes;

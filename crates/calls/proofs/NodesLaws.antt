@@ -12,11 +12,13 @@ use Rattle.model.specs.Pattern.{Pattern}
 use Rattle.model.specs.Embeddings.{isAt, nodesAt}
 use Rattle.model.specs.Bytes.{caseOf, documentOf, encodeCounted, writtenAtFront}
 use Rattle.model.specs.Questions.{selected, nodesRefusal}
-use Rattle.model.specs.Calls.{NodesOutcome, nodesAccepted, nodesCall}
+use Rattle.model.specs.Calls.{nodesAccepted}
+use Rattle.model.specs.Demands.{NodesAnswered}
 use Rattle.model.proofs.ListLaws.{length-keep, length-upFrom}
 use Rattle.model.proofs.Bytes.{front-written}
 use Rattle.model.proofs.CallFacts.{NodesFacts}
 use Rattle.model.proofs.Calls.{nodes-refused, nodes-accepted}
+use Rattle.model.proofs.Demands.{nodes-answered}
 
 -- ---- the nodes
 
@@ -41,21 +43,18 @@ module _ {b : List ℕ} {s : ℕ} {w : List ℕ} {p bytes : ℕ} (F : NodesFacts
 -- ---- the outcome
 
 module _ (b : List ℕ) (s : ℕ) (w : List ℕ) (p : ℕ) (buffer : List ℕ) {number : ℕ} (e : number ≡ nodesRefusal b s w p (length buffer)) where
-  pub nodes-no : (number ≡ 0 → ⊥)
-      → ((number ≡ nodesCall b s w p buffer .answer .refused) × (0 ≡ nodesCall b s w p buffer .answer .count)) × (buffer ≡ nodesCall b s w p buffer .buffer)
+  pub nodes-no : (number ≡ 0 → ⊥) → NodesAnswered b s w p buffer (record { answer = record { refused = number; count = 0 }; buffer = buffer })
   nodes-no f =
-      let out = nodes-refused b s w p buffer (λ z. f (e ∙ z)) in (
-        (e ∙ sym (ap (λ (o : NodesOutcome). o .answer .refused) out), sym (ap (λ (o : NodesOutcome). o .answer .count) out)),
-        sym (ap (λ (o : NodesOutcome). o .buffer) out),
-      )
+      nodes-answered b s w p buffer
+      ((λ i. record { answer = record { refused = e i; count = 0 }; buffer = buffer }) ∙ sym (nodes-refused b s w p buffer (λ z. f (e ∙ z))))
 
   pub nodes-yes : number ≡ 0 → {P : Pattern} {count : ℕ} {out after : List ℕ} (out₀ : List ℕ) → selected (caseOf b) s ≡ P
       → (count ≡ length (nodesAt P (documentOf w) p)) × (out ≡ writtenAtFront (nodesAt P (documentOf w) p) out₀) → after ≡ writtenAtFront (encodeCounted (take count out)) buffer
-      → ((0 ≡ nodesCall b s w p buffer .answer .refused) × (count ≡ nodesCall b s w p buffer .answer .count)) × (after ≡ nodesCall b s w p buffer .buffer)
+      → NodesAnswered b s w p buffer (record { answer = record { refused = 0; count = count }; buffer = after })
   unfolding nodesAccepted
   nodes-yes z {P} out₀ same found a =
       let nodes : List ℕ = nodesAt P (documentOf w) p in
-      let out = nodes-accepted b s w p buffer (sym e ∙ z) ∙ ap (λ (Q : Pattern). nodesAccepted (nodesAt Q (documentOf w) p) buffer) same in (
-        (sym (ap (λ (o : NodesOutcome). o .answer .refused) out), found .0 ∙ sym (ap (λ (o : NodesOutcome). o .answer .count) out)),
-        a ∙ ap (λ (l : List ℕ). writtenAtFront (encodeCounted l) buffer) ((λ i. take (found .0 i) (found .1 i)) ∙ front-written nodes out₀) ∙ sym (ap (λ (o : NodesOutcome). o .buffer) out),
-      )
+      let kept = a ∙ ap (λ (l : List ℕ). writtenAtFront (encodeCounted l) buffer) ((λ i. take (found .0 i) (found .1 i)) ∙ front-written nodes out₀) in
+      nodes-answered b s w p buffer
+      ((λ i. record { answer = record { refused = 0; count = found .0 i }; buffer = kept i })
+      ∙ sym (nodes-accepted b s w p buffer (sym e ∙ z) ∙ ap (λ (Q : Pattern). nodesAccepted (nodesAt Q (documentOf w) p) buffer) same))

@@ -9,33 +9,30 @@ use Rattle.model.specs.Pattern.{Pattern}
 use Rattle.model.specs.Embeddings.{pathMask, pathCount}
 use Rattle.model.specs.Bytes.{caseOf}
 use Rattle.model.specs.Questions.{selected, pathsRefusal}
-use Rattle.model.specs.Calls.{PathsAnswer, pathsAccepted, pathsCall}
+use Rattle.model.specs.Calls.{pathsAccepted}
+use Rattle.model.specs.Demands.{PathsAnswered}
 use Rattle.model.proofs.Results.{path-count-ones}
 use Rattle.model.proofs.Calls.{paths-refused, paths-accepted}
+use Rattle.model.proofs.Demands.{paths-answered}
 use Rattle.format.proofs.RangeLaws.{getD-map-below, map-below-ext}
 
--- ---- the fields of the answer
+-- ---- the answer
 
 module _ (b : List ℕ) (s : ℕ) {r : ℕ} (e : r ≡ pathsRefusal b s) where
-  pub refused-fields : (r ≡ 0 → ⊥) → (r ≡ pathsCall b s .refused) × (replicate 16 0 ≡ pathsCall b s .masks) × (replicate 16 0 ≡ pathsCall b s .counts)
-  refused-fields f =
-      let whole = paths-refused b s (λ z. f (e ∙ z)) in (
-        e ∙ sym (ap (λ (x : PathsAnswer). x .refused) whole),
-        sym (ap (λ (x : PathsAnswer). x .masks) whole),
-        sym (ap (λ (x : PathsAnswer). x .counts) whole),
-      )
+  pub paths-no : (r ≡ 0 → ⊥) → PathsAnswered b s (record { refused = r; masks = replicate 16 0; counts = replicate 16 0 })
+  paths-no f =
+      paths-answered b s
+      ((λ i. record { refused = e i; masks = replicate 16 0; counts = replicate 16 0 }) ∙ sym (paths-refused b s (λ z. f (e ∙ z))))
 
   -- P is the pattern where the number gives it
-  pub accepted-fields : r ≡ 0 → {P : Pattern} {masks counts : List ℕ} → selected (caseOf b) s ≡ P → masks ≡ map (pathMask (caseOf b .summary) P) (upFrom 0 16)
+  pub paths-yes : r ≡ 0 → {P : Pattern} {masks counts : List ℕ} → selected (caseOf b) s ≡ P → masks ≡ map (pathMask (caseOf b .summary) P) (upFrom 0 16)
       → counts ≡ map (λ q. ones (getD masks q 0)) (upFrom 0 16)
-      → (0 ≡ pathsCall b s .refused) × (masks ≡ pathsCall b s .masks) × (counts ≡ pathsCall b s .counts)
+      → PathsAnswered b s (record { refused = 0; masks = masks; counts = counts })
   unfolding pathsAccepted
-  accepted-fields z {P} {masks} same m c =
-      let whole = paths-accepted b s (sym e ∙ z) ∙ ap (pathsAccepted (caseOf b .summary)) same in (
-        sym (ap (λ (x : PathsAnswer). x .refused) whole),
-        m ∙ sym (ap (λ (x : PathsAnswer). x .masks) whole),
-        c ∙ map-below-ext (λ q. ones (getD masks q 0)) (pathCount (caseOf b .summary) P) 16 (λ q h. counted q h) ∙ sym (ap (λ (x : PathsAnswer). x .counts) whole),
-      )
+  paths-yes z {P} {masks} same m c =
+      let n = c ∙ map-below-ext (λ q. ones (getD masks q 0)) (pathCount (caseOf b .summary) P) 16 (λ q h. counted q h) in
+      paths-answered b s
+      ((λ i. record { refused = 0; masks = m i; counts = n i }) ∙ sym (paths-accepted b s (sym e ∙ z) ∙ ap (pathsAccepted (caseOf b .summary)) same))
     where
       counted : (q : ℕ) → q < 16 → ones (getD masks q 0) ≡ pathCount (caseOf b .summary) P q
       counted q h =

@@ -2,13 +2,12 @@
 
 use crate::answers::TestAnswer;
 use questions::refusals::fits_refusal;
-ghost use mathlib.Core.Path.{_≡_};
-ghost use Rattle.model.specs.Calls.{fitsCall};
+ghost use Rattle.model.specs.Demands.{FitsAnswered};
+ghost use Rattle.calls.specs.Answers.{testOf};
 
 // Does the document (document 01: volume) fit the summary of the case (document 01: outline)?
 pub fn fits_call(case: &[u8], document: &[u8]) -> TestAnswer
-    ensures { λ r. ⌜ (r .refused ≡ fitsCall (now (case .entry)) (now (document .entry)) .refused)
-        × (r .holds ≡ fitsCall (now (case .entry)) (now (document .entry)) .holds) ⌝ }
+    ensures { λ r. ⌜ FitsAnswered (now (case .entry)) (now (document .entry)) (testOf r) ⌝ }
 {
     let refused = fits_refusal(case, document);
     if refused != 0 {

@@ -5,8 +5,8 @@ use format::write::write_counted;
 use matching::outcomes::nodes_at;
 use questions::pattern::numbered_at;
 use questions::refusals::nodes_refusal;
-ghost use mathlib.Core.Path.{_≡_};
-ghost use Rattle.model.specs.Calls.{nodesCall};
+ghost use Rattle.model.specs.Demands.{NodesAnswered};
+ghost use Rattle.calls.specs.Answers.{nodesOf};
 
 // The nodes at a position in any result, written ascending after their count to the front of the answer buffer. Questions 2 to 8,
 // 10, 12.
@@ -17,9 +17,7 @@ pub fn nodes_call(
     position: u64,
     answer: &mut [u8],
 ) -> CountAnswer
-    ensures answer { λ r. ⌜ (r .refused ≡ nodesCall (now (case .entry)) number (now (document .entry)) position (now (answer .entry)) .answer .refused)
-        × (r .count ≡ nodesCall (now (case .entry)) number (now (document .entry)) position (now (answer .entry)) .answer .count) ⌝ }
-    ensures buffer { λ _. ⌜ now (answer .exit) ≡ nodesCall (now (case .entry)) number (now (document .entry)) position (now (answer .entry)) .buffer ⌝ }
+    ensures { λ r. ⌜ NodesAnswered (now (case .entry)) number (now (document .entry)) position (now (answer .entry)) (nodesOf r (now (answer .exit))) ⌝ }
 {
     let refused = nodes_refusal(case, number, document, position, answer.len());
     if refused != 0 {

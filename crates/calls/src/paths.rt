@@ -5,13 +5,12 @@ use matching::outcomes::path_counts;
 use matching::outcomes::path_masks;
 use questions::pattern::numbered_at;
 use questions::refusals::paths_refusal;
-ghost use mathlib.Core.Path.{_≡_};
-ghost use Rattle.model.specs.Calls.{pathsCall};
+ghost use Rattle.model.specs.Demands.{PathsAnswered};
+ghost use Rattle.calls.specs.Answers.{pathsOf};
 
 // Which paths may each node of the pattern take, and how many?
 pub fn paths_call(case: &[u8], number: u64) -> PathsAnswer
-    ensures { λ r. ⌜ (r .refused ≡ pathsCall (now (case .entry)) number .refused) × (r .masks ≡ pathsCall (now (case .entry)) number .masks)
-        × (r .counts ≡ pathsCall (now (case .entry)) number .counts) ⌝ }
+    ensures { λ r. ⌜ PathsAnswered (now (case .entry)) number (pathsOf r) ⌝ }
 {
     let refused = paths_refusal(case, number);
     if refused != 0 {

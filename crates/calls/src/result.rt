@@ -4,14 +4,13 @@ use crate::answers::TestAnswer;
 use matching::outcomes::is_result;
 use questions::pattern::numbered_at;
 use questions::refusals::result_refusal;
-ghost use mathlib.Core.Path.{_≡_};
-ghost use Rattle.model.specs.Calls.{resultCall};
+ghost use Rattle.model.specs.Demands.{ResultAnswered};
+ghost use Rattle.calls.specs.Answers.{testOf};
 
 // 1 where the list is a result of the pattern in the document: its nodes, as one list, are those at positions 1 to k of some
 // embedding. Questions 3 to 8, 10, 12, 11.
 pub fn result_call(case: &[u8], number: u64, document: &[u8], list: &[u8]) -> TestAnswer
-    ensures { λ r. ⌜ (r .refused ≡ resultCall (now (case .entry)) number (now (document .entry)) (now (list .entry)) .refused)
-        × (r .holds ≡ resultCall (now (case .entry)) number (now (document .entry)) (now (list .entry)) .holds) ⌝ }
+    ensures { λ r. ⌜ ResultAnswered (now (case .entry)) number (now (document .entry)) (now (list .entry)) (testOf r) ⌝ }
 {
     let refused = result_refusal(case, number, document, list);
     if refused != 0 {

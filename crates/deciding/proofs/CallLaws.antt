@@ -1,7 +1,7 @@
--- What the call answers and leaves is the model's outcome, which keeps demand 3: a refusal alters nothing, and an accepted call has its
--- verdict. Assumes nothing.
+-- What the call answers and leaves is the model's outcome, which keeps the demands: a refusal alters nothing, and an accepted call has
+-- its verdict. Assumes nothing.
 use Prim.Native.Nat.{ℕ, _+_, _≤_}
-use mathlib.Core.Path.{_≡_, refl, sym, ap, _∙_, subst}
+use mathlib.Core.Path.{_≡_, refl, sym, ap, _∙_}
 use mathlib.Core.List.{List}
 use native.Mathlib.Omega.{arith}
 use lib.ListN.{length}
@@ -9,16 +9,17 @@ use Rattle.model.specs.Limits.{maxTally}
 use Rattle.model.specs.Verdict.{Verdict, included, notIncluded, stopped, triedOf}
 use Rattle.model.specs.Bytes.{caseOf}
 use Rattle.model.specs.Questions.{verdictRefusal}
-use Rattle.model.specs.Calls.{refusedAnswer, kindOf, verdictAccepted, verdictCall}
-use Rattle.model.specs.Demands.{Demand3}
+use Rattle.model.specs.Calls.{refusedAnswer, kindOf, verdictAccepted}
+use Rattle.model.specs.Demands.{VerdictAnswered}
 use Rattle.model.proofs.CallFacts.{accepted-verdict}
 use Rattle.model.proofs.Calls.{verdict-refused, verdict-accepted}
-use Rattle.model.proofs.Demands.{demand-3}
+use Rattle.model.proofs.Demands.{verdict-answered}
+use Rattle.model.proofs.ReadBack.{AreBytes}
 use Rattle.model.proofs.Verdict.{verdict-tried}
 use Rattle.containment.specs.Answer.{answerOf, verdictOf}
 use Rattle.containment.specs.declared.Containment.{Containment}
 use Rattle.deciding.specs.Told.{Told}
-use Rattle.deciding.specs.Outcome.{valuesOf, outcomeOf, Answered, asAnswer, triedIn}
+use Rattle.deciding.specs.Outcome.{valuesOf, outcomeOf, asAnswer, triedIn}
 use Rattle.deciding.specs.declared.Answer.{Answer}
 use Rattle.deciding.specs.declared.Answer.the-variants.{Refused}
 
@@ -35,13 +36,10 @@ same-tried (included n) = refl
 same-tried (notIncluded n es) = refl
 same-tried (stopped n) = refl
 
-module _ (b : List ℕ) (L tally : ℕ) (buffer : List ℕ) where
-  answered : {after : List ℕ} {answer : Answer} {total : ℕ} → outcomeOf answer after total ≡ verdictCall b L tally buffer → Answered b L tally buffer after answer total
-  answered e = record { outcome = e; demand3 = λ z. subst (Demand3 (caseOf b) L tally buffer) (sym e) (demand-3 b L tally buffer z) }
-
-  pub answered-refused : {number : ℕ} → number ≡ verdictRefusal b L tally (length buffer) → (number ≡ 0 → ⊥) → Answered b L tally buffer buffer (Refused number) tally
+module _ (b : List ℕ) (small : AreBytes b) (L tally : ℕ) (buffer : List ℕ) where
+  pub answered-refused : {number : ℕ} → number ≡ verdictRefusal b L tally (length buffer) → (number ≡ 0 → ⊥) → VerdictAnswered b L tally buffer (outcomeOf (Refused number) buffer tally)
   answered-refused e f =
-      answered ((λ i. record { answer = refusedAnswer (e i); buffer = buffer; tally = tally }) ∙ sym (verdict-refused b L tally buffer (λ z. f (e ∙ z))))
+      verdict-answered b small L tally buffer ((λ i. record { answer = refusedAnswer (e i); buffer = buffer; tally = tally }) ∙ sym (verdict-refused b L tally buffer (λ z. f (e ∙ z))))
 
   module _ (z : verdictRefusal b L tally (length buffer) ≡ 0) {after : List ℕ} {r : Containment} (t : Told (caseOf b) L buffer after r) where
     abbrev v : Verdict
@@ -57,8 +55,8 @@ module _ (b : List ℕ) (L tally : ℕ) (buffer : List ℕ) where
         let l : triedOf v ≤ L = verdict-tried (caseOf b .summary) (caseOf b .first) (caseOf b .second) L in
         omega (arith, accepted-verdict b L tally (length buffer) z .tallied)
 
-    pub answered-accepted : {answer : Answer} {n : ℕ} → answer ≡ asAnswer r → n ≡ triedIn r → Answered b L tally buffer after answer (tally + n)
+    pub answered-accepted : {answer : Answer} {n : ℕ} → answer ≡ asAnswer r → n ≡ triedIn r → VerdictAnswered b L tally buffer (outcomeOf answer after (tally + n))
     unfolding verdictAccepted
     answered-accepted {answer} {n} a e =
         let p : valuesOf answer ≡ record { refused = 0; kind = kindOf v; tried = triedOf v } = ap valuesOf (a ∙ ap asAnswer (t .verdict)) ∙ same-values v in
-        answered ((λ i. record { answer = p i; buffer = t .buffer i; tally = tally + tried e i }) ∙ sym (verdict-accepted b L tally buffer z))
+        verdict-answered b small L tally buffer ((λ i. record { answer = p i; buffer = t .buffer i; tally = tally + tried e i }) ∙ sym (verdict-accepted b L tally buffer z))

@@ -13,8 +13,9 @@ ghost use lib.ListN.{length};
 ghost use Rattle.model.specs.Limits.{maxLimit, minBuffer};
 ghost use Rattle.model.specs.Bytes.{caseOf};
 ghost use Rattle.model.specs.Facts.{AcceptedCase};
+ghost use Rattle.model.specs.Demands.{VerdictAnswered};
 ghost use Rattle.deciding.specs.Told.{Told};
-ghost use Rattle.deciding.specs.Outcome.{asAnswer, triedIn, Answered};
+ghost use Rattle.deciding.specs.Outcome.{outcomeOf, asAnswer, triedIn};
 
 // The answer of the call: refused, with the number; or document 01's verdict with how many were tried: included, not included,
 // stopped.
@@ -72,7 +73,7 @@ fn tried_of(r: Containment) -> u64
 // Verdict: any bytes, any numbers and a buffer of any length may be given. A refusal alters nothing; else the tally grows by tried,
 // and "not included" writes what it shows to the front of the answer buffer.
 pub fn verdict_call(case: &[u8], limit: u64, tally: u64, answer: &mut [u8]) -> Decided
-    ensures { λ r. ⌜ Answered (now (case .entry)) limit tally (now (answer .entry)) (now (answer .exit)) (r .answer) (r .tally) ⌝ }
+    ensures { λ r. ⌜ VerdictAnswered (now (case .entry)) limit tally (now (answer .entry)) (outcomeOf (r .answer) (now (answer .exit)) (r .tally)) ⌝ }
 {
     let refused = verdict_refusal(case, limit, tally, answer.len());
     if refused != 0 {

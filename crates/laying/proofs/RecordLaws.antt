@@ -1,12 +1,12 @@
 -- The layout by value: the records that are read off a document are the model's, a refusal lays out none, and what is laid out for a
 -- table of 1,024 records is what is laid out for any larger one, since its size is asked only to be large enough. Assumes nothing.
 use Prim.Native.Nat.{ℕ, _+_, _≤_, _<_}
-use mathlib.Core.Path.{_≡_, sym, ap, _∙_, subst}
+use mathlib.Core.Path.{_≡_, sym, ap, ap₂, _∙_, subst}
 use mathlib.Core.Bool.{Bool, true, false}
-use mathlib.Core.List.{List, [], _∷_, _++_, map, map-map}
+use mathlib.Core.List.{List, [], _∷_, _++_, map, map-map, map-id}
 use native.Mathlib.Omega.{arith}
 use native.Mathlib.Nat.{zero-add}
-use lib.ListN.{length, getD, length-map, length-replicate}
+use lib.ListN.{length, getD, take, length-map, length-replicate}
 use borrow.Author.Tests.{eq-eqb, ne-eqb, le-leb}
 use Rattle.model.specs.Lists.{upFrom}
 use Rattle.model.specs.Limits.{minTable, maxCanonical}
@@ -16,10 +16,11 @@ use Rattle.model.specs.Pattern.{Pattern}
 use Rattle.model.specs.Canonical.{Spot, rootSpot, spotAt, canonicalSpots, canonical}
 use Rattle.model.specs.Bytes.{caseOf, documentOf, listOf, writtenAtFront}
 use Rattle.model.specs.Questions.{selected, tableLargeEnough, patternGiven, isSummaryEmbedding, ask, refusal, caseQuestions, layoutRefusal}
-use Rattle.model.specs.Calls.{LaidRecord, laidRecord}
+use Rattle.model.specs.Calls.{LaidRecord, laidRecord, LayoutOutcome, layoutAccepted, layoutCall}
 use Rattle.model.proofs.ListLaws.{getD-map}
-use Rattle.model.proofs.Bytes.{map-range, front-none}
-use Rattle.model.proofs.Calls.{by-number}
+use Rattle.model.proofs.Bytes.{map-range, front-written, front-none}
+use Rattle.model.proofs.Calls.{by-number, layout-refused, layout-accepted}
+use Rattle.model.proofs.Demands.{layout-answered}
 use Rattle.model.proofs.SpotLaws.{spot-parent, spot-label}
 use Rattle.model.proofs.Canonical.{canonical-small}
 use Rattle.model.proofs.CallFacts.{accepted-layout}
@@ -31,7 +32,7 @@ use Rattle.format.specs.declared.nodes.DocumentNode.{DocumentNode}
 use Rattle.format.specs.declared.nodes.SummaryNode.{SummaryNode}
 use Rattle.laying.specs.declared.laid.NodeRecord.{NodeRecord}
 use Rattle.laying.specs.declared.laid.Laid.{Laid}
-use Rattle.laying.specs.Records.{nodeRecord, laidAt, laidIn, blankNodes, atFront, laidNodes, laidFor, LaidBy}
+use Rattle.laying.specs.Records.{nodeRecord, recordOf, laidAt, laidIn, blankNodes, atFront, laidNodes, laidFor, outcomeFor, LaidBy}
 
 -- ---- records read off a document
 
@@ -113,37 +114,58 @@ module _ (b : List ℕ) (s : ℕ) (l : List ℕ) where
           (canonical-small (caseOf b .summary) (selected (caseOf b) s) (listOf l) (f .case .facts .summary .tree) p (embeddings-sound p (f .case .facts .summary .tree) (f .embedding) .1)
           (f .case .facts .summarySize) (selected-size (f .case) s))
 
+  -- the array's front is the model's records, so what is laid out at the front of a table is the model's outcome
+  module _ (n : ℕ) {r : Laid} (refusal : r .refused ≡ layoutRefusal b s l n) (counted : r .count ≡ length (laidFor b s l n)) (nodes : r .nodes ≡ atFront (laidFor b s l n)) where
+    records-back : map recordOf (take (r .count) (r .nodes)) ≡ laidFor b s l n
+    unfolding atFront
+    records-back =
+        let rs : List LaidRecord = laidFor b s l n in
+        ap (map recordOf)
+        (ap₂ (λ (k : ℕ) (xs : List NodeRecord). take k xs) (counted ∙ sym (length-map rs nodeRecord)) nodes ∙ front-written (map nodeRecord rs) blankNodes)
+        ∙ map-map recordOf nodeRecord rs ∙ map-id rs
+
+    outcome-laid : (before : List LaidRecord) → length before ≡ n → outcomeFor r before ≡ layoutCall b s l before
+    unfolding layoutAccepted
+    outcome-laid before size =
+        by-number (layoutRefusal b s l n)
+        (λ e.
+        let rs = records-back ∙ laid-records n e in
+        let k = counted ∙ ap length (laid-records n e) in
+        let z = refusal ∙ e in
+        (λ i. record { answer = record { refused = z i; count = k i }; table = writtenAtFront (rs i) before }) ∙ sym (layout-accepted b s l before (same ∙ e)))
+        (λ f.
+        let rs = records-back ∙ laid-nothing n f in
+        let k = counted ∙ ap length (laid-nothing n f) in
+        let z = refusal ∙ sym same in
+        (λ i. record { answer = record { refused = z i; count = k i }; table = writtenAtFront (rs i) before })
+        ∙ ap {B = LayoutOutcome} (λ (t : List LaidRecord). record { answer = record { refused = layoutRefusal b s l (length before); count = 0 }; table = t }) (front-none before)
+        ∙ sym (layout-refused b s l before (λ e. f (sym same ∙ e))))
+      where
+        same : layoutRefusal b s l (length before) ≡ layoutRefusal b s l n
+        same = ap (layoutRefusal b s l) size
+
+    laid-by : LaidBy b s l n r
+    laid-by = record { refusal = refusal; counted = counted; nodes = nodes; answered = λ before size. layout-answered b s l before (outcome-laid before size) }
+
   -- a refusal lays out none
   pub laid-refused : (n : ℕ) {refused : ℕ} {nodes : List NodeRecord} → refused ≡ layoutRefusal b s l n → (refused ≡ 0 → ⊥) → nodes ≡ blankNodes
       → LaidBy b s l n (record { refused = refused; count = 0; nodes = nodes })
   unfolding atFront
   laid-refused n r z e =
       let none : laidFor b s l n ≡ [] = laid-nothing n (λ h. z (r ∙ h)) in
-      record {
-        refusal = r;
-        counted = sym (ap length none);
-        nodes = e ∙ sym (ap (λ (rs : List LaidRecord). atFront rs) none ∙ front-none blankNodes);
-      }
+      laid-by n r (sym (ap length none)) (e ∙ sym (ap (λ (rs : List LaidRecord). atFront rs) none ∙ front-none blankNodes))
 
   -- the records read off the document are those laid out
   pub laid-accepted : {count : ℕ} {nodes : List NodeRecord} {rs : List LaidRecord} → layoutRefusal b s l minTable ≡ 0 → count ≡ length (laidNodes b s l)
       → nodes ≡ atFront rs → rs ≡ map (laidRecord (caseOf b .summary)) (laidNodes b s l) → LaidBy b s l minTable (record { refused = 0; count = count; nodes = nodes })
   laid-accepted e n f r =
-      record {
-        refusal = sym e;
-        counted = n ∙ sym (laid-number minTable e);
-        nodes = f ∙ ap (λ (rs : List LaidRecord). atFront rs) (r ∙ sym (laid-records minTable e));
-      }
+      laid-by minTable (sym e) (n ∙ sym (laid-number minTable e)) (f ∙ ap (λ (rs : List LaidRecord). atFront rs) (r ∙ sym (laid-records minTable e)))
 
   -- and for a larger table
   pub laid-larger : (n : ℕ) {r : Laid} → layoutRefusal b s l n ≡ 0 → LaidBy b s l minTable r → LaidBy b s l n r
   laid-larger n e g =
       let same : laidFor b s l minTable ≡ laidFor b s l n = laid-records minTable (accepted-larger n e) ∙ sym (laid-records n e) in
-      record {
-        refusal = g .refusal ∙ accepted-larger n e ∙ sym e;
-        counted = g .counted ∙ ap length same;
-        nodes = g .nodes ∙ ap (λ (rs : List LaidRecord). atFront rs) same;
-      }
+      laid-by n (g .refusal ∙ accepted-larger n e ∙ sym e) (g .counted ∙ ap length same) (g .nodes ∙ ap (λ (rs : List LaidRecord). atFront rs) same)
 
   -- ---- what a caller has of it: the nodes fit the array and the table
   pub laid-fits : (n : ℕ) {r : Laid} → LaidBy b s l n r → (r .count ≤ minTable) × (r .count ≤ n)

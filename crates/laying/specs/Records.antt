@@ -4,14 +4,15 @@ use mathlib.Core.Path.{_≡_}
 use mathlib.Core.Bool.{true, false}
 use mathlib.Core.List.{List, [], map}
 use lib.Dec.{eqb}
-use lib.ListN.{length, getD, replicate}
+use lib.ListN.{length, getD, take, replicate}
 use Rattle.model.specs.Lists.{upFrom}
 use Rattle.model.specs.Limits.{minTable}
 use Rattle.model.specs.Tree.{parentOf, labelOf}
 use Rattle.model.specs.Canonical.{Spot, canonicalSpots}
 use Rattle.model.specs.Bytes.{caseOf, documentOf, listOf, writtenAtFront}
 use Rattle.model.specs.Questions.{selected, layoutRefusal}
-use Rattle.model.specs.Calls.{LaidRecord, laidRecord}
+use Rattle.model.specs.Calls.{LaidRecord, laidRecord, LayoutOutcome}
+use Rattle.model.specs.Demands.{LayoutAnswered}
 use Rattle.laying.specs.declared.laid.NodeRecord.{NodeRecord}
 use Rattle.laying.specs.declared.laid.Laid.{Laid}
 
@@ -44,8 +45,13 @@ laidNodes b s l = canonicalSpots (caseOf b .summary) (selected (caseOf b) s) (li
 unfoldable pub laidFor : List ℕ → ℕ → List ℕ → ℕ → List LaidRecord
 laidFor b s l n = elim (eqb (layoutRefusal b s l n) 0) [ true ↦ map (laidRecord (caseOf b .summary)) (laidNodes b s l) | false ↦ [] ]
 
--- the layout by value
+-- the outcome for a lent table: the answer, and the nodes at the table's front
+abbrev pub outcomeFor : Laid → List LaidRecord → LayoutOutcome
+outcomeFor r before = record { answer = record { refused = r .refused; count = r .count }; table = writtenAtFront (map recordOf (take (r .count) (r .nodes))) before }
+
+-- the layout by value, and what it is for any table of n records: the model's outcome, with its demands
 pub record LaidBy (b : List ℕ) (s : ℕ) (l : List ℕ) (n : ℕ) (r : Laid) : Type 0 where
   pub refusal : r .refused ≡ layoutRefusal b s l n
   pub counted : r .count ≡ length (laidFor b s l n)
   pub nodes : r .nodes ≡ atFront (laidFor b s l n)
+  pub answered : (before : List LaidRecord) → length before ≡ n → LayoutAnswered b s l before (outcomeFor r before)

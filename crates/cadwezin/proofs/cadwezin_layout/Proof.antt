@@ -49,6 +49,7 @@ use denote.Triple.Clauses.{ensured, lasts}
 use denote.Triple.Table.{entered, cited}
 use denote.Triple.Walked.{says, Stays, stay-slice, stay-none, stay-none-slice, walkOf, AllGo, goes-none, goes-none-slice, goes-slice, Walks, ends-at, walked, walk-meets}
 use denote.Exit.{yes}
+use Rattle.model.specs.Demands.{LayoutAnswered}
 use Rattle.laying.specs.Records.{LaidBy}
 use Rattle.laying.specs.declared.laid.NodeRecord.{NodeRecord}
 use Rattle.laying.specs.declared.laid.Laid.{Laid}
@@ -63,7 +64,7 @@ use Rattle.laying.proofs.laid.laid_out as called
 use Rattle.laying.proofs.laid.laid_out.Symbol as called-def
 use Rattle.laying.proofs.laid.laid_out.Symbol.{name as #laid-out}
 use Rattle.laying.proofs.laid.laid_out.Met as called-thm
-use Rattle.cadwezin.specs.Table.{LayoutAnswered}
+use Rattle.cadwezin.specs.Table.{recordsIn, layoutOf}
 use Rattle.cadwezin.proofs.Elements.{array-out, array-in}
 use Rattle.cadwezin.proofs.TableLaws.{filled, filled-none, Filling, filled-length, laid-filling, laid-answered}
 use Rattle.cadwezin.proofs.cadwezin_layout.Key.{name as #layout}
@@ -149,7 +150,7 @@ module _ {M : Type 1} (𝓤 : URA M) (H : Heap 𝓤) (A : Atoms 𝓤) (W : Given
   abbrev mach : Laid → Val
   mach r = vstruct (vcons (vint w64 (r .refused)) (vcons (vint w64 (r .count)) vnil))
 
-  exits-at : (r : Laid) (zs : List NodeRecord) → r .refused < 2 ^ 64 → r .count < 2 ^ 64 → LayoutAnswered (x .now) s (y .now) ys zs (r .refused) (r .count) → length zs ≡ length ys
+  exits-at : (r : Laid) (zs : List NodeRecord) → r .refused < 2 ^ 64 → r .count < 2 ^ 64 → LayoutAnswered (x .now) s (y .now) (recordsIn ys) (layoutOf (answer r) zs) → length zs ≡ length ys
       → ent 𝓤 (⋆ 𝓤 H A (‵ (fobs γ (codedHoleys R .code (heres R zs))) ∷ ‵ (fbor κ₂ (Held R (length zs) b o γ)) ∷ ‵ (flft κ₂ q₂) ∷ tokens ∷ (‵ OwnC ⊛ ‵ OwnL) ∷ [])) (Post (mach r))
   exits-at r zs refused-fits count-fits e l =
       qed W (‵ (fobs γ (codedHoleys R .code (heres R zs))) ∷ ‵ (fbor κ₂ (Held R (length zs) b o γ)) ∷ ‵ (flft κ₂ q₂) ∷ tokens ∷ (‵ OwnC ⊛ ‵ OwnL) ∷ []) ∵

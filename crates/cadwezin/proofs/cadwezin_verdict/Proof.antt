@@ -42,7 +42,8 @@ use denote.Triple.Clauses.{ensured, lasts}
 use denote.Triple.Table.{entered, cited}
 use denote.Triple.Walked.{says, Stays, stay-ref, stay-none, stay-none-slice, gave-slice, walkOf, AllGo, goes-none, goes-none-slice, goes-ref, goes-gave-slice, Walks, ends-at, walked, walk-meets}
 use denote.Exit.{yes}
-use Rattle.deciding.specs.Outcome.{valuesOf, Answered}
+use Rattle.model.specs.Demands.{VerdictAnswered}
+use Rattle.deciding.specs.Outcome.{valuesOf, outcomeOf}
 use Rattle.deciding.specs.declared.Answer.{Answer}
 use Rattle.deciding.specs.declared.Decided.{Decided}
 use Rattle.deciding.proofs.Answer as A°
@@ -55,7 +56,7 @@ use Rattle.deciding.proofs.verdict_call.Symbol.{name as #verdict-call}
 use Rattle.deciding.proofs.verdict_call.Met as called-thm
 use Rattle.cadwezin.specs.declared.Tally.{Tally}
 use Rattle.cadwezin.specs.declared.VerdictAnswer.{VerdictAnswer}
-use Rattle.cadwezin.specs.Verdict.{numbersOf, VerdictAnswered}
+use Rattle.cadwezin.specs.Verdict.{numbersOf, exportedOutcome}
 use Rattle.cadwezin.proofs.VerdictLaws.{values-answered}
 use Rattle.cadwezin.proofs.VerdictAnswer as V°
 use Rattle.cadwezin.proofs.VerdictAnswer.Laws as V′
@@ -135,7 +136,7 @@ module _ {M : Type 1} (𝓤 : URA M) (H : Heap 𝓤) (A : Atoms 𝓤) (W : Given
 
   -- what is promised of the result and of the buffer afterwards
   abbrev Told : Decided → List ℕ → Type 0
-  Told r zs = Answered (x .now) limit n (y .now) zs (r .answer) (r .tally)
+  Told r zs = VerdictAnswered (x .now) limit n (y .now) (outcomeOf (r .answer) zs (r .tally))
 
   abbrev told : Answer → Val
   told r = EL.val A°.the-type A′.the-laws r
@@ -147,7 +148,7 @@ module _ {M : Type 1} (𝓤 : URA M) (H : Heap 𝓤) (A : Atoms 𝓤) (W : Given
   goes-values : (a : Answer) → ent 𝓤 (sem 𝓤 H A (A°.the-row .own a (told a ∷ []))) (Values 𝓤 H A at-mem run .pre (to-values a))
   goes-values a = qed W (‵ (A°.the-row .own a (told a ∷ [])) ∷ []) ∵ nothing ! $ move ! (1 ∷ 0 ∷ []) $ join ! $ nothing ! $ join ! $ frame ! $ done !
 
-  exits : (v : VerdictAnswer) (u : Val) (m : ℕ) (zs : List ℕ) → VerdictAnswered (x .now) limit (h n) (y .now) zs v (h m) → length zs ≡ length (y .now)
+  exits : (v : VerdictAnswer) (u : Val) (m : ℕ) (zs : List ℕ) → VerdictAnswered (x .now) limit n (y .now) (exportedOutcome v zs (h m)) → length zs ≡ length (y .now)
       → ent 𝓤 (⋆ 𝓤 H A (‵ (V°.the-row .own v (u ∷ [])) ∷ ‵ (fobs γ (T.the-row .coded .code (h m))) ∷ ‵ (fbor κ₁ (Body (mem T.the-row) b o γ)) ∷ ‵ (flft κ₁ q₁) ∷ tokens ∷ ‵ (finally u8 (y .name) zs) ∷ ‵ OwnC ∷ [])) (Post u)
   exits v u m zs e l =
       qed W (‵ (V°.the-row .own v (u ∷ [])) ∷ ‵ (fobs γ (T.the-row .coded .code (h m))) ∷ ‵ (fbor κ₁ (Body (mem T.the-row) b o γ)) ∷ ‵ (flft κ₁ q₁) ∷ tokens ∷ ‵ (finally u8 (y .name) zs) ∷ ‵ OwnC ∷ []) ∵
@@ -196,7 +197,7 @@ module _ {M : Type 1} (𝓤 : URA M) (H : Heap 𝓤) (A : Atoms 𝓤) (W : Given
         peeks ! V°.the-row (Is V°.the-row) (shows 𝓤 H A V°.the-row) v (u ∷ []) (λ is′. land ! (from ! (stop !)) (init ! 28 refl (LL.lawful V°.the-type V′.the-laws 𝓤 H A W .typed v _ is′ .0)) $
         returns ! (look ! 28 refl) $ forget ! 12 refl $ forget ! 14 refl $ forget ! 16 refl $ forget ! 18 refl $ forget ! 20 refl $ forget ! 22 refl $ forget ! 24 refl $ forget ! 26 refl $ forget ! 28 refl $
         move ! (28 ∷ 29 ∷ []) $ free1 ! $ move ! (26 ∷ 27 ∷ []) $ free1 ! $ move ! (24 ∷ 25 ∷ []) $ free1 ! $ move ! (22 ∷ 23 ∷ []) $ free1 ! $ move ! (20 ∷ 21 ∷ []) $ free1 ! $ move ! (18 ∷ 19 ∷ []) $ free1 ! $ move ! (16 ∷ 17 ∷ []) $ free1 ! $ move ! (14 ∷ 15 ∷ []) $ free1 ! $ move ! (12 ∷ 13 ∷ []) $ free1 ! $ free0 ! $
-        keep ! (0 ∷ 1 ∷ 2 ∷ 3 ∷ 5 ∷ 6 ∷ 8 ∷ []) $ by ! (exits v u (r .tally) (zs .1 .1 .1 .0) (values-answered e e′) l))))))))))))))))))))))
+        keep ! (0 ∷ 1 ∷ 2 ∷ 3 ∷ 5 ∷ 6 ∷ 8 ∷ []) $ by ! (exits v u (r .tally) (zs .1 .1 .1 .0) (values-answered (r .answer) e e′) l))))))))))))))))))))))
 
 module _ {M : Type 1} (𝓤 : URA M) (H : Heap 𝓤) (A : Atoms 𝓤) (W : Given 𝓤 H A) (at-mem : Memory → SProp 𝓤) (run : Routine → Fun 𝓤) where
   verdict-walks : (C : Calls 𝓤 H) (Λ : Loops 𝓤 H) → FmC 𝓤 H (W .laws) C → Triple 𝓤 (C #verdict-call) (Call 𝓤 H A at-mem run) → Triple 𝓤 (C #values) (Values 𝓤 H A at-mem run) → Walks 𝓤 H A verdict.ended stayed (WpFn 𝓤 H C Λ code.function) (verdict.clauses 𝓤 H A at-mem run)

@@ -1,10 +1,14 @@
 -- `calls::fits::fits_call` meets its contract: a refusal is the definition's, and an accepted call answers what the test says. Assumes
 -- nothing.
-use borrow.Author.Needs.{needs}
-use mathlib.Core.Path.{sym, _∙_}
+use Prim.Native.Nat.{ℕ}
+use mathlib.Core.Path.{_≡_, sym, _∙_}
+use mathlib.Core.Bool.{Bool, true, false}
 use denote.Ref.{now}
+use borrow.Author.Needs.{needs}
+use Rattle.model.specs.Demands.{FitsAnswered}
 use Rattle.model.proofs.CallFacts.{accepted-fits}
 use Rattle.model.proofs.Calls.{fits-refused, fits-accepted}
+use Rattle.model.proofs.Demands.{fits-answered}
 use Rattle.format.proofs.GivenLaws.{given-summary, given-document}
 use Rattle.calls.proofs.AnswerLaws.{answer-refused, answer-given}
 use Rattle.calls.proofs.fits.fits_call.Statement.{statement}
@@ -13,7 +17,7 @@ use Rattle.calls.proofs.fits.fits_call.Tie as tie
 returns : tie.Need-returns
 returns c =
     let a = c .before .before .before .before .args in
-    answer-refused _ _ (fits-refused (now (a .case)) (now (a .document))) (c .before .fits-refusal .ensures) (c .if1 .taken)
+    fits-answered _ _ (answer-refused _ (fits-refused (now (a .case)) (now (a .document))) (c .before .fits-refusal .ensures) (c .if1 .taken))
 
 fits-requires : tie.Need-fits-requires
 fits-requires c κs =
@@ -21,17 +25,20 @@ fits-requires c κs =
     let F = accepted-fits (now (a .case)) (now (a .document)) (sym (c .before .fits-refusal .ensures) ∙ c .if1 .left) in
     (given-summary (F .case), given-document (F .document))
 
-returns-2 : tie.Need-returns-2
-returns-2 c =
-    let e = c .before .before in
+-- the test's answer is the call's
+told : (c : tie.After-fits2) {v : Bool} → c .fits2 .result ≡ v
+    → (let a = c .before .before .before .before .before .args in
+    FitsAnswered (now (a .case)) (now (a .document)) (record { refused = 0; holds = elim v as (λ _. ℕ) [ true ↦ 1 | false ↦ 0 ] }))
+told c p =
+    let e = c .before in
     let a = e .before .before .before .before .args in
-    answer-given _ _ _ (fits-accepted (now (a .case)) (now (a .document))) (e .before .fits-refusal .ensures) (e .if1 .left) (c .before .fits2 .ensures) (c .if2 .taken)
+    fits-answered _ _ (answer-given _ _ (fits-accepted (now (a .case)) (now (a .document))) (e .before .fits-refusal .ensures) (e .if1 .left) (c .fits2 .ensures) p)
+
+returns-2 : tie.Need-returns-2
+returns-2 c = told (c .before) (c .if2 .taken)
 
 returns-3 : tie.Need-returns-3
-returns-3 c =
-    let e = c .before .before in
-    let a = e .before .before .before .before .args in
-    answer-given _ _ _ (fits-accepted (now (a .case)) (now (a .document))) (e .before .fits-refusal .ensures) (e .if1 .left) (c .before .fits2 .ensures) (c .if2 .left)
+returns-3 c = told (c .before) (c .if2 .left)
 
 pub fits-call-spec : {M : Type 1} → statement M
 fits-call-spec =

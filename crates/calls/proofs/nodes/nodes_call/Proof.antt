@@ -1,6 +1,5 @@
 -- `calls::nodes::nodes_call` meets its contract: the model's call goes by the same refusal, which leaves the buffer as it was; else the nodes
 -- fit the column and the buffer, and are what is written. Assumes nothing.
--- what no question refused
 use Prim.Native.Nat.{_≤_}
 use mathlib.Core.Path.{sym, _∙_, subst}
 use native.Mathlib.Omega.{arith}
@@ -21,6 +20,7 @@ returns c =
     let a = c .before .before .before .before .before .args in
     nodes-no (a .case .now) (a .number) (a .document .now) (a .position) (a .answer .now) (c .before .nodes-refusal .ensures) (c .if1 .taken)
 
+-- what no question refused
 facts : (c : tie.Else1) → (let a = c .before .before .before .before .before .args in NodesFacts (a .case .now) (a .number) (a .document .now) (a .position) (length (a .answer .now)))
 facts c =
     let a = c .before .before .before .before .before .args in

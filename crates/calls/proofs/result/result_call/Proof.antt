@@ -1,7 +1,5 @@
 -- `calls::result::result_call` meets its contract: the model's call goes by the same refusal, and its answer is the same test's. Assumes
 -- nothing.
--- what no question refused
--- the test's answer is the call's
 use Prim.Native.Nat.{ℕ}
 use mathlib.Core.Path.{_≡_, sym, ap, _∙_, subst}
 use mathlib.Core.Bool.{Bool, true, false}
@@ -10,10 +8,11 @@ use borrow.Author.Needs.{needs}
 use Rattle.model.specs.Pattern.{Pattern, arity}
 use Rattle.model.specs.Embeddings.{isResult}
 use Rattle.model.specs.Bytes.{documentOf, listOf}
-use Rattle.model.specs.Calls.{resultCall}
+use Rattle.model.specs.Demands.{ResultAnswered}
 use Rattle.model.specs.Facts.{ListFacts}
 use Rattle.model.proofs.CallFacts.{ResultFacts, accepted-result}
 use Rattle.model.proofs.Calls.{result-refused, result-accepted}
+use Rattle.model.proofs.Demands.{result-answered}
 use Rattle.format.proofs.GivenLaws.{given-document}
 use Rattle.questions.proofs.NumberedLaws.{numbered-pattern}
 use Rattle.questions.proofs.AcceptedLaws.{accepted-whole}
@@ -25,8 +24,9 @@ use Rattle.calls.proofs.result.result_call.Tie as tie
 returns : tie.Need-returns
 returns c =
     let a = c .before .before .before .before .before .args in
-    answer-refused _ _ (result-refused (a .case .now) (a .number) (a .document .now) (a .list .now)) (c .before .result-refusal .ensures) (c .if1 .taken)
+    result-answered _ _ _ _ (answer-refused _ (result-refused (a .case .now) (a .number) (a .document .now) (a .list .now)) (c .before .result-refusal .ensures) (c .if1 .taken))
 
+-- what no question refused
 facts : (c : tie.Else1) → (let a = c .before .before .before .before .before .args in ResultFacts (a .case .now) (a .number) (a .document .now) (a .list .now))
 facts c =
     let a = c .before .before .before .before .before .args in
@@ -44,16 +44,18 @@ is-result-requires c κs =
       subst (λ (P : Pattern). ListFacts (arity P) (length (documentOf (a .document .now))) (a .list .now)) (numbered-pattern (a .case .now) (a .number) _ e) (F .list),
     )
 
+-- the test's answer is the call's
 told : (c : tie.After-is-result) {v : Bool} → c .is-result .result ≡ v
-    → (let a = c .before .before .before .before .before .before .before .args in let o = resultCall (a .case .now) (a .number) (a .document .now) (a .list .now) in
-    (0 ≡ o .refused) × ((elim v as (λ _. ℕ) [ true ↦ 1 | false ↦ 0 ]) ≡ o .holds))
+    → (let a = c .before .before .before .before .before .before .before .args in
+    ResultAnswered (a .case .now) (a .number) (a .document .now) (a .list .now) (record { refused = 0; holds = elim v as (λ _. ℕ) [ true ↦ 1 | false ↦ 0 ] }))
 told c p =
     let picked = c .before in
     let a = picked .before .before .before .before .before .before .args in
-    answer-given _ _ _ (result-accepted (a .case .now) (a .number) (a .document .now) (a .list .now)) (picked .before .before .result-refusal .ensures) (picked .before .if1 .left)
+    result-answered _ _ _ _
+    (answer-given _ _ (result-accepted (a .case .now) (a .number) (a .document .now) (a .list .now)) (picked .before .before .result-refusal .ensures) (picked .before .if1 .left)
     (c .is-result .ensures
     ∙ ap (λ (P : Pattern). isResult P (documentOf (a .document .now)) (listOf (a .list .now))) (sym (numbered-pattern (a .case .now) (a .number) _ (picked .numbered-at .ensures))))
-    p
+    p)
 
 returns-2 : tie.Need-returns-2
 returns-2 c = told (c .before) (c .if2 .taken)
