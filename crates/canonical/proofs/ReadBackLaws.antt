@@ -11,7 +11,7 @@ use Rattle.model.specs.Pattern.{Pattern}
 use Rattle.model.specs.Bytes.{documentFields, sectionFields, documentOf, WholeSection}
 use Rattle.model.specs.Canonical.{canonicalSpots, canonical, spotRecord}
 use Rattle.model.proofs.Bytes.{FitFields}
-use Rattle.model.proofs.ReadBack.{AreBytes, label-fits, canonical-fields}
+use Rattle.model.proofs.ReadBack.{AreBytes, label-small, canonical-fields}
 use Rattle.format.specs.Given.{summaryIn, patternAt}
 use Rattle.format.proofs.WriteLaws.{document-size}
 use Rattle.format.proofs.WrittenLaws.{written-document, written-whole}
@@ -37,7 +37,7 @@ module _ {case : List ℕ} {at : ℕ} {images : List ℕ} (h : Embedded case at 
   fits =
       let n = size in
       let f = spots-few h in
-      canonical-fields S P es (h .summary .tree) (h .pattern .tree) (h .embedding) (label-fits case small) (omega arith)
+      canonical-fields S P es (h .summary .tree) (h .pattern .tree) (h .embedding) (label-small case small) (omega arith)
 
   module _ {bytes₀ bytes on₀ on : List ℕ} {r : LaidOut} (w : WrittenOut S P es bytes₀ bytes on₀ on r) where
     pub back-document : documentOf bytes ≡ canonical S P es

@@ -198,7 +198,7 @@ pub asked : (b : List ℕ) (before after : List Question) → Numbered before �
 asked b before after k l e = let y = all-asked b before after k l e in (y .0, case-accepted b (y .1), y .2)
 
 -- an outline's labels are not 0
-pub label-some : (S : Summary) → summaryKept S ≡ true → (s : ℕ) → s < length S → 0 < summaryLabel S s
+label-some : (S : Summary) → summaryKept S ≡ true → (s : ℕ) → s < length S → 0 < summaryLabel S s
 unfolding summaryKept summaryRecordKept
 label-some S kept s h =
     let k : summaryRecordKept S s ≡ true = all-below (summaryRecordKept S) (length S) kept s h in

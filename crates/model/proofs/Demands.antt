@@ -35,7 +35,7 @@ use Rattle.model.proofs.CallFacts.{accepted-verdict, accepted-fits, acc
 use Rattle.model.proofs.CaseFacts.{selected-facts, labels-some}
 use Rattle.model.proofs.Calls.{verdict-refused, verdict-accepted, fits-refused, fits-accepted, result-refused, result-accepted, nodes-refused, nodes-accepted, paths-refused, paths-accepted, layout-refused, layout-accepted, length-counted, verdict-length}
 use Rattle.model.proofs.Bytes.{FitFields, front-none, length-document}
-use Rattle.model.proofs.ReadBack.{AreBytes, label-fits, canonical-labels, canonical-fields, reads-back}
+use Rattle.model.proofs.ReadBack.{AreBytes, label-small, canonical-labels, canonical-fields, reads-back}
 
 -- ---- Demand 2: fits, results, nodes at a position and paths are told exactly by the definitions
 
@@ -240,7 +240,7 @@ shown-back b small asked f {L} {n} {before} {after} s =
     reads-back b asked f (s .counterExample) (let few : length (s .document) ≤ maxCanonical = s .small in omega arith)
     (subst (λ (W : Document). (i : ℕ) → i < length W → 0 < labelOf W i) (sym (s .trial)) (canonical-labels S P es (f .summary .tree) (f .first .tree) placed (λ l. 0 < l) (labels-some b asked)))
     (subst (λ (W : Document). FitFields (sectionFields documentFields W)) (sym (s .trial))
-    (canonical-fields S P es (f .summary .tree) (f .first .tree) placed (label-fits b small) (subst (λ (W : Document). length W ≤ maxCanonical) (s .trial) (s .small))))
+    (canonical-fields S P es (f .summary .tree) (f .first .tree) placed (label-small b small) (subst (λ (W : Document). length W ≤ maxCanonical) (s .trial) (s .small))))
     before (s .written)
   where
     S : Summary

@@ -42,7 +42,7 @@ use Rattle.model.proofs.Calls.{fits-accepted, result-accepted}
 abbrev pub AreBytes : List ℕ → Type 0
 AreBytes b = (i : ℕ) → getD b i 0 < 256
 
-pub field-fits : (b : List ℕ) → AreBytes b → (i : ℕ) → field b i < 65_536
+field-fits : (b : List ℕ) → AreBytes b → (i : ℕ) → field b i < 65_536
 unfolding field
 field-fits b h i =
     let low = h (2 * i) in
@@ -50,9 +50,9 @@ field-fits b h i =
     omega arith
 
 -- a label is a field of the case
-pub label-fits : (b : List ℕ) → AreBytes b → (s : ℕ) → s < length (caseOf b .summary) → summaryLabel (caseOf b .summary) s < 65_536
+pub label-small : (b : List ℕ) → AreBytes b → (s : ℕ) → s < length (caseOf b .summary) → summaryLabel (caseOf b .summary) s < 65_536
 unfolding caseOf section recordsAt
-label-fits b h s l =
+label-small b h s l =
     let read : ℕ → SummaryRecord = λ i. summaryRecordAt b (0 + 1 + summaryWidth * i) in
     let n : length (caseOf b .summary) ≡ field b 0 = length-map-upFrom read 0 (field b 0) in
     let e : summaryLabel (caseOf b .summary) s ≡ read (0 + s) .label =
@@ -209,7 +209,7 @@ module _ (b : List ℕ) (asked : AllYes (caseQuestions b)) (f : CaseFacts (caseO
   unfolding fitsRefusal refusal
   fits-asked = refusal-after (caseQuestions b) (ask 10 (documentKept w) ∷ []) asked ∙ refusal-yes (ask 10 (documentKept w)) [] kept
 
-  pub fits-says : fitsCall b w ≡ yesAnswer
+  fits-says : fitsCall b w ≡ yesAnswer
   fits-says =
       answer-says (fits (caseOf b .summary) (documentOf w)) (fits-accepted b w fits-asked)
       (ap (fits (caseOf b .summary)) back ∙ fits-exact (f .summary) W .1 (k .fits))
@@ -220,14 +220,14 @@ module _ (b : List ℕ) (asked : AllYes (caseQuestions b)) (f : CaseFacts (caseO
   inside : (v : ℕ) → List·Memᴰ v r → v < length W
   inside = result-inside (f .first) (k .ofFirst)
 
-  pub result-fits : FitFields (length r ∷ r)
+  result-fits : FitFields (length r ∷ r)
   result-fits v (List·Memᴰ·head e) = let n = f .arityBound in let c = count in subst (λ (x : ℕ). x < 65_536) (sym e) (omega arith)
   result-fits v (List·Memᴰ·tail m) = let l = inside v m in omega arith
 
   fit-list : FitFields r
   fit-list v m = result-fits v (List·Memᴰ·tail m)
 
-  pub list-says : listOf (encodeList r) ≡ r
+  list-says : listOf (encodeList r) ≡ r
   list-says = list-back r fit-list
 
   result-asked : (s : ℕ) → patternGiven s ≡ true → length r ≡ arity (selected (caseOf b) s) → resultRefusal b s w (encodeList r) ≡ 0
@@ -247,11 +247,11 @@ module _ (b : List ℕ) (asked : AllYes (caseQuestions b)) (f : CaseFacts (caseO
       answer-says (isResult (selected (caseOf b) s) (documentOf w) (listOf (encodeList r))) (result-accepted b s w (encodeList r) (result-asked s given same))
       (ap₂ (isResult (selected (caseOf b) s)) back list-says ∙ e)
 
-  pub first-says : resultCall b 1 w (encodeList r) ≡ yesAnswer
+  first-says : resultCall b 1 w (encodeList r) ≡ yesAnswer
   unfolding patternGiven
   first-says = result-says 1 refl count (result-exact r (f .first) (k .fits .tree) .1 (k .ofFirst))
 
-  pub second-says : resultCall b 2 w (encodeList r) ≡ noAnswer
+  second-says : resultCall b 2 w (encodeList r) ≡ noAnswer
   unfolding patternGiven
   second-says = result-says 2 refl (count ∙ f .sameArity) (go (true-or-false (isResult (caseOf b .second) W r)))
     where
