@@ -91,7 +91,8 @@ struct cadwezin_paths_answer {
 };
 
 /* A node of a laid-out document: the number of its parent in the document (0 for the root), the number in the summary of the node on
- * whose path it is, and its label. */
+ * whose path it is, and its label. The six bytes after the label are padding and no part of the record: a call may leave anything there,
+ * so compare records field by field. */
 struct cadwezin_node_record {
   size_t parent;
   size_t at;
