@@ -22,10 +22,10 @@ use Rattle.model.proofs.CallFacts.{accepted-verdict}
 -- ---- the choice by the refusal's number
 
 module _ {A : Type 0} (number : ℕ) (accepted refused : A) where
-  chosen-accepted : number ≡ 0 → (elim (eqb number 0) as (λ _. A) [ true ↦ accepted | false ↦ refused ]) ≡ accepted
+  pub chosen-accepted : number ≡ 0 → (elim (eqb number 0) as (λ _. A) [ true ↦ accepted | false ↦ refused ]) ≡ accepted
   chosen-accepted e = ap (λ (t : Bool). elim t as (λ _. A) [ true ↦ accepted | false ↦ refused ]) (eq-eqb number 0 e)
 
-  chosen-refused : number ≢ 0 → (elim (eqb number 0) as (λ _. A) [ true ↦ accepted | false ↦ refused ]) ≡ refused
+  pub chosen-refused : number ≢ 0 → (elim (eqb number 0) as (λ _. A) [ true ↦ accepted | false ↦ refused ]) ≡ refused
   chosen-refused f = ap (λ (t : Bool). elim t as (λ _. A) [ true ↦ accepted | false ↦ refused ]) (ne-eqb number 0 f)
 
 -- what holds of an acceptance and of a refusal holds

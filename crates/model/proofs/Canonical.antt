@@ -23,7 +23,7 @@ use Rattle.model.proofs.FillPhase.{Served, Complete, fill-built, fill-c
 module _ (S : Summary) (P : Pattern) (es : List ℕ) (tree : IsTree (asDocument S)) (ordered : IsPatternTree P) (placed : SummaryEmbedding S P (imageIn es)) where
   pub canonical-built : Built S P es (length P) (canonicalSpots S P es) (ownNodes S P es)
   unfolding canonicalSpots ownNodes
-  canonical-built = fill-built tree (nodeBound S P) (chains S P es .spots) 0 (chains-built S P es tree ordered placed) .built
+  canonical-built = fill-built tree _ (chains S P es .spots) 0 (chains-built S P es tree ordered placed) .built
 
   pub canonical-spots-few : length (canonicalSpots S P es) ≤ nodeBound S P
   canonical-spots-few = few-nodes tree (canonicalSpots S P es) canonical-built
@@ -31,7 +31,7 @@ module _ (S : Summary) (P : Pattern) (es : List ℕ) (tree : IsTree (asDocument 
   canonical-complete : (i : ℕ) → i < length (canonicalSpots S P es) → Complete S (canonicalSpots S P es) i
   unfolding canonicalSpots
   canonical-complete =
-      fill-complete tree (nodeBound S P) (chains S P es .spots) 0 (chains-built S P es tree ordered placed) (λ i h. absurd (omega arith))
+      fill-complete tree _ (chains S P es .spots) 0 (chains-built S P es tree ordered placed) (λ i h. absurd (omega arith))
       (let h : length (canonicalSpots S P es) ≤ nodeBound S P = canonical-spots-few in omega arith)
 
   chain-nonempty : (q : ℕ) → 0 < q → q < length P → (x : ℕ) × (xs : List ℕ) × (chain S (imageIn es (patternParent P q)) (imageIn es q) ≡ x ∷ xs)

@@ -1,4 +1,4 @@
--- What an example computes with, said once: to open one of these names is to open every definition on its line. Assumes nothing.
+-- What the examples compute with: to open one of these names is to open every definition on its line. Assumes nothing.
 use mathlib.Core.List.{flatMap}
 use Rattle.model.specs.Lists.{upFrom, keep, anyOf, allOf, countOf, firstOf, sameList, maskBelow, countBelow}
 use Rattle.model.specs.Pattern.{labelFits}
@@ -6,11 +6,10 @@ use Rattle.model.specs.Embeddings.{childTest, climbs, belowTest, edgeTes
 use Rattle.model.specs.Fitting.{parentRule, strongChildren}
 use Rattle.model.specs.Canonical.{chainIn, chain, appendChain, layNode, layNodes, chains, hasChildOn, addMissing, addAll, fillNode, fillFrom, canonicalSpots, canonical, ownNodes, ownResult, passes}
 use Rattle.model.specs.Verdict.{step, run, conclude, judge, verdict, triedOf}
-use Rattle.model.specs.Quick.{hangsFrom, meets, offers, closedIn, closed, hang}
-use Rattle.model.specs.Skipping.{placesOf, sumOf, productOf, childrenOf, waysIn, ways, waysLeft, skip, lowIn, low, sureIn, sure, surely}
 use Rattle.model.specs.Bytes.{field, fieldBytes, bytesOf, recordsAt, section, caseOf, isWholeCase, sectionFields, caseFields, encodeCase, encodeDocument, encodeCounted, writtenAtFront}
 use Rattle.model.specs.Questions.{limitInRange, bufferLargeEnough, caseWhole, countsInRange, summaryRecordKept, summaryKept, alike, siblingsDiffer, patternRecordKept, patternKept, patternsKept, positionsOnce, positionsKept, tallyInRange, patternGiven, refusal, caseQuestions, verdictRefusal, pathsRefusal}
 use Rattle.model.specs.Calls.{kindOf, shown, verdictAccepted, verdictRefused, verdictCall, pathsAccepted, pathsRefused, pathsCall}
+use Rattle.model.specs.Text.{decimalIn, decimal, number, numbers, line, nodeLine, nodeLines, answerLine, firstLines, shownText, verdictText, printed}
 
 unfoldable pub lists : Unit {0}
 unfolding flatMap upFrom keep anyOf allOf countOf firstOf sameList maskBelow countBelow
@@ -28,10 +27,6 @@ unfoldable pub judging : Unit {0}
 unfolding layout ownNodes ownResult passes step run conclude judge verdict triedOf
 judging = tt
 
-unfoldable pub skipping : Unit {0}
-unfolding layout hangsFrom meets offers closedIn closed hang placesOf sumOf productOf childrenOf waysIn ways waysLeft skip lowIn low sureIn sure surely
-skipping = tt
-
 unfoldable pub bytes : Unit {0}
 unfolding field fieldBytes bytesOf recordsAt section caseOf isWholeCase sectionFields caseFields encodeCase encodeDocument encodeCounted writtenAtFront
 bytes = tt
@@ -47,3 +42,7 @@ questions = tt
 unfoldable pub calls : Unit {0}
 unfolding judging questions kindOf shown verdictAccepted verdictRefused verdictCall pathsAccepted pathsRefused pathsCall
 calls = tt
+
+unfoldable pub printing : Unit {0}
+unfolding calls decimalIn decimal number numbers line nodeLine nodeLines answerLine firstLines shownText verdictText printed
+printing = tt

@@ -3,8 +3,8 @@ use mathlib.Core.Path.{_≡_, refl}
 use mathlib.Core.Bool.{true}
 use lib.ListN.{replicate}
 use Rattle.model.specs.Examples.{answers, judged, shows, examples}
-use Rattle.model.proofs.Computing.{calls}
+use Rattle.model.proofs.Computing.{printing}
 
-pub e1-to-e10 : examples ≡ replicate 14 true
-unfolding calls answers judged shows examples
+pub e1-to-e10 : examples ≡ replicate 15 true
+unfolding printing answers judged shows examples
 e1-to-e10 = refl

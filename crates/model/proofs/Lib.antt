@@ -32,11 +32,11 @@ pub mod CountLaws
 pub mod CaseFacts
 pub mod CallFacts
 pub mod Calls
+pub mod Text
 pub mod Tally
 pub mod Decision
 pub mod ReadBack
 pub mod Demands
+pub mod Printed
 pub mod Computing
 pub mod Examples
-pub mod Misreadings
-pub mod SkippingExamples

@@ -73,7 +73,7 @@ fields-fit W n h f (List·Memᴰ·head e) = subst (λ (x : ℕ). x < 65_536) (sy
 fields-fit W n h f (List·Memᴰ·tail m) = records-fit W h f m
 
 -- a tree's parents are its nodes
-parent-inside : (W : Document) → IsTree W → (i : ℕ) → i < length W → parentOf W i < length W
+pub parent-inside : (W : Document) → IsTree W → (i : ℕ) → i < length W → parentOf W i < length W
 parent-inside W t zero h = subst (λ (x : ℕ). x < length W) (sym (t .root)) (t .inhabited)
 parent-inside W t (suc i) h = let k = t .earlier (suc i) (omega arith) h in omega arith
 
@@ -104,10 +104,10 @@ module _ (S : Summary) (P : Pattern) (es : List ℕ) (tree : IsTree (asDocument 
 
 -- ---- a result
 
-result-count : {P : Pattern} {W : Document} {r : List ℕ} → Result P W r → length r ≡ arity P
+pub result-count : {P : Pattern} {W : Document} {r : List ℕ} → Result P W r → length r ≡ arity P
 result-count {P} k = ap length (k .returns) ∙ length-map (returnNodes P) (k .image) ∙ length-returnNodes P
 
-result-inside : {P : Pattern} {W : Document} {r : List ℕ} → PatternFacts P → Result P W r → (v : ℕ) → List·Memᴰ v r → v < length W
+pub result-inside : {P : Pattern} {W : Document} {r : List ℕ} → PatternFacts P → Result P W r → (v : ℕ) → List·Memᴰ v r → v < length W
 result-inside {P} {W} f k v m =
     let q = Memᴰ·of-map (k .image) (returnNodes P) (subst (λ (l : List ℕ). List·Memᴰ v l) (k .returns) m) in
     subst (λ (x : ℕ). x < length W) (q .2) (k .embeds .inside (q .0) (return-inside f (q .0) (q .1)))
@@ -276,6 +276,8 @@ module _ (b : List ℕ) (asked : AllYes (caseQuestions b)) (f : CaseFacts (caseO
       there : ReadsBack b (w ++ (encodeCounted r ++ t)) W r
       there =
           record {
+            nodes = count-front W r t fit result-fits;
+            positions = count-next W r t fit result-fits;
             document = ap documentOf section ∙ back;
             result = ap listOf list ∙ list-says;
             fits = ap (fitsCall b) section ∙ fits-says;

@@ -8,13 +8,13 @@ use mathlib.Core.List.{List, _∷_, _++_, map, List·Memᴰ}
 use lib.Count.{ones}
 use lib.ListN.{length, getD, take, replicate}
 use Rattle.model.specs.Lists.{Ascending, has}
-use Rattle.model.specs.Limits.{maxPattern, maxCanonical}
+use Rattle.model.specs.Limits.{maxPattern, maxCanonical, documentWidth}
 use Rattle.model.specs.Tree.{Document}
 use Rattle.model.specs.Summary.{Summary, Fits}
 use Rattle.model.specs.Pattern.{Pattern, Result, AtPosition, PathOf, Contained, CounterExample}
 use Rattle.model.specs.Embeddings.{summaryEmbeddings}
 use Rattle.model.specs.Canonical.{canonical, canonicalSpots, ownResult, passes}
-use Rattle.model.specs.Bytes.{caseOf, documentOf, listOf, encodeDocument, encodeCounted, writtenAtFront, shownSection, shownList}
+use Rattle.model.specs.Bytes.{field, sectionEnd, caseOf, documentOf, listOf, encodeDocument, encodeCounted, writtenAtFront, shownSection, shownList}
 use Rattle.model.specs.Questions.{selected, verdictRefusal, fitsRefusal, resultRefusal, nodesRefusal, pathsRefusal, layoutRefusal}
 use Rattle.model.specs.Calls.{refusedAnswer, VerdictOutcome, kindIncluded, kindNotIncluded, kindStopped, verdictCall, TestAnswer, yesAnswer, noAnswer, fitsCall, resultCall, NodesOutcome, nodesCall, PathsAnswer, pathsCall, LaidRecord, laidRecord, LayoutOutcome, layoutCall}
 
@@ -100,9 +100,11 @@ pub record Shown (S : Summary) (P Q : Pattern) (L tried : ℕ) (before after : L
   pub small : length document ≤ maxCanonical
   pub written : after ≡ writtenAtFront (encodeDocument document ++ encodeCounted result) before
 
--- what is shown of case b reads back from the buffer: its section is the volume and its list the result; of these Fits says yes, and
--- Is it a result says yes of the first selection and no of the second
+-- what is shown of case b reads back from the buffer: the counts are the volume's and the result's, the section is the volume and the
+-- list the result; of these Fits says yes, and Is it a result says yes of the first selection and no of the second
 pub record ReadsBack (b after : List ℕ) (W : Document) (r : List ℕ) : Type 0 where
+  pub nodes : field after 0 ≡ length W
+  pub positions : field after (sectionEnd documentWidth after 0) ≡ length r
   pub document : documentOf (shownSection after) ≡ W
   pub result : listOf (shownList after) ≡ r
   pub fits : fitsCall b (shownSection after) ≡ yesAnswer

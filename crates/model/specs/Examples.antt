@@ -1,4 +1,4 @@
--- Document 01's examples E1 to E10 as one list of tests, each over the bytes of a case and the whole outcome of a call.
+-- Document 01's examples E1 to E10 as one list of tests, each over the bytes of a case and the whole outcome of a call, or the text.
 use Prim.Native.Nat.{ℕ, _+_}
 use mathlib.Core.Bool.{Bool, _&&_}
 use mathlib.Core.List.{List, [], _∷_, _++_}
@@ -11,6 +11,7 @@ use Rattle.model.specs.Summary.{SummaryRecord, Summary}
 use Rattle.model.specs.Pattern.{PatternRecord, Pattern}
 use Rattle.model.specs.Bytes.{Case, encodeCase, encodeDocument, encodeCounted}
 use Rattle.model.specs.Calls.{VerdictOutcome, PathsAnswer, verdictCall, pathsCall, kindIncluded, kindNotIncluded, kindStopped}
+use Rattle.model.specs.Text.{ascii, printed}
 
 -- labels
 abbrev pub lr : ℕ
@@ -130,6 +131,8 @@ examples =
     ∷ judged e6 2 kindNotIncluded 2 (shows (node 0 lr ∷ node 0 la ∷ node 1 lb ∷ []) (2 ∷ []))
     ∷ (eqb (length e6Bytes) 56 && sameList (encodeCase e6) e6Bytes)
     ∷ answers (verdictCall e6Bytes 2 start before) kindNotIncluded 2 (shows (node 0 lr ∷ node 0 la ∷ node 1 lb ∷ []) (2 ∷ []))
+    -- and what the program prints of it
+    ∷ sameList (printed e6Bytes) (ascii "not included\ntried 2\nnode 0 0 1\nnode 1 0 2\nnode 2 1 3\nanswer 2\n")
     -- E7: limit 1: included, tried 1
     ∷ judged e7 1 kindIncluded 1 []
     -- E8: both r^: included; second a^: not included, result 0

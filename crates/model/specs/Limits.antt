@@ -46,3 +46,7 @@ patternWidth = 4
 
 abbrev pub documentWidth : ℕ
 documentWidth = 2
+
+-- the most bytes of a printed text: 27 of the first lines, 21 of each of 1,009 node lines, 47 of the answer line
+abbrev pub maxText : ℕ
+maxText = 21_263

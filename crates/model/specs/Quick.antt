@@ -1,6 +1,6 @@
--- The quick test of a placement, which lays nothing out. proofs/Quick.antt shows that it equals "the trial passes", so no
--- other definition rests on it. Sets of the second pattern's nodes are functions to Bool. x is a summary node, n the position
--- that the document node there holds or 0, acc the pattern nodes that its children offer.
+-- The quick test of a placement, which lays nothing out. proofs/Quick.antt shows that it equals "the trial passes": code is promised
+-- against it, and no outcome of a call and no demand is stated with it. Sets of the second pattern's nodes are functions to Bool. x is
+-- a summary node, n the position that the document node there holds or 0, acc the pattern nodes that its children offer.
 use Prim.Native.Nat.{ℕ, zero, suc}
 use mathlib.Core.Bool.{Bool, false, _&&_, _||_, not}
 use mathlib.Core.List.{List, [], _∷_}

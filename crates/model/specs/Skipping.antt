@@ -1,6 +1,7 @@
 -- Skipping: of a partial placement, what each of its completions offers at least, how many there are, and a test under which all
--- of them surely pass. proofs/Skipping.antt shows that the run over them then only advances the counters, so no other definition
--- rests on these. `places c x` lists the places of first-pattern node c where its parent stands at x.
+-- of them surely pass. proofs/Skipping.antt shows that the run over them then only advances the counters: code is promised against
+-- these, and no outcome of a call and no demand is stated with them. `places c x` lists the places of first-pattern node c where its
+-- parent stands at x.
 use Prim.Native.Nat.{ℕ, zero, suc, _+_, _-_, _*_}
 use mathlib.Core.Bool.{Bool, true, false, _&&_}
 use mathlib.Core.List.{List, [], _∷_, _++_, flatMap}

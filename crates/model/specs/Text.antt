@@ -1,0 +1,90 @@
+-- What the verdict program prints: document 01's lines, in ASCII, each ended by a newline.
+use Prim.Native.Nat.{ℕ, zero, suc, _+_, _-_, _*_, _/_, _%_}
+use Prim.Native.Char.{code}
+use Prim.Native.String.{String, [] as end, _∷_ as char}
+use mathlib.Core.Bool.{true, false}
+use mathlib.Core.List.{List, [], _∷_, _++_, flatMap}
+use lib.Dec.{eqb, ltb}
+use lib.ListN.{length}
+use Rattle.model.specs.Lists.{upFrom}
+use Rattle.model.specs.Limits.{maxLimit, minBuffer}
+use Rattle.model.specs.Tree.{Document, parentOf, labelOf}
+use Rattle.model.specs.Summary.{Summary}
+use Rattle.model.specs.Pattern.{Pattern}
+use Rattle.model.specs.Canonical.{canonical, ownResult}
+use Rattle.model.specs.Verdict.{Verdict, included, notIncluded, stopped, verdict}
+use Rattle.model.specs.Bytes.{Case, caseOf}
+use Rattle.model.specs.Questions.{verdictRefusal}
+
+-- the characters' codes
+abbrev pub ascii : String → List ℕ
+ascii end = []
+ascii (char c s) = code c ∷ ascii s
+
+-- a digit's code: "0" is 48
+abbrev pub digit : ℕ → ℕ
+digit d = 48 + d
+
+-- a number in decimal, of at most k digits
+unfoldable pub decimalIn : ℕ → ℕ → List ℕ
+decimalIn zero n = []
+decimalIn (suc k) n = elim (ltb n 10) [ true ↦ digit n ∷ [] | false ↦ decimalIn k (n / 10) ++ (digit (n % 10) ∷ []) ]
+
+-- a number in decimal
+unfoldable pub decimal : ℕ → List ℕ
+decimal n = decimalIn (suc n) n
+
+-- the number that decimal digits give, after those that gave a
+unfoldable pub readOn : ℕ → List ℕ → ℕ
+readOn a [] = a
+readOn a (c ∷ cs) = readOn (10 * a + (c - 48)) cs
+
+-- a number after a space
+unfoldable pub number : ℕ → List ℕ
+number n = ascii " " ++ decimal n
+
+unfoldable pub numbers : List ℕ → List ℕ
+numbers ns = flatMap number ns
+
+-- a line: words, then numbers
+unfoldable pub line : List ℕ → List ℕ → List ℕ
+line words ns = words ++ (numbers ns ++ ascii "\n")
+
+-- a node line has number, parent, label
+unfoldable pub nodeLine : Document → ℕ → List ℕ
+nodeLine W i = line (ascii "node") (i ∷ parentOf W i ∷ labelOf W i ∷ [])
+
+-- the node lines of a volume
+unfoldable pub nodeLines : Document → List ℕ
+nodeLines W = flatMap (nodeLine W) (upFrom 0 (length W))
+
+-- the answer line lists the result by position
+unfoldable pub answerLine : List ℕ → List ℕ
+answerLine result = line (ascii "answer") result
+
+-- the first two lines: the verdict and tried
+unfoldable pub firstLines : List ℕ → ℕ → List ℕ
+firstLines words tried = line words [] ++ line (ascii "tried") (tried ∷ [])
+
+-- "not included" lists the volume and the result after them
+unfoldable pub shownText : ℕ → Document → List ℕ → List ℕ
+shownText tried W result = firstLines (ascii "not included") tried ++ (nodeLines W ++ answerLine result)
+
+-- included and stopped print the first two lines
+unfoldable pub verdictText : Summary → Pattern → Verdict → List ℕ
+verdictText S P (included n) = firstLines (ascii "included") n
+verdictText S P (notIncluded n es) = shownText n (canonical S P es) (ownResult S P es)
+verdictText S P (stopped n) = firstLines (ascii "stopped") n
+
+-- a refusal prints one line
+unfoldable pub refusedText : ℕ → List ℕ
+refusedText n = line (ascii "refused") (n ∷ [])
+
+abbrev pub caseText : Case → List ℕ
+caseText c = verdictText (c .summary) (c .first) (verdict (c .summary) (c .first) (c .second) maxLimit)
+
+-- the text for a case from standard input, with limit 1,000,000 and tally 0
+unfoldable pub printed : List ℕ → List ℕ
+printed b =
+    let refused : ℕ = verdictRefusal b maxLimit 0 minBuffer in
+    elim (eqb refused 0) [ true ↦ caseText (caseOf b) | false ↦ refusedText refused ]
