@@ -1,103 +1,54 @@
-// The verdict program: a case from standard input, with limit 1,000,000 and tally 0; document 01's lines on standard output.
+// The verdict program: a case from standard input, its text on standard output. What it prints is `printing::verdict_text`; here is
+// reading and writing alone. A failed read or write is told on standard error: a program here has no exit status.
 
-mod text;
+use printing::verdict_text;
+ghost use Rattle.io.specs.Counts.{Counts};
 
-use deciding::Answer;
-use deciding::verdict_call;
-use format::field::field;
-use format::field::wide64;
-ghost use Prim.Native.Nat.{_≤_, _<_};
-ghost use lib.ListN.{length};
+// What reading gave: how many bytes stand at the front, and whether a read failed.
+struct Input {
+    count: usize,
+    failed: bool,
+}
 
-// Field i of the answer buffer, or 0 past its end.
-fn shown_field(answer: &[u8], i: usize) -> usize
-    ensures { λ r. ⌜ r < 65536 ⌝ }
+// Reads until the buffer is full, the input ends or a read fails.
+fn read_all(buffer: &mut [u8]) -> Input
+    ensures { λ r. ⌜ Counts (r .count) (now (buffer .exit)) ⌝ }
 {
-    if i < answer.len() / 2 {
-        return field(answer, i);
+    let mut done = 0;
+    while done < buffer.len() {
+        let got = libc::read(0, &mut buffer[done..]);
+        let more = io::count(got, &buffer[done..]);
+        if more == 0 {
+            return Input {
+                count: done,
+                failed: got < 0,
+            };
+        }
+        done += more;
     }
-    0
-}
-
-// The line of node i: its number, its parent and its label.
-fn node(answer: &[u8], i: usize, out: &mut [u8], at: usize) -> usize
-    requires { ⌜ i < 65536 ⌝ }
-    requires { ⌜ (at ≤ length (now out)) × (0 < length (now out)) ⌝ }
-    ensures { λ r. ⌜ r ≤ length (now (out .entry)) ⌝ }
-{
-    let mut end = text::word(out, at, b"node");
-    end = text::number(out, end, wide64(i));
-    end = text::number(out, end, wide64(shown_field(answer, 1 + 2 * i)));
-    end = text::number(out, end, wide64(shown_field(answer, 2 + 2 * i)));
-    text::word(out, end, b"\n")
-}
-
-// The lines of the volume's nodes, as many as the first field says.
-fn nodes(answer: &[u8], out: &mut [u8], at: usize) -> usize
-    requires { ⌜ (at ≤ length (now out)) × (0 < length (now out)) ⌝ }
-    ensures { λ r. ⌜ r ≤ length (now (out .entry)) ⌝ }
-{
-    let mut end = at;
-    for i in 0..shown_field(answer, 0) {
-        end = node(answer, i, out, end);
+    Input {
+        count: done,
+        failed: false,
     }
-    end
 }
 
-// The line of the result, whose count is field `from`.
-fn result(answer: &[u8], from: usize, out: &mut [u8], at: usize) -> usize
-    requires { ⌜ from < 1000000 ⌝ }
-    requires { ⌜ (at ≤ length (now out)) × (0 < length (now out)) ⌝ }
-    ensures { λ r. ⌜ r ≤ length (now (out .entry)) ⌝ }
-{
-    let mut end = text::word(out, at, b"answer");
-    for i in 0..shown_field(answer, from) {
-        end = text::number(out, end, wide64(shown_field(answer, from + 1 + i)));
-    }
-    text::word(out, end, b"\n")
-}
-
-// Words and a number as a line, the first of the text.
-fn line(words: &[u8], n: u64, out: &mut [u8]) -> usize
-    requires { ⌜ 0 < length (now out) ⌝ }
-    ensures { λ r. ⌜ r ≤ length (now (out .entry)) ⌝ }
-{
-    let mut end = text::word(out, 0, words);
-    end = text::number(out, end, n);
-    text::word(out, end, b"\n")
-}
-
-// The lines of "not included": what the answer buffer shows comes after the first two.
-fn not_included(tried: u64, answer: &[u8], out: &mut [u8]) -> usize
-    requires { ⌜ 0 < length (now out) ⌝ }
-    ensures { λ r. ⌜ r ≤ length (now (out .entry)) ⌝ }
-{
-    let told = line(b"not included\ntried", tried, out);
-    let listed = nodes(answer, out, told);
-    result(answer, 1 + 2 * shown_field(answer, 0), out, listed)
-}
-
-// The lines of an answer. The result is how many bytes of the text wait.
-fn lines(a: Answer, answer: &[u8], out: &mut [u8]) -> usize
-    requires { ⌜ 0 < length (now out) ⌝ }
-    ensures { λ r. ⌜ r ≤ length (now (out .entry)) ⌝ }
-{
-    match a {
-        Answer::Refused(number) => line(b"refused", number, out),
-        Answer::Contained(tried) => line(b"included\ntried", tried, out),
-        Answer::NotContained(tried) => not_included(tried, answer, out),
-        Answer::Stopped(tried) => line(b"stopped\ntried", tried, out),
+// Writes the text of a case.
+fn tell(case: &[u8]) {
+    let mut out = [0u8; 21263];
+    let end = verdict_text(case, &mut out);
+    if !io::write_all(1, &out[..end]) {
+        io::write_all(2, b"verdict: the answer can't be written\n");
     }
 }
 
 // One byte more than a case may have is read, so that a longer one is refused and not cut.
 fn main() {
     let mut case = [0u8; 65537];
-    let n = io::read_full(0, &mut case);
-    let mut answer = [0u8; 4096];
-    let r = verdict_call(&case[..n], 1000000, 0, &mut answer);
-    let told = r.answer;
-    let mut out = [0u8; 4096];
-    let end = lines(told, &answer, &mut out);
-    text::flush(&out, end);
+    let input = read_all(&mut case);
+    if input.failed {
+        io::write_all(2, b"verdict: the input can't be read\n");
+        return;
+    }
+    let n = input.count;
+    tell(&case[..n]);
 }

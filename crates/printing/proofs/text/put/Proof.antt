@@ -1,0 +1,11 @@
+-- `printing::text::put` meets its contract: one store. Assumes nothing.
+use borrow.Author.Needs.{needs}
+use Rattle.printing.proofs.PutLaws.{put-byte}
+use Rattle.printing.proofs.text.put.Statement.{statement}
+use Rattle.printing.proofs.text.put.Tie as tie
+
+returns : tie.Need-returns
+returns c = put-byte _ _ _ (c .pre)
+
+pub put-spec : {M : Type 1} → statement M
+put-spec = tie.close (tie.spec (λ c. search needs) (λ c. search needs) (λ c. search needs) returns)

@@ -1,0 +1,3 @@
+pub mod Put
+pub mod Shown
+pub mod Text

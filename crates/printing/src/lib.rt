@@ -1,0 +1,45 @@
+// What the verdict program prints of a case: the whole text at the front of a lent array.
+
+mod lines;
+mod text;
+
+use deciding::Answer;
+use deciding::verdict_call;
+use format::field::field;
+ghost use Rattle.printing.specs.Put.{Room, Put};
+ghost use Rattle.printing.specs.Shown.{ShownWhole, textOf, Tellable, toldText};
+ghost use Rattle.printing.specs.Text.{Printed};
+
+// The text of "not included", with the document and the result that an answer buffer shows.
+fn shown_text(tried: u64, answer: &[u8], out: &mut [u8]) -> usize
+    requires { ⌜ ShownWhole (now answer) × Room (textOf tried (now answer)) 0 (now out) ⌝ }
+    ensures { λ r. ⌜ Put (textOf tried (now (answer .entry))) 0 (now (out .entry)) (now (out .exit)) r ⌝ }
+{
+    let end = 1 + 2 * field(answer, 0);
+    let from = 2 * (end + 1);
+    let to = from + 2 * field(answer, end);
+    let last = 2 * end;
+    lines::shown(tried, &answer[..last], &answer[from..to], out)
+}
+
+// The text of an answer, with what the answer buffer shows.
+fn answer_text(told: Answer, answer: &[u8], out: &mut [u8]) -> usize
+    requires { ⌜ Tellable told (now answer) × Room (toldText told (now answer)) 0 (now out) ⌝ }
+    ensures { λ r. ⌜ Put (toldText told (now (answer .entry))) 0 (now (out .entry)) (now (out .exit)) r ⌝ }
+{
+    match told {
+        Answer::Refused(number) => lines::line(b"refused", number, out, 0),
+        Answer::Contained(tried) => lines::first_lines(b"included", tried, out, 0),
+        Answer::NotContained(tried) => shown_text(tried, answer, out),
+        Answer::Stopped(tried) => lines::first_lines(b"stopped", tried, out, 0),
+    }
+}
+
+// The text of a case from standard input, with limit 1,000,000 and tally 0, and how many bytes it has.
+pub fn verdict_text(case: &[u8], out: &mut [u8; 21263]) -> usize
+    ensures { λ r. ⌜ Printed (now (case .entry)) (now (out .entry)) (now (out .exit)) r ⌝ }
+{
+    let mut answer = [0u8; 4096];
+    let told = verdict_call(case, 1000000, 0, &mut answer).answer;
+    answer_text(told, &answer, out)
+}
