@@ -17,8 +17,8 @@ use Rattle.model.specs.Pattern.{Pattern, IsPatternTree, patternParent, p
 use Rattle.model.specs.Embeddings.{imageIn}
 use Rattle.model.specs.Fitting.{strongChildren}
 use Rattle.model.specs.Canonical.{chain}
-use Rattle.model.specs.Quick.{hangsFrom, meets, offers, closedIn, closed, union, hang, givenIn, given}
-use Rattle.model.proofs.ListLaws.{bool-ext, and-intro, and-left, and-right, or-cases, or-left, or-right, all-below, below-all, any-below, below-any, any-intro, any-elim}
+use Rattle.model.specs.Quick.{hangsFrom, meets, offers, closedIn, closed, base, union, hang, givenIn, given, settled, quick}
+use Rattle.model.proofs.ListLaws.{bool-ext, and-intro, and-left, and-right, or-cases, or-left, or-right, all-below, below-all, any-below, below-any, any-intro, any-elim, any-agree, upFrom-mem}
 use Rattle.model.proofs.TreeLaws.{child-lt, length-asDocument}
 use Rattle.model.proofs.Fitting.{strong-children-exact}
 use Rattle.model.proofs.NodeByNode.{UnderOf, under-lt}
@@ -252,3 +252,17 @@ module _ (S : Summary) (P Q : Pattern) (es : List ℕ) where
           let r = any-below test (length P) e in
           let c : ℕ = r .0 in
           given-intro j c p T (hangs-under P j c (r .1) (and-left (hangsFrom P j c) (chainOf (given S P Q es) j c p) (r .2))) (and-right (hangsFrom P j c) (chainOf (given S P Q es) j c p) (r .2))
+
+  -- where every part lies before q, all that hangs from a node is settled
+  pub settled-given : (last : ℕ → ℕ) (q j p : ℕ) → IsPatternTree P → ((c : ℕ) → c < length P → last c < q) → settled S P Q last es q j p ≡ given S P Q es j p
+  unfolding settled
+  settled-given last q j p T h =
+      any-agree (λ c. hangsFrom P j c && (ltb (last c) q && chainOf (given S P Q es) j c p)) (λ c. hangsFrom P j c && chainOf (given S P Q es) j c p) (upFrom 0 (length P))
+      (λ c m. (let k = upFrom-mem 0 (length P) c m .1 in ap (λ (b : Bool). hangsFrom P j c && (b && chainOf (given S P Q es) j c p)) (lt-ltb (last c) q (h c (omega arith)))))
+      ∙ sym (given-equation j p T)
+
+  -- and the quick test asks of it at the root
+  pub settled-quick : (last : ℕ → ℕ) → IsPatternTree P → ((c : ℕ) → c < length P → last c < length P)
+      → quick S P Q es ≡ meets S Q 0 (position P 0) (union (base S Q) (settled S P Q last es (length P) 0)) 0
+  unfolding quick
+  settled-quick last T h = ap (λ (g : ℕ → Bool). meets S Q 0 (position P 0) (union (base S Q) g) 0) (λ i p. sym (settled-given last (length P) 0 p T h) i)

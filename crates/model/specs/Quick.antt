@@ -59,6 +59,12 @@ givenIn (suc n) S P Q es j p =
 unfoldable pub given : Summary → Pattern → Pattern → List ℕ → ℕ → ℕ → Bool
 given S P Q es = givenIn (length P) S P Q es
 
+-- what the chains that hang from first-pattern node j offer, of those children whose parts lie before node q; `last c` is the last node
+-- of c's part
+unfoldable pub settled : Summary → Pattern → Pattern → (ℕ → ℕ) → List ℕ → ℕ → ℕ → ℕ → Bool
+settled S P Q last es q j p =
+    anyOf (λ c. hangsFrom P j c && (ltb (last c) q && hang S Q (position P c) (given S P Q es c) (chain S (imageIn es j) (imageIn es c)) p)) (upFrom 0 (length P))
+
 -- the second pattern's root meets at the root
 unfoldable pub quick : Summary → Pattern → Pattern → List ℕ → Bool
 quick S P Q es = meets S Q 0 (position P 0) (union (base S Q) (given S P Q es 0)) 0
