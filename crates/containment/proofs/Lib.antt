@@ -23,4 +23,6 @@ pub mod RoomLaws
 pub mod BlockLaws
 pub mod ClimbLoop
 pub mod SkipLoop
+pub mod SettleLaws
+pub mod LastLoop
 pub mod AnswerLaws

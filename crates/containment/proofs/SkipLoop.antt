@@ -50,7 +50,7 @@ module _ (T : Sets) (P : Pattern) (lows : List ℕ) (q : ℕ) (es : List ℕ) (c
   unfolding sureBy
   sure-none {j} h p l = sym (ap by-place (le-ltb c q h) ∙ ap by-parent (le-ltb (patternParent P c) q (omega arith)))
 
-gather-agree : (parent : ℕ → ℕ) (F G : ℕ → ℕ → ℕ) (n : ℕ) (t : List ℕ) → ((c e : ℕ) → c ≤ n → F c e ≡ G c e) → gather parent F n t ≡ gather parent G n t
+pub gather-agree : (parent : ℕ → ℕ) (F G : ℕ → ℕ → ℕ) (n : ℕ) (t : List ℕ) → ((c e : ℕ) → c ≤ n → F c e ≡ G c e) → gather parent F n t ≡ gather parent G n t
 unfolding gather joinUp
 gather-agree parent F G zero t h = refl
 gather-agree parent F G (suc n) t h =

@@ -41,7 +41,7 @@ abbrev pub setsIn : List ℕ → Sets
 setsIn t =
     record { up = upIn t; fitting = fittingIn t; closed = closedSetIn t; allowed = allowedIn t; low = lowHalfIn t; high = highHalfIn t; deep = deepSetIn t }
 
--- ---- `Masks`, 1,169 numbers, of the summary and the first pattern. From 0, by cell: in how many ways a node and all below it can be
+-- ---- `Masks`, 1,185 numbers, of the summary and the first pattern. From 0, by cell: in how many ways a node and all below it can be
 -- placed, cut at the cap
 
 -- by summary node: its children, its descendants
@@ -58,6 +58,10 @@ partIn t q = getD t (1152 + q) 0
 -- the cap
 abbrev pub capIn : List ℕ → ℕ
 capIn t = getD t 1168 0
+
+-- by pattern node: the last node of its part
+abbrev pub lastIn : List ℕ → ℕ → ℕ
+lastIn t c = getD t (1169 + c) 0
 
 abbrev pub candidatesIn : List ℕ → Candidates
 candidatesIn t = record { children = childIn t; descendants = belowIn t; parts = partIn t }

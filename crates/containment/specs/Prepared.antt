@@ -12,7 +12,7 @@ use Rattle.model.specs.Pattern.{Pattern, patternLabel, descends, labelFits}
 use Rattle.model.specs.Embeddings.{childTest, belowTest, isPath}
 use Rattle.model.specs.Quick.{closed}
 use Rattle.matching.specs.Matching.{childrenIn}
-use Rattle.containment.specs.Blocks.{upIn, capIn, setsIn, candidatesIn}
+use Rattle.containment.specs.Blocks.{upIn, capIn, lastIn, setsIn, candidatesIn}
 use Rattle.containment.specs.Judging.{fullBy, Sets}
 use Rattle.containment.specs.Sets.{mayHold, pathTable}
 use Rattle.containment.specs.Stepping.{Candidates}
@@ -53,7 +53,8 @@ pub record SecondMade (S : Summary) (Q : Pattern) (t : List ℕ) : Type 0 where
   pub cells : (i : ℕ) → i < 1024 → getD t i 0 ≡ 2 ^ length Q - 1
 
 -- the block of a summary and a first pattern holds what stepping takes, if `parts` has the pattern's paths; no ways are counted yet
-pub record MasksMade (S : Summary) (parts : List ℕ) (cap : ℕ) (m : List ℕ) : Type 0 where
+pub record MasksMade (S : Summary) (parts lasts : List ℕ) (cap : ℕ) (m : List ℕ) : Type 0 where
   pub sets : (P : Pattern) → length P ≤ 16 → parts ≡ pathTable S P → StepSets S P (candidatesIn m)
+  pub ends : (c : ℕ) → c < 16 → lastIn m c ≡ getD lasts c 0
   pub most : capIn m ≡ cap
   pub cells : (i : ℕ) → i < 1024 → getD m i 0 ≡ 0

@@ -1,5 +1,7 @@
 // The quick test of an embedding by masks. Sets of the second pattern's nodes are 16-bit masks.
 
+use crate::masks::Masks;
+use crate::masks::last;
 use crate::second::Second;
 use crate::second::allowed;
 use crate::second::closed;
@@ -10,6 +12,7 @@ use crate::second::least_at;
 use crate::second::low;
 use crate::second::up;
 use bits::has16;
+use format::field::wide64;
 use format::nodes::PatternNode;
 use format::nodes::SummaryNode;
 use format::nodes::image_of;
@@ -17,15 +20,19 @@ use format::pattern::pattern_count;
 use format::pattern::pattern_parent;
 use format::pattern::pattern_position;
 ghost use mathlib.Core.Path.{_≡_};
-ghost use Prim.Native.Nat.{_<_};
+ghost use Prim.Native.Nat.{_≤_, _<_};
 ghost use lib.Bits.{bitOr};
 ghost use lib.ListN.{length, getD, set as setAt};
 ghost use Rattle.model.specs.Tree.{Rooted};
 ghost use Rattle.format.specs.Given.{patternAt};
-ghost use Rattle.containment.specs.Blocks.{upIn, setsIn};
-ghost use Rattle.containment.specs.Judging.{fullBy, meetsBy, offersBy, nodeBy, hangBy, passBy};
-ghost use Rattle.containment.specs.Room.{Judgeable};
-ghost use Rattle.containment.specs.Skipping.{sureBy, sureGiven, surelyBy};
+ghost use Rattle.containment.specs.Blocks.{upIn, lastIn, setsIn};
+ghost use Rattle.containment.specs.Judging.{fullBy, meetsBy, offersBy, nodeBy, hangBy, passBy, rootBy};
+ghost use Rattle.containment.specs.Room.{Climbable, Judgeable};
+ghost use Rattle.containment.specs.Skipping.{sureBy, surelyBy};
+ghost use Rattle.containment.specs.Settling.{unlessOver, foldedRow, openRow, Settled};
+
+// By node of the first pattern, what the complete parts that hang from it offer.
+pub type Row = [u16; 16];
 
 // The pattern nodes all of whose children are in acc.
 fn full(t: &Second, acc: u16) -> u16
@@ -115,29 +122,120 @@ fn handed(
     0
 }
 
-// What hangs at least from the first pattern's root: each node, from the last on, passes on to its parent.
-fn given(t: &Second, p: &[u8], at: usize, images: &[u16], q: PatternNode) -> u16
+// A node whose turn it is: what hangs from it so far, and whether its turn is passed over.
+struct Share {
+    node: PatternNode,
+    set: u16,
+    over: bool,
+}
+
+// What a node passes on, where its part ends with the node just placed.
+fn folded(t: &Second, p: &[u8], at: usize, images: &[u16], s: Share) -> u16
     requires { ⌜ Judgeable (now t) (now p) at (now images) ⌝ }
-    ensures { λ r. ⌜ r ≡ getD (sureGiven (setsIn (now (t .entry))) (patternAt (now (p .entry)) at) (now (t .entry)) (q .0) (now (images .entry))) 0 0 ⌝ }
+    requires { ⌜ (0 < s .node .0) × (s .node .0 < length (patternAt (now p) at)) ⌝ }
+    ensures { λ r. ⌜ r ≡ unlessOver (s .over) (passBy (setsIn (now (t .entry))) (patternAt (now (p .entry)) at) (now (images .entry)) (s .node .0) (s .set)) ⌝ }
 {
-    let mut hangs = [0u16; 16];
+    if s.over {
+        return 0;
+    }
+    pass(t, p, at, images, s.node, s.set)
+}
+
+// What a node passes on at least, where its part is not settled.
+fn opened(t: &Second, p: &[u8], at: usize, images: &[u16], q: PatternNode, s: Share) -> u16
+    requires { ⌜ Judgeable (now t) (now p) at (now images) ⌝ }
+    requires { ⌜ (0 < s .node .0) × (s .node .0 < length (patternAt (now p) at)) ⌝ }
+    ensures { λ r. ⌜ r ≡ unlessOver (s .over)
+        (sureBy (setsIn (now (t .entry))) (patternAt (now (p .entry)) at) (now (t .entry)) (q .0) (now (images .entry)) (s .node .0) (s .set)) ⌝ }
+{
+    if s.over {
+        return 0;
+    }
+    handed(t, p, at, images, q, s.node, s.set)
+}
+
+// The row with what the parts that end with node q offer, which is placed.
+pub fn settle(
+    t: &Second,
+    m: &Masks,
+    p: &[u8],
+    at: usize,
+    images: &[u16],
+    q: PatternNode,
+    row: Row,
+) -> Row
+    requires { ⌜ Judgeable (now t) (now p) at (now images) ⌝ }
+    ensures { λ r. ⌜ r ≡ foldedRow (setsIn (now (t .entry))) (patternAt (now (p .entry)) at) (lastIn (now (m .entry))) (q .0) (now (images .entry)) row ⌝ }
+{
+    let mut hangs = row;
     let mut c = pattern_count(p, at);
     while 1 < c {
         c -= 1;
-        let set = handed(t, p, at, images, q, PatternNode(c), hangs[c]);
+        let over = last(m, PatternNode(c)) != wide64(q.0);
+        let share = Share {
+            node: PatternNode(c),
+            set: hangs[c],
+            over,
+        };
+        let set = folded(t, p, at, images, share);
+        join(&mut hangs, pattern_parent(p, at, PatternNode(c)).0, set);
+    }
+    hangs
+}
+
+// What hangs at least from the first pattern's root: what is settled, and each other node, from the last on, passes on to its parent.
+fn given(
+    t: &Second,
+    m: &Masks,
+    p: &[u8],
+    at: usize,
+    images: &[u16],
+    q: PatternNode,
+    row: Row,
+) -> u16
+    requires { ⌜ Judgeable (now t) (now p) at (now images) ⌝ }
+    ensures { λ r. ⌜ r
+        ≡ getD (openRow (setsIn (now (t .entry))) (patternAt (now (p .entry)) at) (now (t .entry)) (lastIn (now (m .entry))) (q .0) (now (images .entry)) row) 0 0 ⌝ }
+{
+    let mut hangs = row;
+    let mut c = pattern_count(p, at);
+    while 1 < c {
+        c -= 1;
+        let over = last(m, PatternNode(c)) < wide64(q.0);
+        let share = Share {
+            node: PatternNode(c),
+            set: hangs[c],
+            over,
+        };
+        let set = opened(t, p, at, images, q, share);
         join(&mut hangs, pattern_parent(p, at, PatternNode(c)).0, set);
     }
     hangs[0]
 }
 
-// Every completion of the images of the nodes before q surely passes: by what hangs from it at least, the second pattern's root meets
-// at the root. Of the images of all nodes: the embedding passes.
-pub fn judge(t: &Second, p: &[u8], at: usize, images: &[u16], q: PatternNode) -> bool
-    requires { ⌜ Judgeable (now t) (now p) at (now images) ⌝ }
+// The second pattern's root meets at the root, where g hangs from it.
+pub fn root(t: &Second, p: &[u8], at: usize, g: u16) -> bool
+    requires { ⌜ Climbable (now t) (now p) at ⌝ }
+    ensures { λ r. ⌜ r ≡ rootBy (setsIn (now (t .entry))) (patternAt (now (p .entry)) at) g ⌝ }
+{
+    let n = pattern_position(p, at, PatternNode(0));
+    let top = SummaryNode(0);
+    has16(met(t, top, n, closed(t, top) | g), 0)
+}
+
+// Every completion of the images of the nodes before q surely passes, by the row that is settled and what is offered at least besides.
+pub fn judge(
+    t: &Second,
+    m: &Masks,
+    p: &[u8],
+    at: usize,
+    images: &[u16],
+    q: PatternNode,
+    row: Row,
+) -> bool
+    requires { ⌜ Judgeable (now t) (now p) at (now images) × (q .0 ≤ length (patternAt (now p) at)) ⌝ }
+    requires { ⌜ Settled (now t) (now m) (patternAt (now p) at) (q .0) (now images) row ⌝ }
     ensures { λ r. ⌜ r ≡ surelyBy (setsIn (now (t .entry))) (patternAt (now (p .entry)) at) (now (t .entry)) (q .0) (now (images .entry)) ⌝ }
 {
-    let g = given(t, p, at, images, q);
-    let n = pattern_position(p, at, PatternNode(0));
-    let root = SummaryNode(0);
-    has16(met(t, root, n, closed(t, root) | g), 0)
+    root(t, p, at, given(t, m, p, at, images, q, row))
 }
