@@ -7,11 +7,11 @@ use mathlib.Core.Bool.{Bool, true, false, not, true≢false}
 use mathlib.Core.List.{List}
 use native.Mathlib.Omega.{arith}
 use lib.Arith.{bin-ind}
-use lib.Bits.{bitOr, or-step, or-zero-r, or-comm, or-shr, or-mod}
+use lib.Bits.{bitOr, or-step, or-zero-r, or-comm, or-shr}
 use lib.Dec.{eqb, ltb}
 use lib.ListN.{length, getD, set, take, replicate, length-set}
 use lib.Seq.{getD-set-same, getD-set-other, getD-take, take-set-le, set-set, set-comm, set-getD}
-use borrow.Author.Tests.{eqb-true, eqb-false, eq-eqb, ne-eqb, ltb-true, ltb-false, lt-ltb, le-ltb}
+use borrow.Author.Tests.{eqb-true, eqb-false, ne-eqb, ltb-true, ltb-false, lt-ltb, le-ltb}
 use Rattle.model.specs.Pattern.{Pattern, IsPatternTree, patternParent, position}
 use Rattle.containment.specs.Judging.{joinUp, gather, Sets, hangBy, passBy, givenBy, rootBy, judgeBy}
 use Rattle.containment.specs.Skipping.{sureBy, sureGiven, surelyBy}

@@ -1,6 +1,6 @@
 -- What a node passes on at least, and what stepping keeps so that it may skip: the images placed so far stand at places of theirs.
 -- Assumes nothing.
-use Prim.Native.Nat.{ℕ, zero, suc, _+_, _-_, _≤_, _<_}
+use Prim.Native.Nat.{ℕ, zero, suc, _+_, _≤_, _<_}
 use mathlib.Core.Path.{_≡_, refl, sym, ap, _∙_, subst}
 use mathlib.Core.Bool.{Bool, true, false, _&&_, not}
 use mathlib.Core.List.{List, List·Memᴰ}
@@ -8,7 +8,7 @@ use native.Mathlib.Omega.{arith}
 use lib.Bits.{bitOr}
 use lib.Count.{trailingZeros}
 use lib.Dec.{ltb}
-use lib.ListN.{length, getD, set, take, replicate}
+use lib.ListN.{length, getD, set, take}
 use lib.Seq.{getD-take, getD-set-same, getD-set-other}
 use borrow.Author.Tests.{ltb-true, ltb-false, lt-ltb, le-ltb, not-true, not-false}
 use Rattle.model.specs.Lists.{has}
@@ -16,10 +16,10 @@ use Rattle.model.specs.Pattern.{Pattern, IsPatternTree, patternParent}
 use Rattle.model.specs.Skipping.{skip}
 use Rattle.model.proofs.ListLaws.{and-right}
 use Rattle.containment.specs.Blocks.{cell}
-use Rattle.containment.specs.Judging.{joinUp, gather, Sets, passBy, givenBy, rootBy, judgeBy}
+use Rattle.containment.specs.Judging.{joinUp, gather, Sets, passBy}
 use Rattle.containment.specs.Stepping.{Candidates, members, placesBy}
 use Rattle.containment.specs.Steps.{progressOf, Stepped}
-use Rattle.containment.specs.Skipping.{sureBy, sureGiven, surelyBy, leftBy, PlacedBy, MaySkip}
+use Rattle.containment.specs.Skipping.{sureBy, surelyBy, leftBy, PlacedBy, MaySkip}
 use Rattle.containment.specs.declared.Budget.{Budget}
 use Rattle.containment.specs.declared.Run.{Run}
 use Rattle.containment.proofs.StepLoop.{sites-take, StepInv, first-among}
@@ -56,13 +56,6 @@ gather-agree parent F G zero t h = refl
 gather-agree parent F G (suc n) t h =
     gather-agree parent F G n (joinUp parent F (suc n) t) (λ c e l. h c e (omega arith))
     ∙ ap (λ (v : ℕ). gather parent G n (set t (parent (suc n)) (bitOr (getD t (parent (suc n)) 0) v))) (h (suc n) (getD t (suc n) 0) (omega arith))
-
--- where all nodes are placed the test is of the one embedding
-pub surely-whole : (T : Sets) (P : Pattern) (lows : List ℕ) {q : ℕ} (es : List ℕ) → q ≡ length P → 0 < length P → surelyBy T P lows q es ≡ judgeBy T P es
-unfolding surelyBy sureGiven judgeBy givenBy
-surely-whole T P lows {q} es e z =
-    ap (λ (t : List ℕ). rootBy T P (getD t 0 0))
-    (gather-agree (patternParent P) (sureBy T P lows q es) (passBy T P es) (length P - 1) (replicate 16 0) (λ c i l. sym (sure-placed T P lows q es c i (omega arith))))
 
 -- ---- asked or not
 
