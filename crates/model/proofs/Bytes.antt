@@ -15,20 +15,70 @@ use borrow.Author.Tests.{eqb-true, leb-true, eq-eqb, le-leb}
 use Rattle.model.specs.Lists.{upFrom}
 use Rattle.model.specs.Limits.{maxCaseBytes, summaryWidth, patternWidth, documentWidth}
 use Rattle.model.specs.Tree.{Document, noDocumentRecord}
-use Rattle.model.specs.Summary.{noSummaryRecord}
-use Rattle.model.specs.Pattern.{noPatternRecord}
-use Rattle.model.specs.Bytes.{field, fieldBytes, bytesOf, recordsAt, summaryRecordAt, patternRecordAt, documentRecordAt, section, sectionEnd, firstAt, secondAt, caseEnd, Case, caseOf, WholeCase, isWholeCase, Decoded, tables, notWhole, decodeCase, documentOf, isWholeDocument, decodeDocument, listOf, summaryFields, patternFields, documentFields, sectionFields, caseFields, encodeCase, encodeDocument, encodeList, writtenAtFront}
+use Rattle.model.specs.Summary.{Summary, noSummaryRecord}
+use Rattle.model.specs.Pattern.{Pattern, noPatternRecord}
+use Rattle.model.specs.Bytes.{field, fieldBytes, bytesOf, recordsAt, summaryRecordAt, patternRecordAt, documentRecordAt, section, sectionEnd, memberAt, setEnd, setOf, firstAt, setAt, caseEnd, Case, caseOf, WholeSection, WholeSet, WholeCase, isWholeCase, Decoded, tables, notWhole, decodeCase, documentOf, isWholeDocument, decodeDocument, listOf, summaryFields, patternFields, documentFields, sectionFields, setFields, caseFields, encodeCase, encodeDocument, encodeList, writtenAtFront}
 use Rattle.model.proofs.ListLaws.{and-intro, and-left, and-right}
 
 -- ---- the whole case
 
+-- a member's section begins after the one before it
+pub member-next : (b : List ℕ) (on i : ℕ) → memberAt b on (suc i) ≡ sectionEnd patternWidth b (memberAt b on i)
+unfolding memberAt
+member-next b on i = refl
+
+pub member-first : (b : List ℕ) (on : ℕ) → memberAt b on 0 ≡ on + 1
+unfolding memberAt
+member-first b on = refl
+
+-- so later members stand further on
+pub member-later : (b : List ℕ) (on i k : ℕ) → memberAt b on i + k ≤ memberAt b on (i + k)
+member-later b on i zero = let e : i + 0 ≡ i = add-zero i in rw (e, add-zero (memberAt b on i)) (omega arith)
+member-later b on i (suc k) =
+    let h : memberAt b on i + k ≤ memberAt b on (i + k) = member-later b on i k in
+    let e : i + suc k ≡ suc (i + k) = omega arith in
+    rw (e, member-next b on (i + k)) (omega arith)
+
+-- and each ends where the set does or before
+pub member-ends : (b : List ℕ) (on i : ℕ) → i < field b on → sectionEnd patternWidth b (memberAt b on i) ≤ setEnd b on
+member-ends b on i h =
+    let k : ℕ = field b on - suc i in
+    let e : suc i + k ≡ field b on = omega arith in
+    let l : memberAt b on (suc i) + k ≤ memberAt b on (suc i + k) = member-later b on (suc i) k in
+    let m : memberAt b on (suc i + k) ≡ memberAt b on (field b on) = ap (memberAt b on) e in
+    let n : memberAt b on (suc i) ≡ sectionEnd patternWidth b (memberAt b on i) = member-next b on i in
+    omega arith
+
+pub set-starts : (b : List ℕ) (on : ℕ) → on + 1 ≤ setEnd b on
+set-starts b on =
+    let l : memberAt b on 0 + field b on ≤ memberAt b on (0 + field b on) = member-later b on 0 (field b on) in
+    let m : memberAt b on (0 + field b on) ≡ memberAt b on (field b on) = ap (memberAt b on) (zero-add (field b on)) in
+    let n : memberAt b on 0 ≡ on + 1 = member-first b on in
+    omega arith
+
+-- a set that ends within the bytes is whole, and the other way round
+pub set-whole : (b : List ℕ) (on : ℕ) → 2 * setEnd b on ≤ length b → WholeSet b on
+set-whole b on h =
+    record {
+      count = let s = set-starts b on in omega arith;
+      sections = λ i l. (let e : sectionEnd patternWidth b (memberAt b on i) ≤ setEnd b on = member-ends b on i l in record { count = omega arith; records = omega arith });
+    }
+
+pub whole-set-ends : (b : List ℕ) (on : ℕ) → WholeSet b on → 2 * setEnd b on ≤ length b
+whole-set-ends b on w = go (field b on) refl
+  where
+    go : (n : ℕ) → field b on ≡ n → 2 * memberAt b on n ≤ length b
+    go zero e = rw (member-first b on) (w .count)
+    go (suc n) e = rw (member-next b on n) (w .sections n (omega arith) .records)
+
 whole-facts : (b : List ℕ) → length b ≤ maxCaseBytes → length b ≡ 2 * caseEnd b → WholeCase b
 whole-facts b s e =
+    let starts = set-starts b (setAt b) in
     record {
       size = s;
       summary = record { count = omega arith; records = omega arith };
       first = record { count = omega arith; records = omega arith };
-      second = record { count = omega arith; records = omega arith };
+      members = set-whole b (setAt b) (omega arith);
       nothingAfter = omega arith;
     }
 
@@ -40,7 +90,7 @@ whole-case b = (
       (leb-true (length b) maxCaseBytes (and-left (leb (length b) maxCaseBytes) (eqb (length b) (2 * caseEnd b)) e))
       (eqb-true (length b) (2 * caseEnd b) (and-right (leb (length b) maxCaseBytes) (eqb (length b) (2 * caseEnd b)) e)),
   λ w. and-intro (le-leb (length b) maxCaseBytes (w .size))
-      (eq-eqb (length b) (2 * caseEnd b) (let r = w .second .records in let n = w .nothingAfter in omega arith)),
+      (eq-eqb (length b) (2 * caseEnd b) (let r = whole-set-ends b (setAt b) (w .members) in let n = w .nothingAfter in omega arith)),
 )
 
 -- ---- fields as bytes
@@ -158,7 +208,7 @@ summary-readable =
           λ i. record { parent = p i; label = l i; strong = s i };
     }
 
-pattern-readable : Readable patternRecordAt patternFields patternWidth
+pub pattern-readable : Readable patternRecordAt patternFields patternWidth
 pattern-readable =
     record {
       size = λ r. refl;
@@ -219,72 +269,115 @@ list-back ns h =
     let half : length (bytesOf ns) / 2 ≡ length ns = ap (λ (n : ℕ). n / 2) (length-bytes ns) ∙ mul-div-right (length ns) (lit< tt) in
     ap (λ (n : ℕ). map (field (bytesOf ns)) (upFrom 0 n)) half ∙ map-range (field (bytesOf ns)) 0 ns 0 (holds-bytes ns h)
 
--- a case: the bytes hold its three sections one after another
-module _ (c : Case) (h : FitFields (caseFields c)) where
+-- a set: the bytes hold its members' sections one after another
+module _ (b : List ℕ) where
+  members-back : (at : ℕ → ℕ) → ((i : ℕ) → at (suc i) ≡ sectionEnd patternWidth b (at i)) → (Qs : List Pattern) (k : ℕ) → Holds b (at k) (flatMap (sectionFields patternFields) Qs)
+      → (map (λ i. section patternRecordAt patternWidth b (at i)) (upFrom k (length Qs)) ≡ Qs) × (at (k + length Qs) ≡ at k + length (flatMap (sectionFields patternFields) Qs))
+  unfolding upFrom flatMap
+  members-back at next [] k h = (refl, ap at (add-zero k) ∙ sym (add-zero (at k)))
+  members-back at next (Q ∷ Qs) k h =
+      let own : List ℕ = sectionFields patternFields Q in
+      let rest : List ℕ = flatMap (sectionFields patternFields) Qs in
+      let here : Holds b (at k) own = holds-left b (at k) own rest h in
+      let end : at (suc k) ≡ at k + length own = next k ∙ section-end patternRecordAt patternFields patternWidth pattern-readable b (at k) Q here in
+      let ih = members-back at next Qs (suc k) (subst (λ (n : ℕ). Holds b n rest) (sym end) (holds-right b (at k) own rest h)) in
+      let e : k + suc (length Qs) ≡ suc k + length Qs = omega arith in
+      let l : length (own ++ rest) ≡ length own + length rest = length-append own rest in (
+        ap₂ (λ (y : Pattern) (ys : List Pattern). y ∷ ys) (section-back patternRecordAt patternFields patternWidth pattern-readable b noPatternRecord (at k) Q here) (ih .0),
+        ap at e ∙ ih .1 ∙ (ap (λ (n : ℕ). n + length rest) end ∙ (add-assoc (at k) (length own) (length rest) ∙ ap (λ (n : ℕ). at k + n) (sym l))),
+      )
+
+  module _ (on : ℕ) (Qs : List Pattern) (h : Holds b on (setFields Qs)) where
+    set-count : field b on ≡ length Qs
+    unfolding sectionFields
+    set-count = holds-head b on (length Qs) (flatMap (sectionFields patternFields) Qs) h
+
+    from-first : Holds b (memberAt b on 0) (flatMap (sectionFields patternFields) Qs)
+    unfolding sectionFields
+    from-first =
+        subst (λ (n : ℕ). Holds b n (flatMap (sectionFields patternFields) Qs)) (sym (member-first b on))
+        (holds-right b on (length Qs ∷ []) (flatMap (sectionFields patternFields) Qs) h)
+
+    pub set-back : setOf b on ≡ Qs
+    unfolding setOf
+    set-back =
+        ap (λ (n : ℕ). map (λ i. section patternRecordAt patternWidth b (memberAt b on i)) (upFrom 0 n)) set-count
+        ∙ members-back (memberAt b on) (member-next b on) Qs 0 from-first .0
+
+    pub set-end : setEnd b on ≡ on + length (setFields Qs)
+    unfolding sectionFields
+    set-end =
+        let e : memberAt b on (0 + length Qs) ≡ memberAt b on 0 + length (flatMap (sectionFields patternFields) Qs) =
+        members-back (memberAt b on) (member-next b on) Qs 0 from-first .1 in
+        let z : memberAt b on (0 + length Qs) ≡ memberAt b on (field b on) = ap (memberAt b on) (zero-add (length Qs) ∙ sym set-count) in
+        let s : memberAt b on 0 ≡ on + 1 = member-first b on in
+        omega arith
+
+-- a case: the bytes hold its two sections and its set one after another
+-- an outline, the first selection, and whatever fields follow them
+module _ (S : Summary) (P : Pattern) (rest : List ℕ) (h : FitFields (sectionFields summaryFields S ++ (sectionFields patternFields P ++ rest))) where
   abbrev summaryPart : List ℕ
-  summaryPart = sectionFields summaryFields (c .summary)
+  summaryPart = sectionFields summaryFields S
 
   abbrev firstPart : List ℕ
-  firstPart = sectionFields patternFields (c .first)
+  firstPart = sectionFields patternFields P
 
-  abbrev secondPart : List ℕ
-  secondPart = sectionFields patternFields (c .second)
+  abbrev written : List ℕ
+  written = bytesOf (summaryPart ++ (firstPart ++ rest))
 
-  holds-case : Holds (encodeCase c) 0 (summaryPart ++ (firstPart ++ secondPart))
-  unfolding encodeCase caseFields
-  holds-case = holds-bytes (summaryPart ++ (firstPart ++ secondPart)) h
+  holds-all : Holds written 0 (summaryPart ++ (firstPart ++ rest))
+  holds-all = holds-bytes (summaryPart ++ (firstPart ++ rest)) h
 
-  holds-summary : Holds (encodeCase c) 0 summaryPart
-  holds-summary = holds-left (encodeCase c) 0 summaryPart (firstPart ++ secondPart) holds-case
+  holds-summary : Holds written 0 summaryPart
+  holds-summary = holds-left written 0 summaryPart (firstPart ++ rest) holds-all
 
-  first-at : firstAt (encodeCase c) ≡ length summaryPart
-  first-at =
-      section-end summaryRecordAt summaryFields summaryWidth summary-readable (encodeCase c) 0 (c .summary) holds-summary ∙ zero-add (length summaryPart)
+  first-at : firstAt written ≡ length summaryPart
+  first-at = section-end summaryRecordAt summaryFields summaryWidth summary-readable written 0 S holds-summary ∙ zero-add (length summaryPart)
 
-  holds-patterns : Holds (encodeCase c) (firstAt (encodeCase c)) (firstPart ++ secondPart)
+  holds-patterns : Holds written (firstAt written) (firstPart ++ rest)
   holds-patterns =
-      subst (λ (at : ℕ). Holds (encodeCase c) at (firstPart ++ secondPart)) (zero-add (length summaryPart) ∙ sym first-at)
-      (holds-right (encodeCase c) 0 summaryPart (firstPart ++ secondPart) holds-case)
+      subst (λ (at : ℕ). Holds written at (firstPart ++ rest)) (zero-add (length summaryPart) ∙ sym first-at) (holds-right written 0 summaryPart (firstPart ++ rest) holds-all)
 
-  holds-first : Holds (encodeCase c) (firstAt (encodeCase c)) firstPart
-  holds-first = holds-left (encodeCase c) (firstAt (encodeCase c)) firstPart secondPart holds-patterns
+  holds-first : Holds written (firstAt written) firstPart
+  holds-first = holds-left written (firstAt written) firstPart rest holds-patterns
 
-  second-at : secondAt (encodeCase c) ≡ firstAt (encodeCase c) + length firstPart
-  second-at =
-      section-end patternRecordAt patternFields patternWidth pattern-readable (encodeCase c) (firstAt (encodeCase c)) (c .first) holds-first
+  rest-at : setAt written ≡ firstAt written + length firstPart
+  rest-at = section-end patternRecordAt patternFields patternWidth pattern-readable written (firstAt written) P holds-first
 
-  holds-second : Holds (encodeCase c) (secondAt (encodeCase c)) secondPart
-  holds-second =
-      subst (λ (at : ℕ). Holds (encodeCase c) at secondPart) (sym second-at)
-      (holds-right (encodeCase c) (firstAt (encodeCase c)) firstPart secondPart holds-patterns)
+  pub holds-rest : Holds written (setAt written) rest
+  holds-rest = subst (λ (at : ℕ). Holds written at rest) (sym rest-at) (holds-right written (firstAt written) firstPart rest holds-patterns)
 
-  case-end : caseEnd (encodeCase c) ≡ secondAt (encodeCase c) + length secondPart
-  case-end =
-      section-end patternRecordAt patternFields patternWidth pattern-readable (encodeCase c) (secondAt (encodeCase c)) (c .second) holds-second
+  pub summary-back : section summaryRecordAt summaryWidth written 0 ≡ S
+  summary-back = section-back summaryRecordAt summaryFields summaryWidth summary-readable written noSummaryRecord 0 S holds-summary
+
+  pub first-back : section patternRecordAt patternWidth written (firstAt written) ≡ P
+  first-back = section-back patternRecordAt patternFields patternWidth pattern-readable written noPatternRecord (firstAt written) P holds-first
+
+  pub written-length : (end : ℕ) → end ≡ setAt written + length rest → length written ≡ 2 * end
+  written-length end e =
+      length-bytes (summaryPart ++ (firstPart ++ rest))
+      ∙ ap (λ (n : ℕ). 2 * n) (length-append summaryPart (firstPart ++ rest) ∙ ap (λ (n : ℕ). length summaryPart + n) (length-append firstPart rest)
+      ∙ sym (e ∙ ap (λ (n : ℕ). n + length rest) (rest-at ∙ ap (λ (n : ℕ). n + length firstPart) first-at) ∙ add-assoc (length summaryPart) (length firstPart) (length rest)))
+
+module _ (c : Case) (h : FitFields (caseFields c)) where
+  abbrev setPart : List ℕ
+  setPart = setFields (c .members)
+
+  case-end : caseEnd (encodeCase c) ≡ setAt (encodeCase c) + length setPart
+  unfolding encodeCase caseFields
+  case-end = set-end (encodeCase c) (setAt (encodeCase c)) (c .members) (holds-rest (c .summary) (c .first) setPart h)
 
   pub case-back : caseOf (encodeCase c) ≡ c
-  unfolding caseOf
+  unfolding caseOf encodeCase caseFields
   case-back =
-      let s : section summaryRecordAt summaryWidth (encodeCase c) 0 ≡ c .summary =
-      section-back summaryRecordAt summaryFields summaryWidth summary-readable (encodeCase c) noSummaryRecord 0 (c .summary) holds-summary in
-      let f : section patternRecordAt patternWidth (encodeCase c) (firstAt (encodeCase c)) ≡ c .first =
-      section-back patternRecordAt patternFields patternWidth pattern-readable (encodeCase c) noPatternRecord (firstAt (encodeCase c)) (c .first) holds-first in
-      let g : section patternRecordAt patternWidth (encodeCase c) (secondAt (encodeCase c)) ≡ c .second =
-      section-back patternRecordAt patternFields patternWidth pattern-readable (encodeCase c) noPatternRecord (secondAt (encodeCase c)) (c .second) holds-second in
-      λ i. record { summary = s i; first = f i; second = g i }
-
-  length-case : length (encodeCase c) ≡ 2 * (length summaryPart + (length firstPart + length secondPart))
-  unfolding encodeCase caseFields
-  length-case =
-      length-bytes (summaryPart ++ (firstPart ++ secondPart))
-      ∙ ap (λ (n : ℕ). 2 * n)
-      (length-append summaryPart (firstPart ++ secondPart) ∙ ap (λ (n : ℕ). length summaryPart + n) (length-append firstPart secondPart))
+      let s : section summaryRecordAt summaryWidth (encodeCase c) 0 ≡ c .summary = summary-back (c .summary) (c .first) setPart h in
+      let f : section patternRecordAt patternWidth (encodeCase c) (firstAt (encodeCase c)) ≡ c .first = first-back (c .summary) (c .first) setPart h in
+      let g : setOf (encodeCase c) (setAt (encodeCase c)) ≡ c .members = set-back (encodeCase c) (setAt (encodeCase c)) (c .members) (holds-rest (c .summary) (c .first) setPart h) in
+      λ i. record { summary = s i; first = f i; members = g i }
 
   case-length : length (encodeCase c) ≡ 2 * caseEnd (encodeCase c)
-  case-length =
-      length-case
-      ∙ ap (λ (n : ℕ). 2 * n) (sym (case-end ∙ ap (λ (n : ℕ). n + length secondPart) (second-at ∙ ap (λ (n : ℕ). n + length firstPart) first-at)
-      ∙ add-assoc (length summaryPart) (length firstPart) (length secondPart)))
+  unfolding encodeCase caseFields
+  case-length = written-length (c .summary) (c .first) setPart h (caseEnd (encodeCase c)) case-end
 
   pub case-whole : length (encodeCase c) ≤ maxCaseBytes → isWholeCase (encodeCase c) ≡ true
   case-whole s = whole-case (encodeCase c) .1 (whole-facts (encodeCase c) s case-length)

@@ -51,15 +51,6 @@ list-facts k n r e =
       below = λ v m. ltb-true v n (all-elim (λ x. ltb x n) (listOf r) (and-right (isWholeList r && eqb (length (listOf r)) k) _ e) v m);
     }
 
--- 12: the selection
-pub pattern-given : (s : ℕ) → patternGiven s ≡ true → (s ≡ 1) ⊎ (s ≡ 2)
-unfolding patternGiven
-pattern-given s e = go (true-or-false (eqb s 1)) (between-facts 1 2 s e)
-  where
-    go : (eqb s 1 ≡ true) ⊎ (eqb s 1 ≡ false) → (1 ≤ s) × (s ≤ 2) → (s ≡ 1) ⊎ (s ≡ 2)
-    go (inl y) r = inl (eqb-true s 1 y)
-    go (inr n) r = inr (let f : s ≢ 1 = eqb-false s 1 n in omega arith)
-
 -- 13: the placement
 pub embedding-given : (c : Case) (s : ℕ) (l : List ℕ) → isSummaryEmbedding c s l ≡ true → List·Memᴰ (listOf l) (summaryEmbeddings (c .summary) (selected c s))
 unfolding isSummaryEmbedding
@@ -107,7 +98,7 @@ accepted-fits b w e =
 pub record ResultFacts (b : List ℕ) (s : ℕ) (w r : List ℕ) : Type 0 where
   pub case : AcceptedCase b
   pub document : DocumentFacts w
-  pub number : (s ≡ 1) ⊎ (s ≡ 2)
+  pub number : patternGiven (caseOf b) s ≡ true
   pub list : ListFacts (arity (selected (caseOf b) s)) (length (documentOf w)) r
 
 pub accepted-result : (b : List ℕ) (s : ℕ) (w r : List ℕ) → resultRefusal b s w r ≡ 0 → ResultFacts b s w r
@@ -115,12 +106,12 @@ unfolding resultRefusal
 accepted-result b s w r e =
     let k : ℕ = arity (selected (caseOf b) s) in
     let y =
-    asked b [] (ask 10 (documentKept w) ∷ ask 12 (patternGiven s) ∷ ask 11 (listInRange k (length (documentOf w)) r) ∷ [])
+    asked b [] (ask 10 (documentKept w) ∷ ask 12 (patternGiven (caseOf b) s) ∷ ask 11 (listInRange k (length (documentOf w)) r) ∷ [])
     tt (omega arith, (omega arith, (omega arith, tt))) e in
     record {
       case = y .1;
       document = document-facts w (y .2 .0);
-      number = pattern-given s (y .2 .1 .0);
+      number = y .2 .1 .0;
       list = list-facts k (length (documentOf w)) r (y .2 .1 .1 .0);
     }
 
@@ -128,7 +119,7 @@ pub record NodesFacts (b : List ℕ) (s : ℕ) (w : List ℕ) (p bufferBytes : �
   pub case : AcceptedCase b
   pub buffer : minBuffer ≤ bufferBytes
   pub document : DocumentFacts w
-  pub number : (s ≡ 1) ⊎ (s ≡ 2)
+  pub number : patternGiven (caseOf b) s ≡ true
   pub positionLow : 1 ≤ p
   pub positionHigh : p ≤ arity (selected (caseOf b) s)
 
@@ -139,30 +130,30 @@ accepted-nodes b s w p bufferBytes e =
     asked b (ask 2 (bufferLargeEnough bufferBytes) ∷ []) (ask 10 (documentKept w) ∷ ask 12 (positionGiven (caseOf b) s p) ∷ [])
     (omega arith, tt) (omega arith, (omega arith, tt)) e in
     let given : positionGiven (caseOf b) s p ≡ true = y .2 .1 .0 in
-    let range = between-facts 1 (arity (selected (caseOf b) s)) p (and-right (patternGiven s) _ given) in
+    let range = between-facts 1 (arity (selected (caseOf b) s)) p (and-right (patternGiven (caseOf b) s) _ given) in
     record {
       case = y .1;
       buffer = leb-true minBuffer bufferBytes (y .0 .0);
       document = document-facts w (y .2 .0);
-      number = pattern-given s (and-left _ _ given);
+      number = and-left _ _ given;
       positionLow = range .0;
       positionHigh = range .1;
     }
 
 pub record PathsFacts (b : List ℕ) (s : ℕ) : Type 0 where
   pub case : AcceptedCase b
-  pub number : (s ≡ 1) ⊎ (s ≡ 2)
+  pub number : patternGiven (caseOf b) s ≡ true
 
 pub accepted-paths : (b : List ℕ) (s : ℕ) → pathsRefusal b s ≡ 0 → PathsFacts b s
 unfolding pathsRefusal
 accepted-paths b s e =
-    let y = asked b [] (ask 12 (patternGiven s) ∷ []) tt (omega arith, tt) e in
-    record { case = y .1; number = pattern-given s (y .2 .0) }
+    let y = asked b [] (ask 12 (patternGiven (caseOf b) s) ∷ []) tt (omega arith, tt) e in
+    record { case = y .1; number = y .2 .0 }
 
 pub record LayoutFacts (b : List ℕ) (s : ℕ) (l : List ℕ) (tableRecords : ℕ) : Type 0 where
   pub case : AcceptedCase b
   pub table : minTable ≤ tableRecords
-  pub number : (s ≡ 1) ⊎ (s ≡ 2)
+  pub number : patternGiven (caseOf b) s ≡ true
   pub wholeList : isWholeList l ≡ true
   pub embedding : List·Memᴰ (listOf l) (summaryEmbeddings (caseOf b .summary) (selected (caseOf b) s))
 
@@ -170,12 +161,12 @@ pub accepted-layout : (b : List ℕ) (s : ℕ) (l : List ℕ) (tableRecords : �
 unfolding layoutRefusal tableLargeEnough isSummaryEmbedding
 accepted-layout b s l tableRecords e =
     let y =
-    asked b (ask 2 (tableLargeEnough tableRecords) ∷ []) (ask 12 (patternGiven s) ∷ ask 13 (isSummaryEmbedding (caseOf b) s l) ∷ [])
+    asked b (ask 2 (tableLargeEnough tableRecords) ∷ []) (ask 12 (patternGiven (caseOf b) s) ∷ ask 13 (isSummaryEmbedding (caseOf b) s l) ∷ [])
     (omega arith, tt) (omega arith, (omega arith, tt)) e in
     record {
       case = y .1;
       table = leb-true minTable tableRecords (y .0 .0);
-      number = pattern-given s (y .2 .0);
+      number = y .2 .0;
       wholeList = and-left _ _ (y .2 .1 .0);
       embedding = embedding-given (caseOf b) s l (y .2 .1 .0);
     }

@@ -128,7 +128,7 @@ module _ (b : List ℕ) (s : ℕ) (l : List ℕ) (table : List LaidRecord) where
 -- the verdict's answer buffer, where what is shown fits 4,096 bytes
 pub verdict-length : (b : List ℕ) (L tally : ℕ) (buffer : List ℕ)
     → (verdictRefusal b L tally (length buffer) ≡ 0
-    → length (shown (caseOf b .summary) (caseOf b .first) (verdict (caseOf b .summary) (caseOf b .first) (caseOf b .second) L)) ≤ minBuffer)
+    → length (shown (caseOf b .summary) (caseOf b .first) (verdict (caseOf b .summary) (caseOf b .first) (caseOf b .members) L)) ≤ minBuffer)
     → length (verdictCall b L tally buffer .buffer) ≡ length buffer
 unfolding verdictAccepted
 verdict-length b L tally buffer fit =
@@ -137,7 +137,7 @@ verdict-length b L tally buffer fit =
     let large : minBuffer ≤ length buffer = accepted-verdict b L tally (length buffer) e .buffer in
     let small = fit e in
     ap (λ (o : VerdictOutcome). length (o .buffer)) (verdict-accepted b L tally buffer e)
-    ∙ front-length (shown (caseOf b .summary) (caseOf b .first) (verdict (caseOf b .summary) (caseOf b .first) (caseOf b .second) L)) buffer (omega arith))
+    ∙ front-length (shown (caseOf b .summary) (caseOf b .first) (verdict (caseOf b .summary) (caseOf b .first) (caseOf b .members) L)) buffer (omega arith))
     (λ f. ap (λ (o : VerdictOutcome). length (o .buffer)) (verdict-refused b L tally buffer f))
 
 pub length-counted : (ns : List ℕ) → length (encodeCounted ns) ≡ 2 * suc (length ns)

@@ -1,25 +1,25 @@
 -- What questions 3 to 8 establish of a case. A position beyond k is shut out by counting: k nodes hold one, and 1 to k take one node
 -- each. Assumes nothing.
-use Prim.Native.Nat.{ℕ, _+_, _≤_, _<_}
+use Prim.Native.Nat.{ℕ, _+_, _-_, _≤_, _<_}
 use mathlib.Core.Path.{_≡_, refl, sym, ap, _∙_}
 use mathlib.Core.Bool.{Bool, true, false, _&&_, _||_, not}
-use mathlib.Core.Logic.{_⊎_, inl, inr}
-use mathlib.Core.List.{List, _++_}
+use mathlib.Core.Logic.{_⊎_, inl, inr, _≢_}
+use mathlib.Core.List.{List, [], _++_, List·Memᴰ}
 use native.Mathlib.Omega.{arith}
 use native.Mathlib.Nat.{le-refl}
 use lib.Dec.{eqb, leb, ltb}
 use lib.ListN.{length, getD, List·getD-map}
-use borrow.Author.Tests.{eqb-true, leb-true, ltb-true, ltb-false, eq-eqb, lt-ltb, not-true}
+use borrow.Author.Tests.{eqb-true, eqb-false, leb-true, ltb-true, ltb-false, eq-eqb, lt-ltb, not-true}
 use Rattle.model.specs.Lists.{upFrom, allOf, countOf}
-use Rattle.model.specs.Limits.{maxSummary, maxPattern, maxPosition}
+use Rattle.model.specs.Limits.{maxSummary, maxPattern, maxMembers, maxPosition}
 use Rattle.model.specs.Tree.{DocumentRecord, IsTree, Child}
 use Rattle.model.specs.Summary.{Summary, noSummaryRecord, withoutStrong, asDocument, summaryParent, summaryLabel}
 use Rattle.model.specs.Pattern.{PatternRecord, Pattern, noPatternRecord, IsPatternTree, patternParent, position, arity, nodeAt}
 use Rattle.model.specs.Fitting.{parentRule}
 use Rattle.model.specs.Bytes.{Case, caseOf}
-use Rattle.model.specs.Questions.{between, caseWhole, countsInRange, summaryRecordKept, summaryKept, alike, siblingsDiffer, patternRecordKept, patternKept, patternsKept, positionsOnce, positionsKept, selected, Question, refusal, caseQuestions}
-use Rattle.model.specs.Facts.{SummaryFacts, PatternFacts, CaseFacts, AcceptedCase}
-use Rattle.model.proofs.ListLaws.{by-bool, and-intro, and-left, and-right, not-both, true-or-false, all-elim, all-below, mem-upFrom, upFrom-mem, first-hit}
+use Rattle.model.specs.Questions.{between, caseWhole, countInRange, countsInRange, setInRange, summaryRecordKept, summaryKept, alike, siblingsDiffer, patternRecordKept, patternKept, patternsKept, positionsOnce, positionsKept, patternGiven, selected, Question, refusal, caseQuestions}
+use Rattle.model.specs.Facts.{SummaryFacts, PatternFacts, MemberFacts, CaseFacts, AcceptedCase}
+use Rattle.model.proofs.ListLaws.{mem-at, and-intro, and-left, and-right, not-both, true-or-false, all-elim, all-below, mem-upFrom, upFrom-mem, first-hit}
 use Rattle.model.proofs.TreeLaws.{length-asDocument}
 use Rattle.model.proofs.Fitting.{rooted}
 use Rattle.model.proofs.Bytes.{whole-case}
@@ -143,37 +143,46 @@ module _ (P : Pattern) where
 pub between-facts : (low high n : ℕ) → between low high n ≡ true → (low ≤ n) × (n ≤ high)
 between-facts low high n e = (leb-true low n (and-left _ _ e), leb-true n high (and-right (leb low n) _ e))
 
-kept-facts : (c : Case) → countsInRange c ≡ true → summaryKept (c .summary) ≡ true → siblingsDiffer (c .summary) ≡ true → patternsKept c ≡ true → positionsKept c ≡ true → CaseFacts c
-unfolding countsInRange patternsKept positionsKept
-kept-facts c counts kept differ patterns positions =
+member-facts : (c : Case) → allOf countInRange (c .members) ≡ true → allOf patternKept (c .members) ≡ true
+    → allOf (λ Q. positionsOnce Q && eqb (arity (c .first)) (arity Q)) (c .members) ≡ true → (Q : Pattern) → List·Memᴰ Q (c .members) → MemberFacts (c .first) Q
+member-facts c counts patterns positions Q m =
+    let n = between-facts 1 maxPattern (length Q) (all-elim countInRange (c .members) counts Q m) in
+    let p : (positionsOnce Q && eqb (arity (c .first)) (arity Q)) ≡ true = all-elim (λ R. positionsOnce R && eqb (arity (c .first)) (arity R)) (c .members) positions Q m in
+    record {
+      pattern = pattern-facts Q (n .0) (all-elim patternKept (c .members) patterns Q m) (and-left _ _ p);
+      sameArity = eqb-true (arity (c .first)) (arity Q) (and-right (positionsOnce Q) _ p);
+      size = n .1;
+    }
+
+kept-facts : (c : Case) → countsInRange c ≡ true → setInRange c ≡ true → summaryKept (c .summary) ≡ true → siblingsDiffer (c .summary) ≡ true → patternsKept c ≡ true → positionsKept c ≡ true → CaseFacts c
+unfolding countsInRange setInRange patternsKept positionsKept
+kept-facts c counts few kept differ patterns positions =
     let s = between-facts 1 maxSummary (length (c .summary)) (and-left _ _ (and-left _ _ counts)) in
     let f = between-facts 1 maxPattern (length (c .first)) (and-right (between 1 maxSummary (length (c .summary))) _ (and-left _ _ counts)) in
-    let g =
-    between-facts 1 maxPattern (length (c .second))
-    (and-right (between 1 maxSummary (length (c .summary)) && between 1 maxPattern (length (c .first))) _ counts) in
+    let m = between-facts 1 maxMembers (length (c .members)) few in
     let keptFirst : patternKept (c .first) ≡ true = and-left _ _ patterns in
-    let keptSecond : patternKept (c .second) ≡ true = and-right (patternKept (c .first)) _ patterns in
-    let onceFirst : positionsOnce (c .first) ≡ true = and-left _ _ (and-left _ _ positions) in
-    let onceSecond : positionsOnce (c .second) ≡ true = and-right (positionsOnce (c .first)) _ (and-left _ _ positions) in
+    let onceFirst : positionsOnce (c .first) ≡ true = and-left _ _ positions in
     record {
       summary = summary-facts (c .summary) (s .0) kept differ;
       first = pattern-facts (c .first) (f .0) keptFirst onceFirst;
-      second = pattern-facts (c .second) (g .0) keptSecond onceSecond;
-      sameArity = eqb-true (arity (c .first)) (arity (c .second)) (and-right (positionsOnce (c .first) && positionsOnce (c .second)) _ positions);
+      members =
+          member-facts c (and-right (between 1 maxSummary (length (c .summary)) && countInRange (c .first)) _ counts)
+          (and-right (patternKept (c .first)) _ patterns) (and-right (positionsOnce (c .first)) _ positions);
+      someMembers = m .0;
+      fewMembers = m .1;
       someArity = some-positions (c .first) onceFirst;
       arityBound = arity-bound (c .first) keptFirst onceFirst;
       summarySize = s .1;
       firstSize = f .1;
-      secondSize = g .1;
     }
 
 all-yes-case : (b : List ℕ) → AllYes (caseQuestions b) → CaseFacts (caseOf b)
 unfolding caseQuestions
-all-yes-case b y = kept-facts (caseOf b) (y .1 .0) (y .1 .1 .0) (y .1 .1 .1 .0) (y .1 .1 .1 .1 .0) (y .1 .1 .1 .1 .1 .0)
+all-yes-case b y = kept-facts (caseOf b) (y .1 .0) (y .1 .1 .0) (y .1 .1 .1 .0) (y .1 .1 .1 .1 .0) (y .1 .1 .1 .1 .1 .0) (y .1 .1 .1 .1 .1 .1 .0)
 
 numbered-case : (b : List ℕ) → Numbered (caseQuestions b)
 unfolding caseQuestions
-numbered-case b = (omega arith, (omega arith, (omega arith, (omega arith, (omega arith, (omega arith, tt))))))
+numbered-case b = (omega arith, (omega arith, (omega arith, (omega arith, (omega arith, (omega arith, (omega arith, tt)))))))
 
 -- a case that questions 3 to 8 accept has the facts of an accepted case
 pub accepted-case : (b : List ℕ) → refusal (caseQuestions b) ≡ 0 → CaseFacts (caseOf b)
@@ -208,8 +217,13 @@ label-some S kept s h =
 
 pub labels-some : (b : List ℕ) → AllYes (caseQuestions b) → (s : ℕ) → s < length (caseOf b .summary) → 0 < summaryLabel (caseOf b .summary) s
 unfolding caseQuestions
-labels-some b y = label-some (caseOf b .summary) (y .1 .1 .0)
+labels-some b y = label-some (caseOf b .summary) (y .1 .1 .1 .0)
 
--- a selection of an accepted case keeps the rules, whichever it is
-pub selected-facts : (c : Case) (s : ℕ) → CaseFacts c → PatternFacts (selected c s)
-selected-facts c s f = by-bool (λ (t : Bool). PatternFacts (elim t as (λ _. Pattern) [ true ↦ c .first | false ↦ c .second ])) (eqb s 1) (f .first) (f .second)
+-- a selection of an accepted case keeps the rules and is as large as it may be, whichever it is
+pub selected-facts : (c : Case) (s : ℕ) → CaseFacts c → patternGiven c s ≡ true → MemberFacts (c .first) (selected c s)
+unfolding patternGiven
+selected-facts c s f e = go (eqb s 1) refl (between-facts 1 (length (c .members) + 1) s e)
+  where
+    go : (t : Bool) → eqb s 1 ≡ t → (1 ≤ s) × (s ≤ length (c .members) + 1) → MemberFacts (c .first) (elim t as (λ _. Pattern) [ true ↦ c .first | false ↦ getD (c .members) (s - 2) [] ])
+    go true k r = record { pattern = f .first; sameArity = refl; size = f .firstSize }
+    go false k r = let n : s ≢ 1 = eqb-false s 1 k in f .members (getD (c .members) (s - 2) []) (mem-at (c .members) (s - 2) [] (omega arith))

@@ -4,10 +4,10 @@ use Rattle.model.specs.Lists.{upFrom, keep, anyOf, allOf, countOf, first
 use Rattle.model.specs.Pattern.{labelFits}
 use Rattle.model.specs.Embeddings.{childTest, climbs, belowTest, edgeTest, reaches, candidate, extend, embeddings, isResult, isPath, pathMask, pathCount}
 use Rattle.model.specs.Fitting.{parentRule, strongChildren}
-use Rattle.model.specs.Canonical.{chainIn, chain, appendChain, layNode, layNodes, chains, hasChildOn, addMissing, addAll, fillNode, fillFrom, canonicalSpots, canonical, ownNodes, ownResult, passes}
+use Rattle.model.specs.Canonical.{chainIn, chain, appendChain, layNode, layNodes, chains, hasChildOn, addMissing, addAll, fillNode, fillFrom, canonicalSpots, canonical, ownNodes, ownResult, passes, covered}
 use Rattle.model.specs.Verdict.{step, run, conclude, judge, verdict, triedOf}
-use Rattle.model.specs.Bytes.{field, fieldBytes, bytesOf, recordsAt, section, caseOf, isWholeCase, sectionFields, caseFields, encodeCase, encodeDocument, encodeCounted, writtenAtFront}
-use Rattle.model.specs.Questions.{limitInRange, bufferLargeEnough, caseWhole, countsInRange, summaryRecordKept, summaryKept, alike, siblingsDiffer, patternRecordKept, patternKept, patternsKept, positionsOnce, positionsKept, tallyInRange, patternGiven, refusal, caseQuestions, verdictRefusal, pathsRefusal}
+use Rattle.model.specs.Bytes.{field, fieldBytes, bytesOf, recordsAt, section, memberAt, setOf, caseOf, isWholeCase, sectionFields, caseFields, encodeCase, encodeDocument, encodeCounted, writtenAtFront}
+use Rattle.model.specs.Questions.{limitInRange, bufferLargeEnough, caseWhole, countsInRange, setInRange, summaryRecordKept, summaryKept, alike, siblingsDiffer, patternRecordKept, patternKept, patternsKept, positionsOnce, positionsKept, tallyInRange, patternGiven, refusal, caseQuestions, verdictRefusal, pathsRefusal}
 use Rattle.model.specs.Calls.{kindOf, shown, verdictAccepted, verdictRefused, verdictCall, pathsAccepted, pathsRefused, pathsCall}
 use Rattle.model.specs.Text.{decimalIn, decimal, number, numbers, line, nodeLine, nodeLines, answerLine, firstLines, shownText, verdictText, printed}
 
@@ -24,11 +24,11 @@ unfolding embedding strongChildren chainIn chain appendChain layNode layNodes ch
 layout = tt
 
 unfoldable pub judging : Unit {0}
-unfolding layout ownNodes ownResult passes step run conclude judge verdict triedOf
+unfolding layout ownNodes ownResult passes covered step run conclude judge verdict triedOf
 judging = tt
 
 unfoldable pub bytes : Unit {0}
-unfolding field fieldBytes bytesOf recordsAt section caseOf isWholeCase sectionFields caseFields encodeCase encodeDocument encodeCounted writtenAtFront
+unfolding field fieldBytes bytesOf recordsAt section memberAt setOf caseOf isWholeCase sectionFields caseFields encodeCase encodeDocument encodeCounted writtenAtFront
 bytes = tt
 
 unfoldable pub rules : Unit {0}
@@ -36,7 +36,7 @@ unfolding parentRule summaryRecordKept summaryKept alike siblingsDiffer patternR
 rules = tt
 
 unfoldable pub questions : Unit {0}
-unfolding bytes rules limitInRange bufferLargeEnough caseWhole countsInRange tallyInRange patternGiven refusal caseQuestions verdictRefusal pathsRefusal
+unfolding bytes rules limitInRange bufferLargeEnough caseWhole countsInRange setInRange tallyInRange patternGiven refusal caseQuestions verdictRefusal pathsRefusal
 questions = tt
 
 unfoldable pub calls : Unit {0}

@@ -25,10 +25,6 @@ use Rattle.model.proofs.CanonicalHom.{pathsOf, paths-placed, laid-hom, 
 pub record KeptByHoms (Passes : Document → List ℕ → Type 0) : Type 0 where
   pub keeps : (W D : Document) (h : ℕ → ℕ) (r : List ℕ) → IsTree W → Hom W D h → Passes W r → Passes D (map h r)
 
-pub result-kept : (Q : Pattern) → KeptByHoms (Result Q)
-result-kept Q = record { keeps = λ W D h r t m p. hom-result p m }
-
--- what #101 asks of a set of second selections is kept too
 pub some-result-kept : (Qs : List Pattern) → KeptByHoms (ResultOfSome Qs)
 some-result-kept Qs = record { keeps = λ W D h r t m p. record { pattern = p .pattern; among = p .among; result = hom-result (p .result) m } }
 
@@ -76,10 +72,6 @@ module _ {S : Summary} {P : Pattern} (f : SummaryFacts S) (g : PatternFacts P) w
           let b = result-carried W r w k in
           subst (Passes W) (b .2) (kept .keeps (canonical S P es) W (b .0) (ownResult S P es) (canonical-fits es l m .tree) (b .1) (c es l m))
 
-  -- in one second pattern
-  pub contained-in-one : (Q : Pattern) → Contained S P Q ↔ CanonicalsPass S P (Result Q)
-  contained-in-one Q = contained-canonicals (Result Q) (result-kept Q)
-
-  -- in several together, as #101 asks
-  pub contained-in-some : (Qs : List Pattern) → ContainedIn S P (ResultOfSome Qs) ↔ CanonicalsPass S P (ResultOfSome Qs)
+  -- in a set
+  pub contained-in-some : (Qs : List Pattern) → Contained S P Qs ↔ CanonicalsPass S P (ResultOfSome Qs)
   contained-in-some Qs = contained-canonicals (ResultOfSome Qs) (some-result-kept Qs)

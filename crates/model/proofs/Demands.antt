@@ -8,23 +8,22 @@ use mathlib.Core.List.{List, [], _++_, map, List·Memᴰ, List·Memᴰ·head, Me
 use native.Mathlib.Omega.{arith}
 use native.Mathlib.Nat.{zero-add}
 use lib.Count.{ones}
-use lib.Dec.{eqb}
 use lib.ListN.{length, getD, take, length-append, length-map}
 use Rattle.model.specs.Lists.{upFrom}
 use Rattle.model.specs.Limits.{maxPattern, maxPosition, maxCanonical, minBuffer}
 use Rattle.model.specs.Tree.{Document, labelOf}
 use Rattle.model.specs.Summary.{Summary}
-use Rattle.model.specs.Pattern.{PatternRecord, Pattern, arity, returnNodes, SummaryEmbedding, Contained, CounterExample}
+use Rattle.model.specs.Pattern.{Pattern, arity, returnNodes, SummaryEmbedding, Contained, CounterExample}
 use Rattle.model.specs.Embeddings.{imageIn, summaryEmbeddings, isResult, nodesAt, pathMask, pathCount}
 use Rattle.model.specs.Fitting.{fits}
-use Rattle.model.specs.Canonical.{canonical, canonicalSpots, ownNodes, ownResult, passes, spotRecord}
+use Rattle.model.specs.Canonical.{canonical, canonicalSpots, ownNodes, ownResult, covered, spotRecord}
 use Rattle.model.specs.Verdict.{Verdict, included, notIncluded, stopped, verdict, triedOf}
 use Rattle.model.specs.Bytes.{Case, caseOf, documentOf, listOf, documentFields, sectionFields, encodeDocument, encodeCounted, writtenAtFront}
 use Rattle.model.specs.Questions.{selected, caseQuestions, verdictRefusal, fitsRefusal, resultRefusal, nodesRefusal, pathsRefusal, layoutRefusal}
 use Rattle.model.specs.Calls.{kindIncluded, kindNotIncluded, kindStopped, kindOf, shown, VerdictOutcome, verdictAccepted, verdictCall, TestAnswer, fitsCall, resultCall, NodesOutcome, nodesAccepted, nodesCall, PathsAnswer, pathsAccepted, pathsCall, LaidRecord, laidRecord, LayoutOutcome, layoutAccepted, layoutCall}
-use Rattle.model.specs.Facts.{SummaryFacts, PatternFacts, CaseFacts}
+use Rattle.model.specs.Facts.{SummaryFacts, PatternFacts, MemberFacts, CaseFacts}
 use Rattle.model.specs.Demands.{TestTold, FitsTold, ResultTold, NodesTold, PathsTold, LayoutTold, SomeCounterExample, AllEmbeddingsPass, SomeEmbeddingFails, Shown, ReadsBack, Demand3, FitsAnswered, ResultAnswered, NodesAnswered, PathsAnswered, LayoutAnswered, VerdictAnswered}
-use Rattle.model.proofs.ListLaws.{by-bool, length-map-upFrom, getD-map-upFrom}
+use Rattle.model.proofs.ListLaws.{length-map-upFrom, getD-map-upFrom}
 use Rattle.model.proofs.ReturnNodes.{length-returnNodes}
 use Rattle.model.proofs.Results.{result-exact, nodes-at-exact, nodes-at-ascending, path-mask-exact, path-mask-beyond, path-count-ones}
 use Rattle.model.proofs.Fitting.{fits-exact}
@@ -54,7 +53,7 @@ fits-told b w e =
 pub result-told : (b : List ℕ) (s : ℕ) (w r : List ℕ) → resultRefusal b s w r ≡ 0 → ResultTold (selected (caseOf b) s) (documentOf w) (listOf r) (resultCall b s w r)
 result-told b s w r e =
     let f = accepted-result b s w r e in
-    told (isResult (selected (caseOf b) s) (documentOf w) (listOf r)) (result-exact (listOf r) (selected-facts (caseOf b) s (f .case .facts)) (f .document .tree)) (result-accepted b s w r e)
+    told (isResult (selected (caseOf b) s) (documentOf w) (listOf r)) (result-exact (listOf r) (selected-facts (caseOf b) s (f .case .facts) (f .number) .pattern) (f .document .tree)) (result-accepted b s w r e)
 
 pub nodes-told : (b : List ℕ) (s : ℕ) (w : List ℕ) (p : ℕ) (buffer : List ℕ) → nodesRefusal b s w p (length buffer) ≡ 0
     → NodesTold (selected (caseOf b) s) (documentOf w) p buffer (nodesCall b s w p buffer)
@@ -66,7 +65,7 @@ nodes-told b s w p buffer e =
     record {
       accepted = ap (λ (o : NodesOutcome). o .answer .refused) q;
       nodes = nodesAt P (documentOf w) p;
-      exact = λ v. nodes-at-exact p v (selected-facts (caseOf b) s (f .case .facts)) (f .document .tree) (f .positionLow) (f .positionHigh);
+      exact = λ v. nodes-at-exact p v (selected-facts (caseOf b) s (f .case .facts) (f .number) .pattern) (f .document .tree) (f .positionLow) (f .positionHigh);
       ascending = nodes-at-ascending P (documentOf w) p;
       count = ap (λ (o : NodesOutcome). o .answer .count) q;
       written = ap (λ (o : NodesOutcome). o .buffer) q;
@@ -90,11 +89,7 @@ pub paths-told : (b : List ℕ) (s : ℕ) → pathsRefusal b s ≡ 0 → PathsTo
 paths-told b s e =
     let f = accepted-paths b s e in
     subst (PathsTold (caseOf b .summary) (selected (caseOf b) s)) (sym (paths-accepted b s e))
-    (paths-accepted-told (f .case .facts .summary) (selected-facts (caseOf b) s (f .case .facts)))
-
--- either selection has at most 16 nodes
-selected-size : (c : Case) (s : ℕ) → CaseFacts c → length (selected c s) ≤ maxPattern
-selected-size c s f = by-bool (λ t. length {A = PatternRecord} (elim t as (λ _. Pattern) [ true ↦ c .first | false ↦ c .second ]) ≤ maxPattern) (eqb s 1) (f .firstSize) (f .secondSize)
+    (paths-accepted-told (f .case .facts .summary) (selected-facts (caseOf b) s (f .case .facts) (f .number) .pattern))
 
 pub layout-told : (b : List ℕ) (s : ℕ) (l : List ℕ) (table : List LaidRecord) → layoutRefusal b s l (length table) ≡ 0
     → LayoutTold (caseOf b .summary) (selected (caseOf b) s) (listOf l) table (layoutCall b s l table)
@@ -104,12 +99,13 @@ layout-told b s l table e =
     let S : Summary = caseOf b .summary in
     let P : Pattern = selected (caseOf b) s in
     let es : List ℕ = listOf l in
-    let g : PatternFacts P = selected-facts (caseOf b) s (f .case .facts) in
+    let m : MemberFacts (caseOf b .first) P = selected-facts (caseOf b) s (f .case .facts) (f .number) in
+    let g : PatternFacts P = m .pattern in
     let q : layoutCall b s l table ≡ layoutAccepted S P es table = layout-accepted b s l table e in
     let n : layoutCall b s l table .answer .count ≡ length (canonical S P es) =
     ap (λ (o : LayoutOutcome). o .answer .count) q
     ∙ (length-map (canonicalSpots S P es) (laidRecord S) ∙ sym (length-map (canonicalSpots S P es) (spotRecord S))) in
-    let k : length (canonical S P es) ≤ maxCanonical = listed-small (f .case .facts .summary) g (f .embedding) (f .case .facts .summarySize) (selected-size (caseOf b) s (f .case .facts)) in
+    let k : length (canonical S P es) ≤ maxCanonical = listed-small (f .case .facts .summary) g (f .embedding) (f .case .facts .summarySize) (m .size) in
     record {
       accepted = ap (λ (o : LayoutOutcome). o .answer .refused) q;
       fitting = listed-fits (f .case .facts .summary) g (f .embedding);
@@ -158,51 +154,51 @@ module _ (c : Case) (f : CaseFacts c) (L : ℕ) where
   abbrev P : Pattern
   P = c .first
 
-  abbrev Q : Pattern
-  Q = c .second
+  abbrev Qs : List Pattern
+  Qs = c .members
 
   abbrev listed : List (List ℕ)
   listed = summaryEmbeddings S P
 
   -- at most L placements
-  pub few-counter : length listed ≤ L → IsNotIncluded (verdict S P Q L) ↔ SomeCounterExample S P Q
+  pub few-counter : length listed ≤ L → IsNotIncluded (verdict S P Qs L) ↔ SomeCounterExample S P Qs
   few-counter h =
-      rw (verdict-judge S P Q L)
-      (Iff·trans (few-not-included (passes S P Q) L listed h) (Iff·symm (counter-exact (f .summary) (f .first) (f .second))))
+      rw (verdict-judge S P Qs L)
+      (Iff·trans (few-not-included (covered S P Qs) L listed h) (Iff·symm (counter-exact (f .summary) (f .first) (f .members))))
 
-  pub few-contained : length listed ≤ L → IsIncluded (verdict S P Q L) ↔ Contained S P Q
+  pub few-contained : length listed ≤ L → IsIncluded (verdict S P Qs L) ↔ Contained S P Qs
   few-contained h =
-      rw (verdict-judge S P Q L)
-      (Iff·trans (few-included (passes S P Q) L listed h) (Iff·symm (contained-exact (f .summary) (f .first) (f .second))))
+      rw (verdict-judge S P Qs L)
+      (Iff·trans (few-included (covered S P Qs) L listed h) (Iff·symm (contained-exact (f .summary) (f .first) (f .members))))
 
   -- more than L
-  pub more-stops : L < length listed → IsStopped (verdict S P Q L) ↔ AllEmbeddingsPass S P Q (take L listed)
-  more-stops h = rw (verdict-judge S P Q L) (more-stopped (passes S P Q) L listed h)
+  pub more-stops : L < length listed → IsStopped (verdict S P Qs L) ↔ AllEmbeddingsPass S P Qs (take L listed)
+  more-stops h = rw (verdict-judge S P Qs L) (more-stopped (covered S P Qs) L listed h)
 
-  pub more-fails : IsNotIncluded (verdict S P Q L) ↔ SomeEmbeddingFails S P Q (take L listed)
-  more-fails = rw (verdict-judge S P Q L) (not-included-iff (passes S P Q) L listed)
+  pub more-fails : IsNotIncluded (verdict S P Qs L) ↔ SomeEmbeddingFails S P Qs (take L listed)
+  more-fails = rw (verdict-judge S P Qs L) (not-included-iff (covered S P Qs) L listed)
 
-  pub more-never : L < length listed → IsIncluded (verdict S P Q L) → ⊥
-  more-never h k = more-never-included (passes S P Q) L listed h (rw (← (verdict-judge S P Q L)) k)
+  pub more-never : L < length listed → IsIncluded (verdict S P Qs L) → ⊥
+  more-never h k = more-never-included (covered S P Qs) L listed h (rw (← (verdict-judge S P Qs L)) k)
 
-  pub stops-more : IsStopped (verdict S P Q L) → L < length listed
-  stops-more k = stopped-iff (passes S P Q) L listed .0 (rw (← (verdict-judge S P Q L)) k) .more
+  pub stops-more : IsStopped (verdict S P Qs L) → L < length listed
+  stops-more k = stopped-iff (covered S P Qs) L listed .0 (rw (← (verdict-judge S P Qs L)) k) .more
 
   -- the trial that "not included" shows is a counter-example of at most 1,009 nodes
-  shows : (n : ℕ) (es : List ℕ) → verdict S P Q L ≡ notIncluded n es → CounterExample S P Q (canonical S P es) (ownResult S P es) × (length (canonical S P es) ≤ maxCanonical)
+  shows : (n : ℕ) (es : List ℕ) → verdict S P Qs L ≡ notIncluded n es → CounterExample S P Qs (canonical S P es) (ownResult S P es) × (length (canonical S P es) ≤ maxCanonical)
   shows n es e =
-      let k = verdict-shown S P Q L n es e in
-      (failing-canonical (f .summary) (f .first) (f .second) (k .0) (k .1), listed-small (f .summary) (f .first) (k .0) (f .summarySize) (f .firstSize))
+      let k = verdict-shown S P Qs L n es e in
+      (failing-canonical (f .summary) (f .first) (f .members) (k .0) (k .1), listed-small (f .summary) (f .first) (k .0) (f .summarySize) (f .firstSize))
 
   -- it is the earliest that does not pass, and tried is its rank from 1
-  accepted-shows : (tally : ℕ) (buffer : List ℕ) → kindOf (verdict S P Q L) ≡ kindNotIncluded → Shown S P Q L (triedOf (verdict S P Q L)) buffer (verdictAccepted c L tally buffer .buffer)
+  accepted-shows : (tally : ℕ) (buffer : List ℕ) → kindOf (verdict S P Qs L) ≡ kindNotIncluded → Shown S P Qs L (triedOf (verdict S P Qs L)) buffer (verdictAccepted c L tally buffer .buffer)
   unfolding verdictAccepted triedOf
   accepted-shows tally buffer e =
-      let k = kind-not-included (verdict S P Q L) .0 e in
+      let k = kind-not-included (verdict S P Qs L) .0 e in
       let es : List ℕ = k .1 in
       let s = shows (k .0) es (k .2) in
-      let d = judge-not-included (passes S P Q) L listed (k .0) es (sym (verdict-judge S P Q L) ∙ k .2) in
-      let n : triedOf (verdict S P Q L) ≡ suc (length (d .0 .before)) = ap triedOf (k .2) ∙ d .1 in
+      let d = judge-not-included (covered S P Qs) L listed (k .0) es (sym (verdict-judge S P Qs L) ∙ k .2) in
+      let n : triedOf (verdict S P Qs L) ≡ suc (length (d .0 .before)) = ap triedOf (k .2) ∙ d .1 in
       record {
         earlier = d .0 .before;
         placement = es;
@@ -222,20 +218,20 @@ module _ (c : Case) (f : CaseFacts c) (L : ℕ) where
       }
 
   -- tried of the other two
-  stops-tried : IsStopped (verdict S P Q L) → triedOf (verdict S P Q L) ≡ L
+  stops-tried : IsStopped (verdict S P Qs L) → triedOf (verdict S P Qs L) ≡ L
   unfolding triedOf
-  stops-tried k = ap triedOf (k .1) ∙ judge-stopped (passes S P Q) L listed (k .0) (sym (verdict-judge S P Q L) ∙ k .1) .0
+  stops-tried k = ap triedOf (k .1) ∙ judge-stopped (covered S P Qs) L listed (k .0) (sym (verdict-judge S P Qs L) ∙ k .1) .0
 
-  includes : (k : IsIncluded (verdict S P Q L)) → (k .0 ≡ length listed) × Included (passes S P Q) L listed
-  includes k = judge-included (passes S P Q) L listed (k .0) (sym (verdict-judge S P Q L) ∙ k .1)
+  includes : (k : IsIncluded (verdict S P Qs L)) → (k .0 ≡ length listed) × Included (covered S P Qs) L listed
+  includes k = judge-included (covered S P Qs) L listed (k .0) (sym (verdict-judge S P Qs L) ∙ k .1)
 
-  includes-tried : IsIncluded (verdict S P Q L) → triedOf (verdict S P Q L) ≡ length listed
+  includes-tried : IsIncluded (verdict S P Qs L) → triedOf (verdict S P Qs L) ≡ length listed
   unfolding triedOf
   includes-tried k = ap triedOf (k .1) ∙ includes k .0
 
 -- what is shown of bytes that every question on the case accepts reads back
 shown-back : (b : List ℕ) → AreBytes b → AllYes (caseQuestions b) → CaseFacts (caseOf b) → {L n : ℕ} {before after : List ℕ}
-    → (s : Shown (caseOf b .summary) (caseOf b .first) (caseOf b .second) L n before after) → ReadsBack b after (s .document) (s .result)
+    → (s : Shown (caseOf b .summary) (caseOf b .first) (caseOf b .members) L n before after) → ReadsBack b after (s .document) (s .result)
 shown-back b small asked f {L} {n} {before} {after} s =
     reads-back b asked f (s .counterExample) (let few : length (s .document) ≤ maxCanonical = s .small in omega arith)
     (subst (λ (W : Document). (i : ℕ) → i < length W → 0 < labelOf W i) (sym (s .trial)) (canonical-labels S P es (f .summary .tree) (f .first .tree) placed (λ l. 0 < l) (labels-some b asked)))
@@ -259,11 +255,11 @@ accepted-demand : (b : List ℕ) → AreBytes b → AllYes (caseQuestions b) →
 unfolding verdictAccepted
 accepted-demand b small asked f L tally buffer =
     let c : Case = caseOf b in
-    let v : Verdict = verdict (c .summary) (c .first) (c .second) L in
+    let v : Verdict = verdict (c .summary) (c .first) (c .members) L in
     record {
       accepted = refl;
       notIncluded = λ h. Iff·trans (kind-not-included v) (few-counter c f L h);
-      included = λ h. Iff·trans (kind-included v) (Iff·trans (few-contained c f L h) (contained-or-counter (f .summary) (f .first) (f .second)));
+      included = λ h. Iff·trans (kind-included v) (Iff·trans (few-contained c f L h) (contained-or-counter (f .summary) (f .first) (f .members)));
       inclusion = λ h. Iff·trans (kind-included v) (few-contained c f L h);
       stopped = λ h. Iff·trans (kind-stopped v) (more-stops c f L h);
       failing = λ h. Iff·trans (kind-not-included v) (more-fails c f L);
@@ -276,7 +272,7 @@ accepted-demand b small asked f L tally buffer =
       readsBack = λ e. shown-back b small asked f (accepted-shows c f L tally buffer e);
       silent = λ h. ap (λ (w : List ℕ). writtenAtFront w buffer) (shown-nothing (c .summary) (c .first) v h) ∙ front-none buffer;
       tallied = refl;
-      limited = verdict-tried (c .summary) (c .first) (c .second) L;
+      limited = verdict-tried (c .summary) (c .first) (c .members) L;
     }
 
 -- the verdict call keeps demand 3
@@ -338,9 +334,9 @@ verdict-answered b small L tally before e =
 -- ---- What is lent keeps its length: what a call writes fits
 
 -- at most 2 + 4 × 1,009 bytes of a volume and 2 + 2 × 8 of a result
-shown-small : (c : Case) → CaseFacts c → (L : ℕ) → length (shown (c .summary) (c .first) (verdict (c .summary) (c .first) (c .second) L)) ≤ minBuffer
+shown-small : (c : Case) → CaseFacts c → (L : ℕ) → length (shown (c .summary) (c .first) (verdict (c .summary) (c .first) (c .members) L)) ≤ minBuffer
 unfolding ownResult
-shown-small c f L = go (verdict (c .summary) (c .first) (c .second) L) refl
+shown-small c f L = go (verdict (c .summary) (c .first) (c .members) L) refl
   where
     size : (n : ℕ) (es : List ℕ) → length (canonical (c .summary) (c .first) es) ≤ maxCanonical → length (shown (c .summary) (c .first) (notIncluded n es)) ≤ minBuffer
     size n es h =
@@ -355,7 +351,7 @@ shown-small c f L = go (verdict (c .summary) (c .first) (c .second) L) refl
     none : (v : Verdict) → (kindOf v ≡ kindNotIncluded → ⊥) → length (shown (c .summary) (c .first) v) ≤ minBuffer
     none v h = rw (shown-nothing (c .summary) (c .first) v h) (omega arith)
 
-    go : (v : Verdict) → verdict (c .summary) (c .first) (c .second) L ≡ v → length (shown (c .summary) (c .first) v) ≤ minBuffer
+    go : (v : Verdict) → verdict (c .summary) (c .first) (c .members) L ≡ v → length (shown (c .summary) (c .first) v) ≤ minBuffer
     go (included n) e = none (included n) (λ k. not-kind (kind-not-included (included n) .0 k))
       where
         not-kind : IsNotIncluded (included n) → ⊥

@@ -35,6 +35,7 @@ pub mod Calls
 pub mod Text
 pub mod Tally
 pub mod Decision
+pub mod Sets
 pub mod ReadBack
 pub mod Demands
 pub mod Printed

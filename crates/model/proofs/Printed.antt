@@ -10,7 +10,7 @@ use Rattle.model.specs.Tree.{Document, labelOf}
 use Rattle.model.specs.Summary.{Summary}
 use Rattle.model.specs.Pattern.{Pattern, arity}
 use Rattle.model.specs.Embeddings.{summaryEmbeddings}
-use Rattle.model.specs.Canonical.{passes}
+use Rattle.model.specs.Canonical.{covered}
 use Rattle.model.specs.Verdict.{Verdict, included, notIncluded, stopped, verdict}
 use Rattle.model.specs.Bytes.{caseOf, documentOf, listOf, shownSection, shownList}
 use Rattle.model.specs.Questions.{verdictRefusal}
@@ -28,24 +28,24 @@ use Rattle.model.proofs.Text.{Printable, shown-small, refused-small, fi
 
 -- ---- from demand 3 to the verdict
 
-module _ (S : Summary) (P Q : Pattern) (L : ℕ) where
-  shown-verdict : {tried : ℕ} {before after : List ℕ} (s : Shown S P Q L tried before after) → verdict S P Q L ≡ notIncluded tried (s .placement)
+module _ (S : Summary) (P : Pattern) (Qs : List Pattern) (L : ℕ) where
+  shown-verdict : {tried : ℕ} {before after : List ℕ} (s : Shown S P Qs L tried before after) → verdict S P Qs L ≡ notIncluded tried (s .placement)
   shown-verdict {tried} s =
       let r : tried ≡ length (s .earlier) + 1 = s .rank in
       let l : tried ≤ L = s .amongFirst in
-      verdict-judge S P Q L
-      ∙ not-included-judge (passes S P Q) L (summaryEmbeddings S P) (s .placement)
+      verdict-judge S P Qs L
+      ∙ not-included-judge (covered S P Qs) L (summaryEmbeddings S P) (s .placement)
       (record { before = s .earlier; after = s .later; split = s .ordered; pass = s .earlierPass; fails = s .fails; within = omega arith })
       ∙ ap (λ (n : ℕ). notIncluded n (s .placement)) (omega arith)
 
-  included-verdict : {n : ℕ} → n ≤ L → n ≡ length (summaryEmbeddings S P) → AllEmbeddingsPass S P Q (summaryEmbeddings S P) → verdict S P Q L ≡ included n
+  included-verdict : {n : ℕ} → n ≤ L → n ≡ length (summaryEmbeddings S P) → AllEmbeddingsPass S P Qs (summaryEmbeddings S P) → verdict S P Qs L ≡ included n
   included-verdict {n} l e p =
-      verdict-judge S P Q L ∙ included-judge (passes S P Q) L (summaryEmbeddings S P) (record { few = omega arith; pass = p }) ∙ ap included (sym e)
+      verdict-judge S P Qs L ∙ included-judge (covered S P Qs) L (summaryEmbeddings S P) (record { few = omega arith; pass = p }) ∙ ap included (sym e)
 
 -- ---- what is shown can be printed
 
 shown-printable : (b : List ℕ) → AreBytes b → CaseFacts (caseOf b) → {L tried : ℕ} {before after : List ℕ}
-    → (s : Shown (caseOf b .summary) (caseOf b .first) (caseOf b .second) L tried before after) → Printable (s .document) (s .result)
+    → (s : Shown (caseOf b .summary) (caseOf b .first) (caseOf b .members) L tried before after) → Printable (s .document) (s .result)
 shown-printable b small f s =
     let ofFirst = s .counterExample .ofFirst in
     let k : length (s .result) ≡ arity (caseOf b .first) = result-count ofFirst in
@@ -77,7 +77,7 @@ module _ (b : List ℕ) {before : List ℕ} (size : length before ≡ minBuffer)
       by-number (verdictRefusal b maxLimit 0 (length before)) (λ z. z)
       (λ f. absurd (let z : o .answer .kind ≡ 0 = ap (λ (x : VerdictOutcome). x .answer .kind) (a .demand1 f) in omega arith))
 
-  text-by : {k : ℕ} → o .answer .kind ≡ k → 0 < k → {v : Verdict} → verdict (caseOf b .summary) (caseOf b .first) (caseOf b .second) maxLimit ≡ v
+  text-by : {k : ℕ} → o .answer .kind ≡ k → 0 < k → {v : Verdict} → verdict (caseOf b .summary) (caseOf b .first) (caseOf b .members) maxLimit ≡ v
       → printed b ≡ verdictText (caseOf b .summary) (caseOf b .first) v
   text-by e h p = printed-accepted b (sym same-number ∙ accepted-kind e h) ∙ ap (verdictText (caseOf b .summary) (caseOf b .first)) p
 
@@ -88,7 +88,7 @@ module _ (b : List ℕ) {before : List ℕ} (size : length before ≡ minBuffer)
   unfolding verdictText
   prints-included e =
       let d = demand e (omega arith) in
-      text-by e (omega arith) (included-verdict (caseOf b .summary) (caseOf b .first) (caseOf b .second) maxLimit (d .limited) (d .includedTried e) (d .onlyIncluded e))
+      text-by e (omega arith) (included-verdict (caseOf b .summary) (caseOf b .first) (caseOf b .members) maxLimit (d .limited) (d .includedTried e) (d .onlyIncluded e))
 
   pub prints-stopped : o .answer .kind ≡ kindStopped → printed b ≡ firstLines (ascii "stopped") (o .answer .tried)
   unfolding verdictText
@@ -96,8 +96,8 @@ module _ (b : List ℕ) {before : List ℕ} (size : length before ≡ minBuffer)
       let d = demand e (omega arith) in
       let more = d .onlyStopped e in
       text-by e (omega arith)
-      (verdict-judge (caseOf b .summary) (caseOf b .first) (caseOf b .second) maxLimit
-      ∙ stopped-judge (passes (caseOf b .summary) (caseOf b .first) (caseOf b .second)) maxLimit (summaryEmbeddings (caseOf b .summary) (caseOf b .first))
+      (verdict-judge (caseOf b .summary) (caseOf b .first) (caseOf b .members) maxLimit
+      ∙ stopped-judge (covered (caseOf b .summary) (caseOf b .first) (caseOf b .members)) maxLimit (summaryEmbeddings (caseOf b .summary) (caseOf b .first))
       (record { more = more; pass = d .stopped more .0 e }))
       ∙ ap (firstLines (ascii "stopped")) (sym (d .stoppedTried e))
 
@@ -108,14 +108,14 @@ module _ (b : List ℕ) {before : List ℕ} (size : length before ≡ minBuffer)
       let d = demand e (omega arith) in
       let s = d .shown e in
       let r = d .readsBack e in
-      text-by e (omega arith) (shown-verdict (caseOf b .summary) (caseOf b .first) (caseOf b .second) maxLimit s)
+      text-by e (omega arith) (shown-verdict (caseOf b .summary) (caseOf b .first) (caseOf b .members) maxLimit s)
       ∙ ap₂ (shownText (o .answer .tried)) (sym (r .document ∙ s .trial)) (sym (r .result ∙ s .own))
 
   pub prints-refused : o .answer .kind ≡ 0 → printed b ≡ refusedText (o .answer .refused)
   unfolding kindOf verdictAccepted
   prints-refused e =
       by-number (verdictRefusal b maxLimit 0 (length before))
-      (λ z. absurd (some (verdict (caseOf b .summary) (caseOf b .first) (caseOf b .second) maxLimit)
+      (λ z. absurd (some (verdict (caseOf b .summary) (caseOf b .first) (caseOf b .members) maxLimit)
       (sym (ap (λ (x : VerdictOutcome). x .answer .kind) (a .outcome ∙ verdict-accepted b maxLimit 0 before z)) ∙ e)))
       (λ f.
       printed-refused b (λ z. f (same-number ∙ z))
@@ -146,7 +146,7 @@ pub printed-small : (b : List ℕ) → AreBytes b → length (printed b) ≤ max
 unfolding verdictAccepted kindOf
 printed-small b small =
     by-number (verdictRefusal b maxLimit 0 (length blank))
-    (λ z. go (verdict (caseOf b .summary) (caseOf b .first) (caseOf b .second) maxLimit) (ap (λ (x : VerdictOutcome). x .answer .kind) (verdict-accepted b maxLimit 0 blank z)))
+    (λ z. go (verdict (caseOf b .summary) (caseOf b .first) (caseOf b .members) maxLimit) (ap (λ (x : VerdictOutcome). x .answer .kind) (verdict-accepted b maxLimit 0 blank z)))
     (λ f. subst (λ (x : List ℕ). length x ≤ maxText) (sym (printed-refused b (λ z. f (ap (verdictRefusal b maxLimit 0) size ∙ z)))) (refused-small b))
   where
     blank : List ℕ

@@ -1,6 +1,6 @@
 -- The quick test equals "the trial passes". Each node of the laid-out table meets and offers what the quick test computes for
--- its summary node and its chain's rest: what its children offer is what their summary nodes and chains offer. So the second
--- pattern's part from p down embeds at a node exactly when p meets there. Assumes nothing.
+-- its summary node and its chain's rest: what its children offer is what their summary nodes and chains offer. So the
+-- member's part from p down embeds at a node exactly when p meets there. Assumes nothing.
 use Prim.Native.Nat.{ℕ, zero, suc, _+_, _-_, _≤_, _<_}
 use mathlib.Core.Path.{_≡_, refl, sym, ap, _∙_, subst}
 use mathlib.Core.Bool.{Bool, true, false, false≢true}
@@ -287,7 +287,7 @@ module _ (S : Summary) (P Q : Pattern) (es : List ℕ) (spots : List Spot) where
         go zero e = inl e
         go (suc i) e = inr (held-own v h (omega arith) ∙ ap (λ (x : ℕ). getD returned (x - 1) 0) (sym k))
 
-    -- ---- the second pattern's parts
+    -- ---- the member's parts
 
     -- what hangs by a descendant edge is offered all the way up
     climb : (v w c : ℕ) → descends Q c ≡ true → Below (spotDocument S spots) v w → offersAt w c ≡ true → accAt v c ≡ true
@@ -341,7 +341,7 @@ module _ (S : Summary) (P Q : Pattern) (es : List ℕ) (spots : List Spot) where
         found : (c : ℕ) → UnderOf Q p c → MetBelow v c
         found c u = descend (length spots) v c (omega arith) i (m .children c u)
 
-    -- the quick test asks whether the second pattern's root meets at the root
+    -- the quick test asks whether the member's root meets at the root
     quick-root : quick S P Q es ≡ meetsAt 0 0
     unfolding quick
     quick-root =
@@ -349,7 +349,7 @@ module _ (S : Summary) (P Q : Pattern) (es : List ℕ) (spots : List Spot) where
         let c : chained 0 ≡ given S P Q es 0 = ap chained (sym (L .ownRoot)) ∙ own-chained 0 (F .tree .inhabited) in
         rw (h, c, L .rootAt) refl
 
--- the quick test says whether the own nodes form a result of the second pattern in the laid-out table
+-- the quick test says whether the own nodes form a result of the member in the laid-out table
 pub quick-laid : {S : Summary} {P Q : Pattern} {es own : List ℕ} {spots : List Spot} → Laid S P es spots own → SummaryFacts S → PatternFacts P → PatternFacts Q → arity P ≡ arity Q
     → (quick S P Q es ≡ true) ↔ Result Q (spotDocument S spots) (map (imageIn own) (returnNodes P))
 quick-laid {S} {P} {Q} {es} {own} {spots} L F₀ F G same = (there, back)

@@ -1,7 +1,7 @@
 -- What "not included" shows reads back: the section and the list stand where a reader takes them, all their numbers fit a field
 -- (a label is a field of the case, whose bytes are below 256), so decoding gives the document and the result; these pass questions
 -- 10 and 11, and as a counter-example they answer the calls. Assumes nothing.
-use Prim.Native.Nat.{ℕ, zero, suc, _+_, _*_, _%_, _≤_, _<_}
+use Prim.Native.Nat.{ℕ, zero, suc, _+_, _-_, _*_, _%_, _≤_, _<_}
 use mathlib.Core.Path.{_≡_, refl, sym, ap, ap₂, _∙_, subst}
 use mathlib.Core.Bool.{Bool, true, false}
 use mathlib.Core.Logic.{_⊎_, inl, inr}
@@ -11,7 +11,7 @@ use native.Mathlib.Nat.{add-zero}
 use lib.Dec.{ltb}
 use lib.ListN.{length, getD, take, drop, length-map, List·getD-map, List·getD-append}
 use lib.Seq.{getD-append-add, take-at, drop-append-add}
-use borrow.Author.Tests.{eq-eqb, lt-ltb, le-leb}
+use borrow.Author.Tests.{eq-eqb, ne-eqb, lt-ltb, le-leb}
 use Rattle.model.specs.Lists.{upFrom, allOf}
 use Rattle.model.specs.Limits.{summaryWidth, documentWidth, maxDocument, maxCanonical}
 use Rattle.model.specs.Tree.{DocumentRecord, Document, IsTree, parentOf, labelOf}
@@ -23,9 +23,9 @@ use Rattle.model.specs.Canonical.{canonicalSpots, canonical, spotAt}
 use Rattle.model.specs.Bytes.{field, fieldBytes, bytesOf, recordsAt, summaryRecordAt, section, sectionEnd, caseOf, documentOf, listOf, isWholeList, documentFields, sectionFields, encodeDocument, encodeList, encodeCounted, writtenAtFront, shownSection, shownList}
 use Rattle.model.specs.Questions.{between, documentRecordKept, documentKept, listInRange, patternGiven, selected, ask, refusal, caseQuestions, fitsRefusal, resultRefusal}
 use Rattle.model.specs.Calls.{TestAnswer, yesAnswer, noAnswer, fitsCall, resultCall}
-use Rattle.model.specs.Facts.{PatternFacts, CaseFacts}
+use Rattle.model.specs.Facts.{PatternFacts, MemberFacts, CaseFacts}
 use Rattle.model.specs.Demands.{ReadsBack}
-use Rattle.model.proofs.ListLaws.{true-or-false, and-intro, below-all, all-intro, length-map-upFrom, getD-map-upFrom}
+use Rattle.model.proofs.ListLaws.{mem-at, true-or-false, and-intro, below-all, all-intro, length-map-upFrom, getD-map-upFrom}
 use Rattle.model.proofs.TreeLaws.{length-asDocument}
 use Rattle.model.proofs.Fitting.{rooted-rule, fits-exact}
 use Rattle.model.proofs.ReturnNodes.{length-returnNodes, return-inside}
@@ -194,7 +194,7 @@ answer-says test e p = e ∙ ap {B = TestAnswer} (λ (t : Bool). record { refuse
 
 -- a counter-example of an accepted case, small enough and of labels that are not 0, answers the calls
 module _ (b : List ℕ) (asked : AllYes (caseQuestions b)) (f : CaseFacts (caseOf b)) {W : Document} {r : List ℕ}
-    (k : CounterExample (caseOf b .summary) (caseOf b .first) (caseOf b .second) W r) (few : length W ≤ maxDocument)
+    (k : CounterExample (caseOf b .summary) (caseOf b .first) (caseOf b .members) W r) (few : length W ≤ maxDocument)
     (some : (i : ℕ) → i < length W → 0 < labelOf W i) (fit : FitFields (sectionFields documentFields W)) where
   abbrev w : List ℕ
   w = encodeDocument W
@@ -230,33 +230,47 @@ module _ (b : List ℕ) (asked : AllYes (caseQuestions b)) (f : CaseFacts (caseO
   list-says : listOf (encodeList r) ≡ r
   list-says = list-back r fit-list
 
-  result-asked : (s : ℕ) → patternGiven s ≡ true → length r ≡ arity (selected (caseOf b) s) → resultRefusal b s w (encodeList r) ≡ 0
+  result-asked : (s : ℕ) → patternGiven (caseOf b) s ≡ true → length r ≡ arity (selected (caseOf b) s) → resultRefusal b s w (encodeList r) ≡ 0
   unfolding resultRefusal refusal
   result-asked s given same =
       let n : ℕ = arity (selected (caseOf b) s) in
       let list : listInRange n (length (documentOf w)) (encodeList r) ≡ true =
       subst (λ (D : Document). listInRange n (length D) (encodeList r) ≡ true) (sym back) (list-kept n (length W) r fit-list same inside) in
       let q11 = ask 11 (listInRange n (length (documentOf w)) (encodeList r)) in
-      refusal-after (caseQuestions b) (ask 10 (documentKept w) ∷ ask 12 (patternGiven s) ∷ q11 ∷ []) asked
-      ∙ refusal-yes (ask 10 (documentKept w)) (ask 12 (patternGiven s) ∷ q11 ∷ []) kept ∙ refusal-yes (ask 12 (patternGiven s)) (q11 ∷ []) given
+      refusal-after (caseQuestions b) (ask 10 (documentKept w) ∷ ask 12 (patternGiven (caseOf b) s) ∷ q11 ∷ []) asked
+      ∙ refusal-yes (ask 10 (documentKept w)) (ask 12 (patternGiven (caseOf b) s) ∷ q11 ∷ []) kept ∙ refusal-yes (ask 12 (patternGiven (caseOf b) s)) (q11 ∷ []) given
       ∙ refusal-yes q11 [] list
 
-  result-says : (s : ℕ) {v : Bool} → patternGiven s ≡ true → length r ≡ arity (selected (caseOf b) s) → isResult (selected (caseOf b) s) W r ≡ v
+  result-says : (s : ℕ) {v : Bool} → patternGiven (caseOf b) s ≡ true → length r ≡ arity (selected (caseOf b) s) → isResult (selected (caseOf b) s) W r ≡ v
       → resultCall b s w (encodeList r) ≡ record { refused = 0; holds = elim v as (λ _. ℕ) [ true ↦ 1 | false ↦ 0 ] }
   result-says s given same e =
       answer-says (isResult (selected (caseOf b) s) (documentOf w) (listOf (encodeList r))) (result-accepted b s w (encodeList r) (result-asked s given same))
       (ap₂ (isResult (selected (caseOf b) s)) back list-says ∙ e)
 
-  first-says : resultCall b 1 w (encodeList r) ≡ yesAnswer
+  given : (s : ℕ) → 1 ≤ s → s ≤ length (caseOf b .members) + 1 → patternGiven (caseOf b) s ≡ true
   unfolding patternGiven
-  first-says = result-says 1 refl count (result-exact r (f .first) (k .fits .tree) .1 (k .ofFirst))
+  given s l h = and-intro (le-leb 1 s l) (le-leb s (length (caseOf b .members) + 1) h)
 
-  second-says : resultCall b 2 w (encodeList r) ≡ noAnswer
-  unfolding patternGiven
-  second-says = result-says 2 refl (count ∙ f .sameArity) (go (true-or-false (isResult (caseOf b .second) W r)))
+  first-says : resultCall b 1 w (encodeList r) ≡ yesAnswer
+  first-says = result-says 1 (given 1 (omega arith) (omega arith)) count (result-exact r (f .first) (k .fits .tree) .1 (k .ofFirst))
+
+  -- a number from 2 on gives a member
+  member-given : (s : ℕ) → 2 ≤ s → s ≤ length (caseOf b .members) + 1 → List·Memᴰ (selected (caseOf b) s) (caseOf b .members)
+  member-given s l h =
+      subst (λ (t : Bool). List·Memᴰ (elim t as (λ _. Pattern) [ true ↦ caseOf b .first | false ↦ getD (caseOf b .members) (s - 2) [] ]) (caseOf b .members)) (sym (ne-eqb s 1 (omega arith)))
+      (mem-at (caseOf b .members) (s - 2) [] (omega arith))
+
+  none-says : (s : ℕ) → 2 ≤ s → s ≤ length (caseOf b .members) + 1 → resultCall b s w (encodeList r) ≡ noAnswer
+  none-says s l h = result-says s (given s (omega arith) h) (count ∙ g .sameArity) (go (true-or-false (isResult Q W r)))
     where
-      go : (isResult (caseOf b .second) W r ≡ true) ⊎ (isResult (caseOf b .second) W r ≡ false) → isResult (caseOf b .second) W r ≡ false
-      go (inl y) = absurd (k .notOfSecond (result-exact r (f .second) (k .fits .tree) .0 y))
+      Q : Pattern
+      Q = selected (caseOf b) s
+
+      g : MemberFacts (caseOf b .first) Q
+      g = f .members Q (member-given s l h)
+
+      go : (isResult Q W r ≡ true) ⊎ (isResult Q W r ≡ false) → isResult Q W r ≡ false
+      go (inl y) = absurd (k .ofNone (record { pattern = Q; among = member-given s l h; result = result-exact r (g .pattern) (k .fits .tree) .0 y }))
       go (inr n) = n
 
   -- so what is written at a buffer's front reads back
@@ -282,5 +296,5 @@ module _ (b : List ℕ) (asked : AllYes (caseQuestions b)) (f : CaseFacts (caseO
             result = ap listOf list ∙ list-says;
             fits = ap (fitsCall b) section ∙ fits-says;
             ofFirst = ap₂ (resultCall b 1) section list ∙ first-says;
-            notOfSecond = ap₂ (resultCall b 2) section list ∙ second-says;
+            ofNone = λ s l h. ap₂ (resultCall b s) section list ∙ none-says s l h;
           }

@@ -1,6 +1,7 @@
 -- Refusals: a refusal is the number of the first question whose answer is no, because each question is asked only where all before it
 -- were answered yes. Assumes nothing.
-use mathlib.Core.Path.{_≡_, refl, sym, _∙_}
+use Prim.Native.Nat.{ℕ}
+use mathlib.Core.Path.{_≡_, refl, sym, ap, _∙_}
 use mathlib.Core.Bool.{true, false}
 use mathlib.Core.Logic.{_⊎_, inl, inr, _≢_}
 use mathlib.Core.List.{List, [], _∷_, _++_}
@@ -51,6 +52,12 @@ refusal-kept (q ∷ qs) rs f = go (true-or-false (q .answer)) (λ p. refusal-kep
     go : (q .answer ≡ true) ⊎ (q .answer ≡ false) → (refusal qs ≢ 0 → refusal (qs ++ rs) ≡ refusal qs) → refusal (q ∷ (qs ++ rs)) ≡ refusal (q ∷ qs)
     go (inl y) rest = refusal-yes q (qs ++ rs) y ∙ rest (λ p. f (refusal-yes q qs y ∙ p)) ∙ sym (refusal-yes q qs y)
     go (inr n) rest = refusal-no q (qs ++ rs) n ∙ sym (refusal-no q qs n)
+
+-- a question that is answered yes may as well not be asked
+pub refusal-drop : (qs : List Question) (q : Question) (rs : List Question) → q .answer ≡ true → refusal (qs ++ q ∷ rs) ≡ refusal (qs ++ rs)
+unfolding refusal
+refusal-drop [] q rs y = refusal-yes q rs y
+refusal-drop (p ∷ qs) q rs y = ap (λ (n : ℕ). elim (p .answer) as (λ _. ℕ) [ true ↦ n | false ↦ p .number ]) (refusal-drop qs q rs y)
 
 pub all-yes-left : (qs rs : List Question) → AllYes (qs ++ rs) → AllYes qs
 all-yes-left [] rs y = tt

@@ -260,11 +260,11 @@ refusal-most k (q ∷ qs) h = go (true-or-false (q .answer)) (refusal-most k qs 
     go (inl y) r = let e = refusal-yes q qs y in omega arith
     go (inr n) r = let e = refusal-no q qs n in let l = h .0 in omega arith
 
-verdict-most : (b : List ℕ) (L tally bufferBytes : ℕ) → verdictRefusal b L tally bufferBytes ≤ 9
+verdict-most : (b : List ℕ) (L tally bufferBytes : ℕ) → verdictRefusal b L tally bufferBytes ≤ 14
 unfolding verdictRefusal caseQuestions
 verdict-most b L tally bufferBytes =
-    refusal-most 9 _
-    (omega arith, (omega arith, (omega arith, (omega arith, (omega arith, (omega arith, (omega arith, (omega arith, (omega arith, tt)))))))))
+    refusal-most 14 _
+    (omega arith, (omega arith, (omega arith, (omega arith, (omega arith, (omega arith, (omega arith, (omega arith, (omega arith, (omega arith, tt))))))))))
 
 module _ (b : List ℕ) where
   pub printed-refused : verdictRefusal b maxLimit 0 minBuffer ≢ 0 → printed b ≡ refusedText (verdictRefusal b maxLimit 0 minBuffer)
@@ -280,7 +280,7 @@ pub refused-small : (b : List ℕ) → length (refusedText (verdictRefusal b max
 unfolding refusedText
 refused-small b =
     let m = verdict-most b maxLimit 0 minBuffer in
-    let e = one-line-small (ascii "refused") 0 (verdictRefusal b maxLimit 0 minBuffer) (omega arith) in
+    let e = one-line-small (ascii "refused") 1 (verdictRefusal b maxLimit 0 minBuffer) (omega arith) in
     omega arith
 
 -- so do the first lines

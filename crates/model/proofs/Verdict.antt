@@ -12,7 +12,7 @@ use lib.Seq.{take-all}
 use Rattle.model.specs.Summary.{Summary}
 use Rattle.model.specs.Pattern.{Pattern}
 use Rattle.model.specs.Embeddings.{summaryEmbeddings}
-use Rattle.model.specs.Canonical.{passes}
+use Rattle.model.specs.Canonical.{covered}
 use Rattle.model.specs.Verdict.{Progress, going, failed, halted, step, run, Verdict, included, notIncluded, stopped, conclude, judge, verdict, triedOf}
 use Rattle.model.specs.Calls.{kindIncluded, kindNotIncluded, kindStopped, kindOf}
 use Rattle.model.proofs.ListLaws.{not-both}
@@ -321,19 +321,24 @@ run-agree f g s [] h = refl
 run-agree f g s (x ∷ xs) h =
     run-agree f g (step f s x) xs (λ y m. h y (List·Memᴰ·tail m)) ∙ ap (λ (p : Progress). run g p xs) (step-agree f g s x (h x (List·Memᴰ·head refl)))
 
+-- tests that agree give one verdict
+pub judge-agree : (f g : List ℕ → Bool) (L : ℕ) (xs : List (List ℕ)) → ((x : List ℕ) → List·Memᴰ x xs → f x ≡ g x) → judge f L xs ≡ judge g L xs
+unfolding judge
+judge-agree f g L xs h = ap conclude (run-agree f g (going L 0) xs h)
+
 -- ---- the verdict of a case
 
 -- the verdict is this fold over the placements, by the test whether a placement's trial passes
-pub verdict-judge : (S : Summary) (P Q : Pattern) (L : ℕ) → verdict S P Q L ≡ judge (passes S P Q) L (summaryEmbeddings S P)
+pub verdict-judge : (S : Summary) (P : Pattern) (Qs : List Pattern) (L : ℕ) → verdict S P Qs L ≡ judge (covered S P Qs) L (summaryEmbeddings S P)
 unfolding verdict
-verdict-judge S P Q L = refl
+verdict-judge S P Qs L = refl
 
-pub verdict-tried : (S : Summary) (P Q : Pattern) (L : ℕ) → triedOf (verdict S P Q L) ≤ L
+pub verdict-tried : (S : Summary) (P : Pattern) (Qs : List Pattern) (L : ℕ) → triedOf (verdict S P Qs L) ≤ L
 unfolding verdict
-verdict-tried S P Q L = tried-limit (passes S P Q) L (summaryEmbeddings S P)
+verdict-tried S P Qs L = tried-limit (covered S P Qs) L (summaryEmbeddings S P)
 
 -- the placement that "not included" shows is one of them, and its trial does not pass
-pub verdict-shown : (S : Summary) (P Q : Pattern) (L n : ℕ) (es : List ℕ) → verdict S P Q L ≡ notIncluded n es → List·Memᴰ es (summaryEmbeddings S P) × (passes S P Q es ≡ false)
-verdict-shown S P Q L n es e =
-    let k = judge-not-included (passes S P Q) L (summaryEmbeddings S P) n es (sym (verdict-judge S P Q L) ∙ e) in
+pub verdict-shown : (S : Summary) (P : Pattern) (Qs : List Pattern) (L n : ℕ) (es : List ℕ) → verdict S P Qs L ≡ notIncluded n es → List·Memᴰ es (summaryEmbeddings S P) × (covered S P Qs es ≡ false)
+verdict-shown S P Qs L n es e =
+    let k = judge-not-included (covered S P Qs) L (summaryEmbeddings S P) n es (sym (verdict-judge S P Qs L) ∙ e) in
     (subst (λ (l : List (List ℕ)). List·Memᴰ es l) (sym (k .0 .split)) (Memᴰ·append-right (k .0 .before) (List·Memᴰ·head refl)), k .0 .fails)

@@ -252,8 +252,5 @@ cap-product K a (suc b) = go (ltb K a) refl
         ap (λ (i : ℕ). min K (i * suc b)) (min-eq-right h)
 
 -- both cut
-pub cap-sums : (K a b : ℕ) → min K (min K a + min K b) ≡ min K (a + b)
-cap-sums K a b = omega arith
-
 pub cap-products : (K a b : ℕ) → min K (min K a * min K b) ≡ min K (a * b)
 cap-products K a b = cap-product K a (min K b) ∙ ap (min K) (mul-comm a (min K b)) ∙ cap-product K b a ∙ ap (min K) (mul-comm b a)

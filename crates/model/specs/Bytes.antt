@@ -1,5 +1,5 @@
 -- Bytes: 16-bit fields, sections, the case, documents and lists, read and written.
-use Prim.Native.Nat.{ℕ, _+_, _*_, _/_, _%_, _≤_}
+use Prim.Native.Nat.{ℕ, zero, suc, _+_, _*_, _/_, _%_, _≤_, _<_}
 use mathlib.Core.Bool.{Bool, true, false, _&&_}
 use mathlib.Core.List.{List, [], _∷_, _++_, map, flatMap}
 use lib.Dec.{eqb, leb}
@@ -43,21 +43,34 @@ section read width b at = recordsAt (read b) width (at + 1) (field b at)
 abbrev pub sectionEnd : ℕ → List ℕ → ℕ → ℕ
 sectionEnd width b at = at + 1 + width * field b at
 
--- where the first selection's section begins, and the second's, and where the case ends
+-- a set of selections: its count in field `on`, then as many sections; where the section of member i begins, from 0 on
+unfoldable pub memberAt : List ℕ → ℕ → ℕ → ℕ
+memberAt b on zero = on + 1
+memberAt b on (suc i) = sectionEnd patternWidth b (memberAt b on i)
+
+-- the field after the set
+abbrev pub setEnd : List ℕ → ℕ → ℕ
+setEnd b on = memberAt b on (field b on)
+
+-- its selections
+unfoldable pub setOf : List ℕ → ℕ → List Pattern
+setOf b on = map (λ i. section patternRecordAt patternWidth b (memberAt b on i)) (upFrom 0 (field b on))
+
+-- where the first selection's section begins, and the set, and where the case ends
 abbrev pub firstAt : List ℕ → ℕ
 firstAt b = sectionEnd summaryWidth b 0
 
-abbrev pub secondAt : List ℕ → ℕ
-secondAt b = sectionEnd patternWidth b (firstAt b)
+abbrev pub setAt : List ℕ → ℕ
+setAt b = sectionEnd patternWidth b (firstAt b)
 
 abbrev pub caseEnd : List ℕ → ℕ
-caseEnd b = sectionEnd patternWidth b (secondAt b)
+caseEnd b = setEnd b (setAt b)
 
--- the case: an outline, the first selection, the second selection
+-- the case: an outline, the first selection, and a set of selections, its members
 pub record Case : Type 0 where
   pub summary : Summary
   pub first : Pattern
-  pub second : Pattern
+  pub members : List Pattern
 
 -- the tables of a case; fields past the end read as 0
 unfoldable pub caseOf : List ℕ → Case
@@ -65,7 +78,7 @@ caseOf b =
     record {
       summary = section summaryRecordAt summaryWidth b 0;
       first = section patternRecordAt patternWidth b (firstAt b);
-      second = section patternRecordAt patternWidth b (secondAt b);
+      members = setOf b (setAt b);
     }
 
 -- a section that begins at field `at` is whole: its count, and every record that it announces
@@ -73,12 +86,17 @@ pub record WholeSection (width : ℕ) (b : List ℕ) (at : ℕ) : Type 0 where
   pub count : 2 * (at + 1) ≤ length b
   pub records : 2 * sectionEnd width b at ≤ length b
 
+-- a set is whole: its count, and every section that it announces
+pub record WholeSet (b : List ℕ) (on : ℕ) : Type 0 where
+  pub count : 2 * (on + 1) ≤ length b
+  pub sections : (i : ℕ) → i < field b on → WholeSection patternWidth b (memberAt b on i)
+
 -- the case has at most 65,536 bytes, every count and announced record whole, and nothing after
 pub record WholeCase (b : List ℕ) : Type 0 where
   pub size : length b ≤ maxCaseBytes
   pub summary : WholeSection summaryWidth b 0
   pub first : WholeSection patternWidth b (firstAt b)
-  pub second : WholeSection patternWidth b (secondAt b)
+  pub members : WholeSet b (setAt b)
   pub nothingAfter : length b ≤ 2 * caseEnd b
 
 -- the same as a test: the end lies after every count, and a count past the end reads as 0, so one equation says it all
@@ -126,9 +144,12 @@ documentFields r = r .parent ∷ r .label ∷ []
 unfoldable pub sectionFields : {A : Type 0} → (A → List ℕ) → List A → List ℕ
 sectionFields fields rs = length rs ∷ flatMap fields rs
 
+-- a set's fields: its count, then its members' sections
+abbrev pub setFields : List Pattern → List ℕ
+setFields Qs = sectionFields (sectionFields patternFields) Qs
+
 unfoldable pub caseFields : Case → List ℕ
-caseFields c =
-    sectionFields summaryFields (c .summary) ++ (sectionFields patternFields (c .first) ++ sectionFields patternFields (c .second))
+caseFields c = sectionFields summaryFields (c .summary) ++ (sectionFields patternFields (c .first) ++ setFields (c .members))
 
 -- the bytes of a case, of a volume's section, of a list, and of a count with its numbers
 unfoldable pub encodeCase : Case → List ℕ

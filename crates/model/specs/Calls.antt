@@ -61,14 +61,13 @@ shown S P (included n) = []
 shown S P (notIncluded n es) = encodeDocument (canonical S P es) ++ encodeCounted (ownResult S P es)
 shown S P (stopped n) = []
 
+-- the outcome of an accepted call whose verdict is v
+abbrev pub outcomeBy : Summary → Pattern → Verdict → ℕ → List ℕ → VerdictOutcome
+outcomeBy S P v tally buffer =
+    record { answer = record { refused = 0; kind = kindOf v; tried = triedOf v }; buffer = writtenAtFront (shown S P v) buffer; tally = tally + triedOf v }
+
 unfoldable pub verdictAccepted : Case → ℕ → ℕ → List ℕ → VerdictOutcome
-verdictAccepted c L tally buffer =
-    let v : Verdict = verdict (c .summary) (c .first) (c .second) L in
-    record {
-      answer = record { refused = 0; kind = kindOf v; tried = triedOf v };
-      buffer = writtenAtFront (shown (c .summary) (c .first) v) buffer;
-      tally = tally + triedOf v;
-    }
+verdictAccepted c L tally buffer = outcomeBy (c .summary) (c .first) (verdict (c .summary) (c .first) (c .members) L) tally buffer
 
 unfoldable pub verdictRefused : ℕ → ℕ → List ℕ → VerdictOutcome
 verdictRefused number tally buffer = record { answer = refusedAnswer number; buffer = buffer; tally = tally }
@@ -102,7 +101,7 @@ testAnswer number test =
 unfoldable pub fitsCall : List ℕ → List ℕ → TestAnswer
 fitsCall b w = testAnswer (fitsRefusal b w) (fits (caseOf b .summary) (documentOf w))
 
--- Is it a result: case, selection 1 or 2, volume, list
+-- Is it a result: case, selection, volume, list
 unfoldable pub resultCall : List ℕ → ℕ → List ℕ → List ℕ → TestAnswer
 resultCall b s w r = testAnswer (resultRefusal b s w r) (isResult (selected (caseOf b) s) (documentOf w) (listOf r))
 

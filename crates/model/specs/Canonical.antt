@@ -120,6 +120,10 @@ ownNodes S P es = chains S P es .own
 unfoldable pub ownResult : Summary → Pattern → List ℕ → List ℕ
 ownResult S P es = map (imageIn (ownNodes S P es)) (returnNodes P)
 
--- a trial passes: the first selection's own nodes form a result of the second
+-- the first selection's own nodes form a result of this selection
 unfoldable pub passes : Summary → Pattern → Pattern → List ℕ → Bool
 passes S P Q es = isResult Q (canonical S P es) (ownResult S P es)
+
+-- a trial passes: its result, as one list, is a result of at least one member of the set
+unfoldable pub covered : Summary → Pattern → List Pattern → List ℕ → Bool
+covered S P Qs es = anyOf (λ Q. passes S P Q es) Qs

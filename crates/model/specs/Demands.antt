@@ -13,7 +13,7 @@ use Rattle.model.specs.Tree.{Document}
 use Rattle.model.specs.Summary.{Summary, Fits}
 use Rattle.model.specs.Pattern.{Pattern, Result, AtPosition, PathOf, Contained, CounterExample}
 use Rattle.model.specs.Embeddings.{summaryEmbeddings}
-use Rattle.model.specs.Canonical.{canonical, canonicalSpots, ownResult, passes}
+use Rattle.model.specs.Canonical.{canonical, canonicalSpots, ownResult, covered}
 use Rattle.model.specs.Bytes.{field, sectionEnd, caseOf, documentOf, listOf, encodeDocument, encodeCounted, writtenAtFront, shownSection, shownList}
 use Rattle.model.specs.Questions.{selected, verdictRefusal, fitsRefusal, resultRefusal, nodesRefusal, pathsRefusal, layoutRefusal}
 use Rattle.model.specs.Calls.{refusedAnswer, VerdictOutcome, kindIncluded, kindNotIncluded, kindStopped, verdictCall, TestAnswer, yesAnswer, noAnswer, fitsCall, resultCall, NodesOutcome, nodesCall, PathsAnswer, pathsCall, LaidRecord, laidRecord, LayoutOutcome, layoutCall}
@@ -70,38 +70,38 @@ pub record LayoutTold (S : Summary) (P : Pattern) (es : List ℕ) (before : List
 
 -- ---- Demand 3, of an accepted verdict call
 
--- some fitting volume of any size has a result of the first selection that is none of the second
-abbrev pub SomeCounterExample : Summary → Pattern → Pattern → Type 0
-SomeCounterExample S P Q = (W : Document) × (r : List ℕ) × CounterExample S P Q W r
+-- some fitting volume of any size has a result of the first selection that no member has
+abbrev pub SomeCounterExample : Summary → Pattern → List Pattern → Type 0
+SomeCounterExample S P Qs = (W : Document) × (r : List ℕ) × CounterExample S P Qs W r
 
 -- every one of these trials passes; one does not
-abbrev pub AllEmbeddingsPass : Summary → Pattern → Pattern → List (List ℕ) → Type 0
-AllEmbeddingsPass S P Q ess = (es : List ℕ) → List·Memᴰ es ess → passes S P Q es ≡ true
+abbrev pub AllEmbeddingsPass : Summary → Pattern → List Pattern → List (List ℕ) → Type 0
+AllEmbeddingsPass S P Qs ess = (es : List ℕ) → List·Memᴰ es ess → covered S P Qs es ≡ true
 
-abbrev pub SomeEmbeddingFails : Summary → Pattern → Pattern → List (List ℕ) → Type 0
-SomeEmbeddingFails S P Q ess = (es : List ℕ) × List·Memᴰ es ess × (passes S P Q es ≡ false)
+abbrev pub SomeEmbeddingFails : Summary → Pattern → List Pattern → List (List ℕ) → Type 0
+SomeEmbeddingFails S P Qs ess = (es : List ℕ) × List·Memᴰ es ess × (covered S P Qs es ≡ false)
 
 -- the earliest trial that does not pass, as one of the first L, and tried as its rank, from 1; its volume and the first selection's
--- own nodes there, a result of the first selection that is none of the second; both written at the buffer's front
-pub record Shown (S : Summary) (P Q : Pattern) (L tried : ℕ) (before after : List ℕ) : Type 0 where
+-- own nodes there, a result of the first selection that no member has; both written at the buffer's front
+pub record Shown (S : Summary) (P : Pattern) (Qs : List Pattern) (L tried : ℕ) (before after : List ℕ) : Type 0 where
   pub earlier : List (List ℕ)
   pub placement : List ℕ
   pub later : List (List ℕ)
   pub ordered : summaryEmbeddings S P ≡ earlier ++ placement ∷ later
-  pub earlierPass : AllEmbeddingsPass S P Q earlier
-  pub fails : passes S P Q placement ≡ false
+  pub earlierPass : AllEmbeddingsPass S P Qs earlier
+  pub fails : covered S P Qs placement ≡ false
   pub rank : tried ≡ length earlier + 1
   pub amongFirst : tried ≤ L
   pub document : Document
   pub result : List ℕ
   pub trial : document ≡ canonical S P placement
   pub own : result ≡ ownResult S P placement
-  pub counterExample : CounterExample S P Q document result
+  pub counterExample : CounterExample S P Qs document result
   pub small : length document ≤ maxCanonical
   pub written : after ≡ writtenAtFront (encodeDocument document ++ encodeCounted result) before
 
 -- what is shown of case b reads back from the buffer: the counts are the volume's and the result's, the section is the volume and the
--- list the result; of these Fits says yes, and Is it a result says yes of the first selection and no of the second
+-- list the result; of these Fits says yes, and Is it a result says yes of the first selection and no of each member
 pub record ReadsBack (b after : List ℕ) (W : Document) (r : List ℕ) : Type 0 where
   pub nodes : field after 0 ≡ length W
   pub positions : field after (sectionEnd documentWidth after 0) ≡ length r
@@ -109,30 +109,30 @@ pub record ReadsBack (b after : List ℕ) (W : Document) (r : List ℕ) : Type 0
   pub result : listOf (shownList after) ≡ r
   pub fits : fitsCall b (shownSection after) ≡ yesAnswer
   pub ofFirst : resultCall b 1 (shownSection after) (shownList after) ≡ yesAnswer
-  pub notOfSecond : resultCall b 2 (shownSection after) (shownList after) ≡ noAnswer
+  pub ofNone : (s : ℕ) → 2 ≤ s → s ≤ length (caseOf b .members) + 1 → resultCall b s (shownSection after) (shownList after) ≡ noAnswer
 
--- Demand 3, of the case with bytes b, outline S and selections P and Q, and of the limit L, from the tally and the buffer before
-pub record Demand3Of (b : List ℕ) (S : Summary) (P Q : Pattern) (L tally : ℕ) (buffer : List ℕ) (o : VerdictOutcome) : Type 0 where
+-- Demand 3, of the case with bytes b, outline S, first selection P and set Qs, and of the limit L, from the tally and the buffer before
+pub record Demand3Of (b : List ℕ) (S : Summary) (P : Pattern) (Qs : List Pattern) (L tally : ℕ) (buffer : List ℕ) (o : VerdictOutcome) : Type 0 where
   pub accepted : o .answer .refused ≡ 0
   -- at most L placements: "not included" exactly when some fitting volume of any size has a result of the first selection that
-  -- is none of the second, "included" exactly when there is none
-  pub notIncluded : length (summaryEmbeddings S P) ≤ L → (o .answer .kind ≡ kindNotIncluded) ↔ SomeCounterExample S P Q
-  pub included : length (summaryEmbeddings S P) ≤ L → (o .answer .kind ≡ kindIncluded) ↔ (SomeCounterExample S P Q → ⊥)
-  -- which is inclusion: in every fitting volume, each result of the first selection is a result of the second
-  pub inclusion : length (summaryEmbeddings S P) ≤ L → (o .answer .kind ≡ kindIncluded) ↔ Contained S P Q
+  -- no member has, "included" exactly when there is none
+  pub notIncluded : length (summaryEmbeddings S P) ≤ L → (o .answer .kind ≡ kindNotIncluded) ↔ SomeCounterExample S P Qs
+  pub included : length (summaryEmbeddings S P) ≤ L → (o .answer .kind ≡ kindIncluded) ↔ (SomeCounterExample S P Qs → ⊥)
+  -- which is inclusion: in every fitting volume, each result of the first selection is a result of some member
+  pub inclusion : length (summaryEmbeddings S P) ≤ L → (o .answer .kind ≡ kindIncluded) ↔ Contained S P Qs
   -- more than L: "stopped" exactly when the first L trials all pass, "not included" exactly when one does not, "included" never
-  pub stopped : L < length (summaryEmbeddings S P) → (o .answer .kind ≡ kindStopped) ↔ AllEmbeddingsPass S P Q (take L (summaryEmbeddings S P))
-  pub failing : L < length (summaryEmbeddings S P) → (o .answer .kind ≡ kindNotIncluded) ↔ SomeEmbeddingFails S P Q (take L (summaryEmbeddings S P))
+  pub stopped : L < length (summaryEmbeddings S P) → (o .answer .kind ≡ kindStopped) ↔ AllEmbeddingsPass S P Qs (take L (summaryEmbeddings S P))
+  pub failing : L < length (summaryEmbeddings S P) → (o .answer .kind ≡ kindNotIncluded) ↔ SomeEmbeddingFails S P Qs (take L (summaryEmbeddings S P))
   pub neverIncluded : L < length (summaryEmbeddings S P) → o .answer .kind ≡ kindIncluded → ⊥
   -- "stopped" only then, and tried is the limit
   pub onlyStopped : o .answer .kind ≡ kindStopped → L < length (summaryEmbeddings S P)
   pub stoppedTried : o .answer .kind ≡ kindStopped → o .answer .tried ≡ L
   -- "included" only where every trial passes, and tried is how many there are, 0 where there are none
-  pub onlyIncluded : o .answer .kind ≡ kindIncluded → AllEmbeddingsPass S P Q (summaryEmbeddings S P)
+  pub onlyIncluded : o .answer .kind ≡ kindIncluded → AllEmbeddingsPass S P Qs (summaryEmbeddings S P)
   pub includedTried : o .answer .kind ≡ kindIncluded → o .answer .tried ≡ length (summaryEmbeddings S P)
   -- "not included" shows the earliest trial that does not pass, and tried is its rank, from 1; what is shown reads back; the
   -- others write nothing
-  pub shown : o .answer .kind ≡ kindNotIncluded → Shown S P Q L (o .answer .tried) buffer (o .buffer)
+  pub shown : o .answer .kind ≡ kindNotIncluded → Shown S P Qs L (o .answer .tried) buffer (o .buffer)
   pub readsBack : (k : o .answer .kind ≡ kindNotIncluded) → ReadsBack b (o .buffer) (shown k .document) (shown k .result)
   pub silent : (o .answer .kind ≡ kindNotIncluded → ⊥) → o .buffer ≡ buffer
   -- the tally grows by tried, which is at most L
@@ -141,7 +141,7 @@ pub record Demand3Of (b : List ℕ) (S : Summary) (P Q : Pattern) (L tally : ℕ
 
 -- of the tables that the case's bytes hold
 abbrev pub Demand3 : List ℕ → ℕ → ℕ → List ℕ → VerdictOutcome → Type 0
-Demand3 b L tally buffer o = Demand3Of b (caseOf b .summary) (caseOf b .first) (caseOf b .second) L tally buffer o
+Demand3 b L tally buffer o = Demand3Of b (caseOf b .summary) (caseOf b .first) (caseOf b .members) L tally buffer o
 
 -- ---- The calls: the outcome is document 01's, a refusal keeps demand 1, an accepted call demand 2 or 3
 
@@ -151,7 +151,7 @@ pub record FitsAnswered (b w : List ℕ) (a : TestAnswer) : Type 0 where
   pub demand1 : Demand1 (fitsRefusal b w) a (λ n. record { refused = n; holds = 0 })
   pub demand2 : fitsRefusal b w ≡ 0 → FitsTold (caseOf b .summary) (documentOf w) a
 
--- Is it a result: case, selection 1 or 2, volume, list
+-- Is it a result: case, selection, volume, list
 pub record ResultAnswered (b : List ℕ) (s : ℕ) (w r : List ℕ) (a : TestAnswer) : Type 0 where
   pub outcome : a ≡ resultCall b s w r
   pub demand1 : Demand1 (resultRefusal b s w r) a (λ n. record { refused = n; holds = 0 })

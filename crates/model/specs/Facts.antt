@@ -4,7 +4,7 @@ use mathlib.Core.Path.{_≡_}
 use mathlib.Core.Bool.{true}
 use mathlib.Core.List.{List, List·Memᴰ}
 use lib.ListN.{length}
-use Rattle.model.specs.Limits.{maxSummary, maxPattern, maxPosition, maxDocument}
+use Rattle.model.specs.Limits.{maxSummary, maxPattern, maxMembers, maxPosition, maxDocument}
 use Rattle.model.specs.Tree.{IsTree, Child, labelOf}
 use Rattle.model.specs.Summary.{Summary, asDocument, summaryLabel}
 use Rattle.model.specs.Pattern.{Pattern, IsPatternTree, arity, position, nodeAt}
@@ -23,19 +23,25 @@ pub record PatternFacts (P : Pattern) : Type 0 where
   pub once : (q : ℕ) → q < length P → 0 < position P q → nodeAt P (position P q) ≡ q
   pub range : (q : ℕ) → q < length P → position P q ≤ arity P
 
+-- a member of the set, beside the first selection P
+pub record MemberFacts (P Q : Pattern) : Type 0 where
+  pub pattern : PatternFacts Q
+  pub sameArity : arity P ≡ arity Q
+  pub size : length Q ≤ maxPattern
+
 -- an accepted case
 pub record CaseFacts (c : Case) : Type 0 where
   pub summary : SummaryFacts (c .summary)
   pub first : PatternFacts (c .first)
-  pub second : PatternFacts (c .second)
-  pub sameArity : arity (c .first) ≡ arity (c .second)
+  pub members : (Q : Pattern) → List·Memᴰ Q (c .members) → MemberFacts (c .first) Q
+  pub someMembers : 1 ≤ length (c .members)
+  pub fewMembers : length (c .members) ≤ maxMembers
   pub someArity : 1 ≤ arity (c .first)
   pub arityBound : arity (c .first) ≤ maxPosition
   pub summarySize : length (c .summary) ≤ maxSummary
   pub firstSize : length (c .first) ≤ maxPattern
-  pub secondSize : length (c .second) ≤ maxPattern
 
--- the bytes of an accepted case: questions 3 to 8
+-- the bytes of an accepted case: questions 3 to 8, with 14
 pub record AcceptedCase (b : List ℕ) : Type 0 where
   pub whole : WholeCase b
   pub facts : CaseFacts (caseOf b)

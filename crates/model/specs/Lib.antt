@@ -12,6 +12,7 @@ pub mod Limits
 pub mod Bytes
 pub mod Questions
 pub mod Calls
+pub mod OldForm
 pub mod Text
 pub mod Facts
 pub mod Demands

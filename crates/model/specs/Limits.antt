@@ -33,6 +33,10 @@ maxDocument = 1_024
 abbrev pub maxPosition : ℕ
 maxPosition = 8
 
+-- the most selections of a set
+abbrev pub maxMembers : ℕ
+maxMembers = 8
+
 -- the most nodes of a trial volume
 abbrev pub maxCanonical : ℕ
 maxCanonical = 1_009

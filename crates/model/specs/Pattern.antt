@@ -91,18 +91,18 @@ pub record AtPosition (P : Pattern) (W : Document) (p v : ℕ) : Type 0 where
 abbrev pub ContainedIn : Summary → Pattern → (Document → List ℕ → Type 0) → Type 0
 ContainedIn S P Passes = (W : Document) → Fits S W → (r : List ℕ) → Result P W r → Passes W r
 
--- included: in every fitting volume, each result of the first selection is a result of the second
-abbrev pub Contained : Summary → Pattern → Pattern → Type 0
-Contained S P Q = ContainedIn S P (Result Q)
-
--- a result of at least one of several selections; request #101 makes the second selection such a set
+-- a result, as one list, of at least one selection of a set
 pub record ResultOfSome (Qs : List Pattern) (W : Document) (r : List ℕ) : Type 0 where
   pub pattern : Pattern
   pub among : List·Memᴰ pattern Qs
   pub result : Result pattern W r
 
--- what shuts inclusion out: a fitting volume, of any size, and a result of the first selection there that is none of the second
-pub record CounterExample (S : Summary) (P Q : Pattern) (W : Document) (r : List ℕ) : Type 0 where
+-- included: in every fitting volume, each result of the first selection is a result of some member of the set
+abbrev pub Contained : Summary → Pattern → List Pattern → Type 0
+Contained S P Qs = ContainedIn S P (ResultOfSome Qs)
+
+-- what shuts inclusion out: a fitting volume, of any size, and a result of the first selection there that no member has
+pub record CounterExample (S : Summary) (P : Pattern) (Qs : List Pattern) (W : Document) (r : List ℕ) : Type 0 where
   pub fits : Fits S W
   pub ofFirst : Result P W r
-  pub notOfSecond : Result Q W r → ⊥
+  pub ofNone : ResultOfSome Qs W r → ⊥

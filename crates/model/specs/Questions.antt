@@ -1,11 +1,11 @@
--- Questions 1 to 13, one definition each, and the refusal of each of the six calls in the call's own order.
-use Prim.Native.Nat.{ℕ, _+_}
+-- Questions 1 to 14, one definition each, and the refusal of each of the six calls in the call's own order.
+use Prim.Native.Nat.{ℕ, _+_, _-_}
 use mathlib.Core.Bool.{Bool, true, false, _&&_, _||_, not}
 use mathlib.Core.List.{List, [], _∷_, _++_}
 use lib.Dec.{eqb, leb, ltb}
 use lib.ListN.{length, getD}
 use Rattle.model.specs.Lists.{upFrom, anyOf, allOf, countOf, sameList}
-use Rattle.model.specs.Limits.{maxLimit, maxTally, minBuffer, minTable, maxSummary, maxPattern, maxDocument, maxPosition}
+use Rattle.model.specs.Limits.{maxLimit, maxTally, minBuffer, minTable, maxSummary, maxPattern, maxMembers, maxDocument, maxPosition}
 use Rattle.model.specs.Tree.{Document, parentOf, labelOf}
 use Rattle.model.specs.Summary.{Summary, noSummaryRecord, summaryParent, summaryLabel}
 use Rattle.model.specs.Pattern.{PatternRecord, Pattern, noPatternRecord, patternParent, position, arity}
@@ -32,10 +32,16 @@ tableLargeEnough records = leb minTable records
 unfoldable pub caseWhole : List ℕ → Bool
 caseWhole b = isWholeCase b
 
--- 4. Are the counts 1 to 64, 1 to 16 and 1 to 16?
+-- 4. Are the counts 1 to 64, 1 to 16 and, of each member, 1 to 16?
+abbrev pub countInRange : Pattern → Bool
+countInRange P = between 1 maxPattern (length P)
+
 unfoldable pub countsInRange : Case → Bool
-countsInRange c =
-    between 1 maxSummary (length (c .summary)) && between 1 maxPattern (length (c .first)) && between 1 maxPattern (length (c .second))
+countsInRange c = between 1 maxSummary (length (c .summary)) && countInRange (c .first) && allOf countInRange (c .members)
+
+-- 14. Is the set's count 1 to 8?
+unfoldable pub setInRange : Case → Bool
+setInRange c = between 1 maxMembers (length (c .members))
 
 -- 5. Do all outline records keep the rules for parent, label and strong?
 unfoldable pub summaryRecordKept : Summary → ℕ → Bool
@@ -53,7 +59,7 @@ alike S i j = ltb 0 i && eqb (summaryParent S i) (summaryParent S j) && eqb (sum
 unfoldable pub siblingsDiffer : Summary → Bool
 siblingsDiffer S = allOf (λ j. allOf (λ i. not (alike S i j)) (upFrom 0 j)) (upFrom 0 (length S))
 
--- 7. Do all records of both selections keep the rules for parent and edge, with positions at most 8?
+-- 7. Do all records of all selections keep the rules for parent and edge, with positions at most 8?
 unfoldable pub patternRecordKept : Pattern → ℕ → Bool
 patternRecordKept P q =
     parentRule q (patternParent P q) && leb (getD P q noPatternRecord .edge) 1
@@ -63,14 +69,14 @@ unfoldable pub patternKept : Pattern → Bool
 patternKept P = allOf (patternRecordKept P) (upFrom 0 (length P))
 
 unfoldable pub patternsKept : Case → Bool
-patternsKept c = patternKept (c .first) && patternKept (c .second)
+patternsKept c = patternKept (c .first) && allOf patternKept (c .members)
 
--- 8. Has each selection the positions 1 to k once each, k at least 1, the same k in both?
+-- 8. Has each selection the positions 1 to k once each, k at least 1, the same k in all?
 unfoldable pub positionsOnce : Pattern → Bool
 positionsOnce P = leb 1 (arity P) && allOf (λ p. eqb (countOf (λ (r : PatternRecord). eqb (r .position) p) P) 1) (upFrom 1 (arity P))
 
 unfoldable pub positionsKept : Case → Bool
-positionsKept c = positionsOnce (c .first) && positionsOnce (c .second) && eqb (arity (c .first)) (arity (c .second))
+positionsKept c = positionsOnce (c .first) && allOf (λ Q. positionsOnce Q && eqb (arity (c .first)) (arity Q)) (c .members)
 
 -- 9. Is the tally plus the limit at most 1,000,000,000,000?
 unfoldable pub tallyInRange : ℕ → ℕ → Bool
@@ -89,16 +95,16 @@ documentKept b =
 unfoldable pub listInRange : ℕ → ℕ → List ℕ → Bool
 listInRange k n b = isWholeList b && eqb (length (listOf b)) k && allOf (λ v. ltb v n) (listOf b)
 
--- 12. Is the selection 1 or 2 and, where given, the position 1 to k?
-unfoldable pub patternGiven : ℕ → Bool
-patternGiven s = between 1 2 s
+-- 12. Is the selection 1 to one more than the set's count and, where given, the position 1 to k?
+unfoldable pub patternGiven : Case → ℕ → Bool
+patternGiven c s = between 1 (length (c .members) + 1) s
 
--- the selection that a number gives
+-- the selection that a number gives: 1 the first, 2 and on the members
 abbrev pub selected : Case → ℕ → Pattern
-selected c s = elim (eqb s 1) [ true ↦ c .first | false ↦ c .second ]
+selected c s = elim (eqb s 1) [ true ↦ c .first | false ↦ getD (c .members) (s - 2) [] ]
 
 unfoldable pub positionGiven : Case → ℕ → ℕ → Bool
-positionGiven c s p = patternGiven s && between 1 (arity (selected c s)) p
+positionGiven c s p = patternGiven c s && between 1 (arity (selected c s)) p
 
 -- 13. Is the list a placement of that selection?
 unfoldable pub isSummaryEmbedding : Case → ℕ → List ℕ → Bool
@@ -117,10 +123,10 @@ unfoldable pub refusal : List Question → ℕ
 refusal [] = 0
 refusal (q ∷ qs) = elim (q .answer) [ true ↦ refusal qs | false ↦ q .number ]
 
--- 3 to 8
+-- 3 to 8, with 14 right after 4
 unfoldable pub caseQuestions : List ℕ → List Question
 caseQuestions b =
-    ask 3 (caseWhole b) ∷ ask 4 (countsInRange (caseOf b)) ∷ ask 5 (summaryKept (caseOf b .summary))
+    ask 3 (caseWhole b) ∷ ask 4 (countsInRange (caseOf b)) ∷ ask 14 (setInRange (caseOf b)) ∷ ask 5 (summaryKept (caseOf b .summary))
     ∷ ask 6 (siblingsDiffer (caseOf b .summary)) ∷ ask 7 (patternsKept (caseOf b)) ∷ ask 8 (positionsKept (caseOf b)) ∷ []
 
 -- Verdict: 1 to 9
@@ -136,7 +142,7 @@ fitsRefusal b w = refusal (caseQuestions b ++ ask 10 (documentKept w) ∷ [])
 unfoldable pub resultRefusal : List ℕ → ℕ → List ℕ → List ℕ → ℕ
 resultRefusal b s w r =
     refusal
-    (caseQuestions b ++ ask 10 (documentKept w) ∷ ask 12 (patternGiven s)
+    (caseQuestions b ++ ask 10 (documentKept w) ∷ ask 12 (patternGiven (caseOf b) s)
     ∷ ask 11 (listInRange (arity (selected (caseOf b) s)) (length (documentOf w)) r) ∷ [])
 
 -- Nodes at a position: 2 to 8, 10, 12
@@ -146,10 +152,10 @@ nodesRefusal b s w p bufferBytes =
 
 -- Paths of each node: 3 to 8, 12
 unfoldable pub pathsRefusal : List ℕ → ℕ → ℕ
-pathsRefusal b s = refusal (caseQuestions b ++ ask 12 (patternGiven s) ∷ [])
+pathsRefusal b s = refusal (caseQuestions b ++ ask 12 (patternGiven (caseOf b) s) ∷ [])
 
 -- Lay out a trial: 2 to 8, 12, 13
 unfoldable pub layoutRefusal : List ℕ → ℕ → List ℕ → ℕ → ℕ
 layoutRefusal b s l tableRecords =
     refusal
-    (ask 2 (tableLargeEnough tableRecords) ∷ caseQuestions b ++ ask 12 (patternGiven s) ∷ ask 13 (isSummaryEmbedding (caseOf b) s l) ∷ [])
+    (ask 2 (tableLargeEnough tableRecords) ∷ caseQuestions b ++ ask 12 (patternGiven (caseOf b) s) ∷ ask 13 (isSummaryEmbedding (caseOf b) s l) ∷ [])

@@ -1,5 +1,5 @@
 -- The quick test of a placement, which lays nothing out. proofs/Quick.antt shows that it equals "the trial passes": code is promised
--- against it, and no outcome of a call and no demand is stated with it. Sets of the second pattern's nodes are functions to Bool. x is
+-- against it, and no outcome of a call and no demand is stated with it. Sets of one member's nodes are functions to Bool. x is
 -- a summary node, n the position that the document node there holds or 0, acc the pattern nodes that its children offer.
 use Prim.Native.Nat.{ℕ, zero, suc}
 use mathlib.Core.Bool.{Bool, false, _&&_, _||_, not}
@@ -65,6 +65,6 @@ unfoldable pub settled : Summary → Pattern → Pattern → (ℕ → ℕ) → L
 settled S P Q last es q j p =
     anyOf (λ c. hangsFrom P j c && (ltb (last c) q && hang S Q (position P c) (given S P Q es c) (chain S (imageIn es j) (imageIn es c)) p)) (upFrom 0 (length P))
 
--- the second pattern's root meets at the root
+-- the member's root meets at the root
 unfoldable pub quick : Summary → Pattern → Pattern → List ℕ → Bool
 quick S P Q es = meets S Q 0 (position P 0) (union (base S Q) (given S P Q es 0)) 0

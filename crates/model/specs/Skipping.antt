@@ -82,6 +82,6 @@ sureIn (suc n) S P Q places q es j p =
 unfoldable pub sure : Summary → Pattern → Pattern → (ℕ → ℕ → List ℕ) → ℕ → List ℕ → ℕ → ℕ → Bool
 sure S P Q = sureIn (length P) S P Q
 
--- every completion surely passes: the second pattern's root meets at the root by what hangs from it at least
+-- every completion surely passes: the member's root meets at the root by what hangs from it at least
 unfoldable pub surely : Summary → Pattern → Pattern → (ℕ → ℕ → List ℕ) → ℕ → List ℕ → Bool
 surely S P Q places q es = meets S Q 0 (position P 0) (union (base S Q) (sure S P Q places q es 0)) 0

@@ -81,7 +81,7 @@ unfoldable pub refusedText : ℕ → List ℕ
 refusedText n = line (ascii "refused") (n ∷ [])
 
 abbrev pub caseText : Case → List ℕ
-caseText c = verdictText (c .summary) (c .first) (verdict (c .summary) (c .first) (c .second) maxLimit)
+caseText c = verdictText (c .summary) (c .first) (verdict (c .summary) (c .first) (c .members) maxLimit)
 
 -- the text for a case from standard input, with limit 1,000,000 and tally 0
 unfoldable pub printed : List ℕ → List ℕ

@@ -5,7 +5,7 @@ use mathlib.Core.List.{List, [], _∷_}
 use Rattle.model.specs.Summary.{Summary}
 use Rattle.model.specs.Pattern.{Pattern}
 use Rattle.model.specs.Embeddings.{summaryEmbeddings}
-use Rattle.model.specs.Canonical.{passes}
+use Rattle.model.specs.Canonical.{covered}
 
 -- how far the trials have come: how many may still be tried and how many have passed; or the verdict is known
 pub data Progress : Type 0 where
@@ -39,9 +39,9 @@ conclude (halted tried) = stopped tried
 unfoldable pub judge : (List ℕ → Bool) → ℕ → List (List ℕ) → Verdict
 judge test L xs = conclude (run test (going L 0) xs)
 
--- the verdict with limit L
-unfoldable pub verdict : Summary → Pattern → Pattern → ℕ → Verdict
-verdict S P Q L = judge (passes S P Q) L (summaryEmbeddings S P)
+-- the verdict with limit L, on the first selection and a set
+unfoldable pub verdict : Summary → Pattern → List Pattern → ℕ → Verdict
+verdict S P Qs L = judge (covered S P Qs) L (summaryEmbeddings S P)
 
 -- tried
 unfoldable pub triedOf : Verdict → ℕ

@@ -1,0 +1,182 @@
+-- Sets. A set of one gives the base's verdict, call by call; the order of the members, and a member twice, change nothing of a verdict;
+-- a further member never turns "included" into another verdict. All because a trial passes exactly when some member has its result, and
+-- the trials do not depend on the set. Assumes nothing.
+use Prim.Native.Nat.{ℕ, _*_, _≤_}
+use mathlib.Core.Path.{_≡_, refl, sym, ap, ap₂, _∙_, subst}
+use mathlib.Core.Bool.{Bool, true, false, _&&_}
+use mathlib.Core.Logic.{_↔_}
+use mathlib.Core.List.{List, [], _∷_, List·Memᴰ, List·Memᴰ·head, List·Memᴰ·eq-of-singleton}
+use lib.Dec.{eqb}
+use lib.ListN.{length}
+use borrow.Author.Tests.{le-leb, eq-eqb}
+use Rattle.model.specs.Lists.{anyOf, allOf}
+use Rattle.model.specs.Limits.{maxSummary, maxCaseBytes, summaryWidth, patternWidth}
+use Rattle.model.specs.Summary.{Summary}
+use Rattle.model.specs.Pattern.{Pattern, noPatternRecord, arity, Result, Contained, ContainedIn}
+use Rattle.model.specs.Embeddings.{summaryEmbeddings}
+use Rattle.model.specs.Canonical.{passes, covered}
+use Rattle.model.specs.Verdict.{Verdict, included, verdict}
+use Rattle.model.specs.Bytes.{summaryRecordAt, patternRecordAt, section, firstAt, Case, caseOf, isWholeCase, summaryFields, patternFields, sectionFields, caseFields, encodeCase}
+use Rattle.model.specs.Questions.{between, limitInRange, bufferLargeEnough, caseWhole, countInRange, countsInRange, setInRange, summaryKept, siblingsDiffer, patternKept, patternsKept, positionsOnce, positionsKept, tallyInRange, Question, ask, refusal, caseQuestions, verdictRefusal}
+use Rattle.model.specs.Calls.{VerdictOutcome, outcomeBy, verdictAccepted, verdictCall, verdictRefused}
+use Rattle.model.specs.OldForm.{OldCase, secondAt, oldEnd, oldCaseOf, oldFields, encodeOldCase, oneOf, oldWhole, oldCountsInRange, oldPatternsKept, oldPositionsKept, oldQuestions, oldVerdictRefusal, oldVerdict, oldAccepted, oldVerdictCall}
+use Rattle.model.proofs.ListLaws.{bool-ext, and-intro, any-intro, any-elim}
+use Rattle.model.proofs.Verdict.{judge-agree, judge-included, included-judge}
+use Rattle.model.proofs.Refusals.{refusal-drop}
+use Rattle.model.proofs.Bytes.{FitFields, pattern-readable, section-back, section-end, holds-rest, summary-back, first-back, written-length, case-back, case-whole}
+
+-- ---- which members there are decides, and nothing else
+
+-- every member of one set is a member of the other
+abbrev pub Among : List Pattern → List Pattern → Type 0
+Among Qs Rs = (Q : Pattern) → List·Memᴰ Q Qs → List·Memᴰ Q Rs
+
+-- a trial that passes passes with further members
+pub covered-more : (S : Summary) (P : Pattern) {Qs Rs : List Pattern} → Among Qs Rs → (es : List ℕ) → covered S P Qs es ≡ true → covered S P Rs es ≡ true
+unfolding covered
+covered-more S P {Qs} {Rs} h es e =
+    let k = any-elim (λ Q. passes S P Q es) Qs e in
+    any-intro (λ Q. passes S P Q es) (k .0) Rs (h (k .0) (k .1)) (k .2)
+
+pub contained-more : (S : Summary) (P : Pattern) {Qs Rs : List Pattern} → Among Qs Rs → Contained S P Qs → Contained S P Rs
+contained-more S P h c W w r k = let g = c W w r k in record { pattern = g .pattern; among = h (g .pattern) (g .among); result = g .result }
+
+-- a further member never turns "included" into anything else, and tried stays
+pub included-more : (S : Summary) (P : Pattern) {Qs Rs : List Pattern} → Among Qs Rs → (L n : ℕ) → verdict S P Qs L ≡ included n → verdict S P Rs L ≡ included n
+unfolding verdict
+included-more S P {Qs} {Rs} h L n e =
+    let k = judge-included (covered S P Qs) L (summaryEmbeddings S P) n e in
+    included-judge (covered S P Rs) L (summaryEmbeddings S P)
+    (record { few = k .1 .few; pass = λ es m. covered-more S P h es (k .1 .pass es m) })
+    ∙ ap included (sym (k .0))
+
+-- sets with the same members, in whatever order and however often, get one verdict: kind, tried, placement
+pub same-members : (S : Summary) (P : Pattern) {Qs Rs : List Pattern} → Among Qs Rs → Among Rs Qs → (L : ℕ) → verdict S P Qs L ≡ verdict S P Rs L
+unfolding verdict
+same-members S P {Qs} {Rs} h g L =
+    judge-agree (covered S P Qs) (covered S P Rs) L (summaryEmbeddings S P) (λ es m. bool-ext (covered S P Qs es) (covered S P Rs es) (covered-more S P h es) (covered-more S P g es))
+
+-- so do two cases: the whole outcome, buffer and tally included
+pub same-outcome : (c d : Case) → c .summary ≡ d .summary → c .first ≡ d .first → Among (c .members) (d .members) → Among (d .members) (c .members)
+    → (L tally : ℕ) (buffer : List ℕ) → verdictAccepted c L tally buffer ≡ verdictAccepted d L tally buffer
+unfolding verdictAccepted
+same-outcome c d s p h g L tally buffer =
+    ap₂ (λ (S : Summary) (P : Pattern). outcomeBy S P (verdict S P (c .members) L) tally buffer) s p
+    ∙ ap (λ (v : Verdict). outcomeBy (d .summary) (d .first) v tally buffer) (same-members (d .summary) (d .first) h g L)
+
+-- ---- a set of one
+
+pub covered-one : (S : Summary) (P Q : Pattern) (es : List ℕ) → covered S P (Q ∷ []) es ≡ passes S P Q es
+unfolding covered anyOf
+covered-one S P Q es = go (passes S P Q es)
+  where
+    go : (b : Bool) → (elim b as (λ _. Bool) [ true ↦ true | false ↦ false ]) ≡ b
+    go true = refl
+    go false = refl
+
+pub verdict-one : (S : Summary) (P Q : Pattern) (L : ℕ) → verdict S P (Q ∷ []) L ≡ oldVerdict S P Q L
+unfolding verdict oldVerdict
+verdict-one S P Q L = judge-agree (covered S P (Q ∷ [])) (passes S P Q) L (summaryEmbeddings S P) (λ es m. covered-one S P Q es)
+
+-- included in a set of one is what the base calls included
+pub contained-one : (S : Summary) (P Q : Pattern) → Contained S P (Q ∷ []) ↔ ContainedIn S P (Result Q)
+contained-one S P Q = (
+  λ c W w r k. (let g = c W w r k in subst (λ (R : Pattern). Result R W r) (List·Memᴰ·eq-of-singleton (g .among)) (g .result)),
+  λ c W w r k. record { pattern = Q; among = List·Memᴰ·head refl; result = c W w r k },
+)
+
+-- ---- the call on a set of one
+
+module _ (c : OldCase) where
+  all-one : (test : Pattern → Bool) (Q : Pattern) → allOf test (Q ∷ []) ≡ test Q
+  unfolding allOf
+  all-one test Q = go (test Q)
+    where
+      go : (b : Bool) → (elim b as (λ _. Bool) [ true ↦ true | false ↦ false ]) ≡ b
+      go true = refl
+      go false = refl
+
+  counts-one : countsInRange (oneOf c) ≡ oldCountsInRange c
+  unfolding countsInRange oldCountsInRange
+  counts-one = ap (λ (t : Bool). between 1 maxSummary (length (c .summary)) && countInRange (c .first) && t) (all-one countInRange (c .second))
+
+  kept-one : patternsKept (oneOf c) ≡ oldPatternsKept c
+  unfolding patternsKept oldPatternsKept
+  kept-one = ap (λ (t : Bool). patternKept (c .first) && t) (all-one patternKept (c .second))
+
+  and-assoc : (a b d : Bool) → (a && (b && d)) ≡ (a && b && d)
+  and-assoc true b d = refl
+  and-assoc false b d = refl
+
+  positions-one : positionsKept (oneOf c) ≡ oldPositionsKept c
+  unfolding positionsKept oldPositionsKept
+  positions-one =
+      ap (λ (t : Bool). positionsOnce (c .first) && t) (all-one (λ Q. positionsOnce Q && eqb (arity (c .first)) (arity Q)) (c .second))
+      ∙ and-assoc (positionsOnce (c .first)) (positionsOnce (c .second)) (eqb (arity (c .first)) (arity (c .second)))
+
+one-in-range : (c : OldCase) → setInRange (oneOf c) ≡ true
+unfolding setInRange
+one-in-range c = refl
+
+-- the case is whole in both forms, and means the same; `encoded-one` has such a pair
+pub record SetOfOne (a b : List ℕ) : Type 0 where
+  pub old : oldWhole a ≡ true
+  pub new : isWholeCase b ≡ true
+  pub same : caseOf b ≡ oneOf (oldCaseOf a)
+
+-- 3 to 8 with these answers on the whole, on counts, patterns and positions, and 9
+asked : OldCase → Bool → Bool → Bool → Bool → Question → List Question
+asked c whole counts patterns positions last =
+    ask 3 whole ∷ ask 4 counts ∷ ask 5 (summaryKept (c .summary)) ∷ ask 6 (siblingsDiffer (c .summary)) ∷ ask 7 patterns ∷ ask 8 positions ∷ last ∷ []
+
+module _ {a b : List ℕ} (s : SetOfOne a b) where
+  refusal-one : (L tally bytes : ℕ) → verdictRefusal b L tally bytes ≡ oldVerdictRefusal a L tally bytes
+  unfolding verdictRefusal oldVerdictRefusal caseQuestions oldQuestions caseWhole asked
+  refusal-one L tally bytes =
+      let c : OldCase = oldCaseOf a in
+      let last : Question = ask 9 (tallyInRange tally L) in
+      let front : List Question → List Question = λ qs. ask 1 (limitInRange L) ∷ ask 2 (bufferLargeEnough bytes) ∷ qs in
+      ap (λ (d : Case). refusal (front (ask 3 (isWholeCase b) ∷ ask 4 (countsInRange d) ∷ ask 14 (setInRange d) ∷ ask 5 (summaryKept (d .summary))
+      ∷ ask 6 (siblingsDiffer (d .summary)) ∷ ask 7 (patternsKept d) ∷ ask 8 (positionsKept d) ∷ last ∷ []))) (s .same)
+      ∙ refusal-drop (front (ask 3 (isWholeCase b) ∷ ask 4 (countsInRange (oneOf c)) ∷ [])) (ask 14 (setInRange (oneOf c)))
+      (ask 5 (summaryKept (c .summary)) ∷ ask 6 (siblingsDiffer (c .summary)) ∷ ask 7 (patternsKept (oneOf c)) ∷ ask 8 (positionsKept (oneOf c)) ∷ last ∷ []) (one-in-range c)
+      ∙ λ i. refusal (front (asked c ((s .new ∙ sym (s .old)) i) (counts-one c i) (kept-one c i) (positions-one c i) last))
+
+  -- the base's outcome, whole: refusal, kind, tried, tally, every byte
+  pub call-one : (L tally : ℕ) (buffer : List ℕ) → verdictCall b L tally buffer ≡ oldVerdictCall a L tally buffer
+  unfolding verdictCall oldVerdictCall verdictAccepted oldAccepted
+  call-one L tally buffer =
+      ap₂ (λ (n : ℕ) (o : VerdictOutcome). elim (eqb n 0) as (λ _. VerdictOutcome) [ true ↦ o | false ↦ verdictRefused n tally buffer ])
+      (refusal-one L tally (length buffer))
+      (ap (λ (c : Case). verdictAccepted c L tally buffer) (s .same)
+      ∙ ap (λ (v : Verdict). outcomeBy (oldCaseOf a .summary) (oldCaseOf a .first) v tally buffer) (verdict-one (oldCaseOf a .summary) (oldCaseOf a .first) (oldCaseOf a .second) L))
+
+-- ---- such a pair of bytes, of every old case that fits
+
+module _ (c : OldCase) (old : FitFields (oldFields c)) (new : FitFields (caseFields (oneOf c))) where
+  abbrev secondPart : List ℕ
+  secondPart = sectionFields patternFields (c .second)
+
+  old-back : oldCaseOf (encodeOldCase c) ≡ c
+  unfolding oldCaseOf encodeOldCase oldFields
+  old-back =
+      let s : section summaryRecordAt summaryWidth (encodeOldCase c) 0 ≡ c .summary = summary-back (c .summary) (c .first) secondPart old in
+      let f : section patternRecordAt patternWidth (encodeOldCase c) (firstAt (encodeOldCase c)) ≡ c .first = first-back (c .summary) (c .first) secondPart old in
+      let g : section patternRecordAt patternWidth (encodeOldCase c) (secondAt (encodeOldCase c)) ≡ c .second =
+      section-back patternRecordAt patternFields patternWidth pattern-readable (encodeOldCase c) noPatternRecord (secondAt (encodeOldCase c)) (c .second) (holds-rest (c .summary) (c .first) secondPart old) in
+      λ i. record { summary = s i; first = f i; second = g i }
+
+  old-length : length (encodeOldCase c) ≡ 2 * oldEnd (encodeOldCase c)
+  unfolding encodeOldCase oldFields
+  old-length =
+      written-length (c .summary) (c .first) secondPart old (oldEnd (encodeOldCase c))
+      (section-end patternRecordAt patternFields patternWidth pattern-readable (encodeOldCase c) (secondAt (encodeOldCase c)) (c .second) (holds-rest (c .summary) (c .first) secondPart old))
+
+  pub encoded-one : length (encodeOldCase c) ≤ maxCaseBytes → length (encodeCase (oneOf c)) ≤ maxCaseBytes → SetOfOne (encodeOldCase c) (encodeCase (oneOf c))
+  unfolding oldWhole
+  encoded-one h k =
+      record {
+        old = and-intro (le-leb (length (encodeOldCase c)) maxCaseBytes h) (eq-eqb (length (encodeOldCase c)) (2 * oldEnd (encodeOldCase c)) old-length);
+        new = case-whole (oneOf c) new k;
+        same = case-back (oneOf c) new ∙ ap oneOf (sym old-back);
+      }
