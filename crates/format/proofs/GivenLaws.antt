@@ -1,18 +1,20 @@
 -- What the questions establish of an accepted call's bytes gives what the readers of its tables ask for. Assumes nothing.
-use Prim.Native.Nat.{ℕ, _*_, _≤_}
+use Prim.Native.Nat.{ℕ, _*_, _≤_, _<_}
 use mathlib.Core.Path.{_≡_, sym, subst}
 use mathlib.Core.Bool.{true}
-use mathlib.Core.List.{List}
+use mathlib.Core.List.{List, [], List·Memᴰ}
 use native.Mathlib.Omega.{arith}
-use lib.ListN.{length}
+use lib.ListN.{length, getD}
 use borrow.Author.Tests.{eqb-true}
 use Rattle.model.specs.Limits.{maxSummary, maxDocument, summaryWidth, documentWidth}
 use Rattle.model.specs.Tree.{Document, IsTree}
-use Rattle.model.specs.Bytes.{firstAt, secondAt, sectionEnd, caseOf, WholeSection, isWholeDocument}
-use Rattle.model.specs.Facts.{DocumentFacts, AcceptedCase}
+use Rattle.model.specs.Pattern.{Pattern}
+use Rattle.model.specs.Bytes.{firstAt, setAt, memberAt, setOf, sectionEnd, caseOf, WholeSection, isWholeDocument}
+use Rattle.model.specs.Facts.{MemberFacts, DocumentFacts, AcceptedCase}
+use Rattle.model.proofs.ListLaws.{mem-at}
 use Rattle.model.proofs.TreeLaws.{length-asDocument}
-use Rattle.format.specs.Given.{summaryIn, SummaryGiven, PatternGiven, DocumentGiven, TreeGiven}
-use Rattle.format.proofs.SectionLaws.{tree-document, tree-summary}
+use Rattle.format.specs.Given.{summaryIn, patternAt, SummaryGiven, PatternGiven, SetGiven, DocumentGiven, TreeGiven}
+use Rattle.format.proofs.SectionLaws.{set-below, set-member, tree-document, tree-summary}
 
 -- ---- a tree that may be either
 
@@ -47,9 +49,21 @@ pub given-first : {b : List ℕ} → AcceptedCase b → PatternGiven b (firstAt 
 unfolding caseOf
 given-first A = record { whole = A .whole .first; tree = A .facts .first .tree; few = A .facts .firstSize }
 
-pub given-second : {b : List ℕ} → AcceptedCase b → PatternGiven b (secondAt b)
+-- of each member, by the field that holds its count
+pub member-facts : {b : List ℕ} → AcceptedCase b → (i : ℕ) → i < length (setOf b (setAt b)) → MemberFacts (caseOf b .first) (patternAt b (memberAt b (setAt b) i))
 unfolding caseOf
-given-second A = record { whole = A .whole .second; tree = A .facts .second .tree; few = A .facts .secondSize }
+member-facts {b} A i h =
+    subst (MemberFacts (caseOf b .first)) (set-member b (setAt b) i h) (A .facts .members (getD (setOf b (setAt b)) i []) (mem-at (setOf b (setAt b)) i [] h))
+
+pub given-set : {b : List ℕ} → AcceptedCase b → SetGiven b (setAt b)
+unfolding caseOf
+given-set {b} A =
+    record {
+      whole = A .whole .members;
+      few = A .facts .fewMembers;
+      members = λ i h. (let m : MemberFacts (caseOf b .first) (patternAt b (memberAt b (setAt b) i)) = member-facts A i h in
+      record { whole = A .whole .members .sections i (set-below b (setAt b) i h); tree = m .pattern .tree; few = m .size });
+    }
 
 pub whole-document : (w : List ℕ) → isWholeDocument w ≡ true → WholeSection documentWidth w 0
 unfolding isWholeDocument

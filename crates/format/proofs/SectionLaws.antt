@@ -1,18 +1,20 @@
 -- Sections by their fields: how many records a section has, where each field of a record stands, and that it stands inside; the
--- tables of a case and of a document, and a tree that may be either, as sections. Assumes nothing.
+-- tables of a case and of a document, a set of patterns, and a tree that may be either, as sections. Assumes nothing.
 use Prim.Native.Nat.{ℕ, suc, _+_, _*_, _≤_, _<_}
 use mathlib.Core.Path.{_≡_, refl, sym, ap, _∙_, subst}
-use mathlib.Core.List.{List, map-map}
+use mathlib.Core.List.{List, [], map-map}
 use native.Mathlib.Omega.{arith}
 use native.Mathlib.Nat.{mul-suc, mul-le-mul-left, add-zero}
+use native.Mathlib.Numerals.{add-one}
 use lib.ListN.{length, getD, List·getD-map}
 use Rattle.model.specs.Lists.{upFrom}
 use Rattle.model.specs.Limits.{summaryWidth, patternWidth, documentWidth}
 use Rattle.model.specs.Tree.{DocumentRecord, noDocumentRecord}
 use Rattle.model.specs.Summary.{SummaryRecord, noSummaryRecord, withoutStrong, asDocument}
 use Rattle.model.specs.Pattern.{PatternRecord, noPatternRecord}
-use Rattle.model.specs.Bytes.{field, section, recordsAt, summaryRecordAt, patternRecordAt, documentRecordAt, caseOf, documentOf, WholeSection}
+use Rattle.model.specs.Bytes.{field, section, recordsAt, summaryRecordAt, patternRecordAt, documentRecordAt, sectionEnd, memberAt, setOf, caseOf, documentOf, WholeSection, WholeSet}
 use Rattle.model.proofs.ListLaws.{length-map-upFrom}
+use Rattle.model.proofs.Bytes.{member-next}
 use Rattle.format.specs.Given.{summaryIn, patternAt, treeOf}
 use Rattle.format.proofs.RangeLaws.{getD-map-below}
 
@@ -76,6 +78,26 @@ pattern-below b at i h = section-below patternRecordAt patternWidth b at i h
 pub pattern-field : (b : List ℕ) (at : ℕ) (get : PatternRecord → ℕ) (i j : ℕ) → ((a : ℕ) → get (patternRecordAt b a) ≡ field b (a + j)) → i < length (patternAt b at)
     → field b (at + 1 + patternWidth * i + j) ≡ get (getD (patternAt b at) i noPatternRecord)
 pattern-field b at get i j e h = section-field patternRecordAt patternWidth b at noPatternRecord get i j e h
+
+-- ---- a set of patterns
+
+pub set-count : (b : List ℕ) (on : ℕ) → length (setOf b on) ≡ field b on
+unfolding setOf
+set-count b on = length-map-upFrom (λ i. patternAt b (memberAt b on i)) 0 (field b on)
+
+pub set-below : (b : List ℕ) (on i : ℕ) → i < length (setOf b on) → i < field b on
+set-below b on i h = subst (λ (n : ℕ). i < n) (set-count b on) h
+
+pub set-member : (b : List ℕ) (on i : ℕ) → i < length (setOf b on) → getD (setOf b on) i [] ≡ patternAt b (memberAt b on i)
+unfolding setOf
+set-member b on i h = getD-map-below (λ i. patternAt b (memberAt b on i)) (field b on) i [] (set-below b on i h)
+
+-- its sections one after another: from the field of member k to the next, and a member's section is whole
+pub member-step : (b : List ℕ) (on k : ℕ) {at end : ℕ} → at ≡ memberAt b on k → end ≡ sectionEnd patternWidth b at → end ≡ memberAt b on (k + 1)
+member-step b on k e h = h ∙ ap (sectionEnd patternWidth b) e ∙ sym (member-next b on k) ∙ ap (memberAt b on) (sym (add-one k))
+
+pub member-section : (b : List ℕ) (on k : ℕ) {at : ℕ} → WholeSet b on → k < length (setOf b on) → at ≡ memberAt b on k → WholeSection patternWidth b at
+member-section b on k w h e = subst (WholeSection patternWidth b) (sym e) (w .sections k (set-below b on k h))
 
 -- ---- a tree
 

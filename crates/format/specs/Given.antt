@@ -1,12 +1,12 @@
 -- Given data stay bytes: the tables that stand in them, and what a function that reads one asks of its bytes.
-use Prim.Native.Nat.{ℕ, _≤_}
+use Prim.Native.Nat.{ℕ, _≤_, _<_}
 use mathlib.Core.List.{List}
 use lib.ListN.{length}
-use Rattle.model.specs.Limits.{maxSummary, maxPattern, maxDocument, summaryWidth, patternWidth, documentWidth}
+use Rattle.model.specs.Limits.{maxSummary, maxPattern, maxMembers, maxDocument, summaryWidth, patternWidth, documentWidth}
 use Rattle.model.specs.Tree.{Document, IsTree}
 use Rattle.model.specs.Summary.{Summary, asDocument}
 use Rattle.model.specs.Pattern.{Pattern, IsPatternTree}
-use Rattle.model.specs.Bytes.{patternRecordAt, documentRecordAt, section, caseOf, documentOf, WholeSection}
+use Rattle.model.specs.Bytes.{patternRecordAt, documentRecordAt, section, memberAt, setOf, caseOf, documentOf, WholeSection, WholeSet}
 
 -- the summary of a case (document 01: outline)
 abbrev pub summaryIn : List ℕ → Summary
@@ -30,6 +30,12 @@ pub record PatternGiven (b : List ℕ) (at : ℕ) : Type 0 where
   pub whole : WholeSection patternWidth b at
   pub tree : IsPatternTree (patternAt b at)
   pub few : length (patternAt b at) ≤ maxPattern
+
+-- a set of patterns whose count is field `on`: few enough members, each of them given
+pub record SetGiven (b : List ℕ) (on : ℕ) : Type 0 where
+  pub whole : WholeSet b on
+  pub few : length (setOf b on) ≤ maxMembers
+  pub members : (i : ℕ) → i < length (setOf b on) → PatternGiven b (memberAt b on i)
 
 pub record DocumentGiven (w : List ℕ) : Type 0 where
   pub whole : WholeSection documentWidth w 0

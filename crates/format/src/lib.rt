@@ -11,6 +11,7 @@ pub mod pattern;
 pub mod positions;
 pub mod records;
 pub mod sections;
+pub mod set;
 pub mod summary;
 pub mod tree;
 pub mod write;

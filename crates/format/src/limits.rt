@@ -13,10 +13,12 @@ pub const MIN_TABLE: usize = 1_024;
 // The most bytes of a case.
 pub const MAX_CASE_BYTES: usize = 65_536;
 
-// The most nodes of a summary, of a pattern and of a document; the last position.
+// The most nodes of a summary, of a pattern and of a document; the most members of a set; the last position.
 pub const MAX_SUMMARY: u64 = 64;
 
 pub const MAX_PATTERN: u64 = 16;
+
+pub const MAX_MEMBERS: u64 = 8;
 
 pub const MAX_DOCUMENT: u64 = 1_024;
 

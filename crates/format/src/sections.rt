@@ -7,7 +7,7 @@ ghost use mathlib.Core.Path.{_≡_};
 ghost use mathlib.Core.Bool.{true};
 ghost use Prim.Native.Nat.{_+_, _*_, _<_};
 ghost use Rattle.model.specs.Limits.{patternWidth};
-ghost use Rattle.model.specs.Bytes.{firstAt, secondAt, sectionEnd, isWholeCase};
+ghost use Rattle.model.specs.Bytes.{firstAt, setAt, sectionEnd, isWholeCase};
 
 // The first pattern's, after the summary.
 pub fn first_at(b: &[u8]) -> usize
@@ -25,10 +25,10 @@ pub fn pattern_end(b: &[u8], at: usize) -> usize
     at + 1 + PATTERN_WIDTH * field(b, at)
 }
 
-// The second pattern's.
-pub fn second_at(b: &[u8]) -> usize
+// The set's, after the first pattern.
+pub fn set_at(b: &[u8]) -> usize
     requires { ⌜ isWholeCase (now b) ≡ true ⌝ }
-    ensures { λ r. ⌜ r ≡ secondAt (now (b .entry)) ⌝ }
+    ensures { λ r. ⌜ r ≡ setAt (now (b .entry)) ⌝ }
 {
     pattern_end(b, first_at(b))
 }
