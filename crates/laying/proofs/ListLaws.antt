@@ -30,14 +30,14 @@ use Rattle.laying.proofs.RecordLaws.{records-laid}
 -- the pattern is the model's, and the images are the list
 module _ {b : List ℕ} {s : ℕ} {l : List ℕ} {k : ℕ} (f : LayoutFacts b s l k) where
   embedded : (length (listOf l) ≡ length (selected (caseOf b) s)) × SummaryEmbedding (caseOf b .summary) (selected (caseOf b) s) (imageIn (listOf l))
-  embedded = embeddings-sound (selected-facts (caseOf b) s (f .case .facts) .tree) (f .case .facts .summary .tree) (f .embedding)
+  embedded = embeddings-sound (selected-facts (caseOf b) s (f .case .facts) (f .number) .pattern .tree) (f .case .facts .summary .tree) (f .embedding)
 
   pub list-fits : length l / 2 ≤ maxPattern
-  list-fits = let n = list-count l in let e = embedded .0 in let h = selected-size (f .case) s in omega arith
+  list-fits = let n = list-count l in let e = embedded .0 in let h = selected-size (f .case) s (f .number) in omega arith
 
   module _ {at : ℕ} {images : List ℕ} (images₀ : List ℕ) (here : at ≡ numberedAt b s) (room : maxPattern ≤ length images₀) (read : images ≡ writtenAtFront (listOf l) images₀) where
     same : selected (caseOf b) s ≡ patternAt b at
-    same = numbered-pattern b s at here
+    same = numbered-pattern b s at (f .number) here
 
     count : length (patternAt b at) ≡ length (listOf l)
     count = ap (λ (P : Pattern). length P) (sym same) ∙ sym (embedded .0)
@@ -49,11 +49,11 @@ module _ {b : List ℕ} {s : ℕ} {l : List ℕ} {k : ℕ} (f : LayoutFacts b s 
     pub list-embedded : Embedded b at images
     list-embedded =
         let n = count in
-        let few : length (patternAt b at) ≤ maxPattern = subst (λ (P : Pattern). length P ≤ maxPattern) same (selected-size (f .case) s) in
+        let few : length (patternAt b at) ≤ maxPattern = subst (λ (P : Pattern). length P ≤ maxPattern) same (selected-size (f .case) s (f .number)) in
         let m = ap (λ (x : List ℕ). length x) read ∙ front-length (listOf l) images₀ (omega arith) in
         record {
           summary = given-summary (f .case);
-          pattern = given-numbered (f .case) s here;
+          pattern = given-numbered (f .case) s (f .number) here;
           enough = omega arith;
           embedding =
               subst (λ (P : Pattern). SummaryEmbedding (caseOf b .summary) P (imageIn (embeddingIn b at images))) same

@@ -82,7 +82,7 @@ module _ (b : List ℕ) (s : ℕ) (l : List ℕ) where
   by-size : (n : ℕ) → minTable ≤ n → layoutRefusal b s l n ≡ layoutRefusal b s l minTable
   unfolding layoutRefusal tableLargeEnough
   by-size n h =
-      ap (λ (t : Bool). refusal (ask 2 t ∷ caseQuestions b ++ ask 12 (patternGiven s) ∷ ask 13 (isSummaryEmbedding (caseOf b) s l) ∷ []))
+      ap (λ (t : Bool). refusal (ask 2 t ∷ caseQuestions b ++ ask 12 (patternGiven (caseOf b) s) ∷ ask 13 (isSummaryEmbedding (caseOf b) s l) ∷ []))
       (le-leb minTable n h ∙ sym (le-leb minTable minTable (omega arith)))
 
   pub accepted-larger : (n : ℕ) → layoutRefusal b s l n ≡ 0 → layoutRefusal b s l minTable ≡ 0
@@ -109,10 +109,10 @@ module _ (b : List ℕ) (s : ℕ) (l : List ℕ) where
       unfolding canonical
       nodes-few =
           let f = accepted-layout b s l n e in
-          let p = selected-facts (caseOf b) s (f .case .facts) .tree in
+          let p = selected-facts (caseOf b) s (f .case .facts) (f .number) .pattern .tree in
           subst (λ (k : ℕ). k ≤ maxCanonical) (length-map (laidNodes b s l) _)
           (canonical-small (caseOf b .summary) (selected (caseOf b) s) (listOf l) (f .case .facts .summary .tree) p (embeddings-sound p (f .case .facts .summary .tree) (f .embedding) .1)
-          (f .case .facts .summarySize) (selected-size (f .case) s))
+          (f .case .facts .summarySize) (selected-size (f .case) s (f .number)))
 
   -- the array's front is the model's records, so what is laid out at the front of a table is the model's outcome
   module _ (n : ℕ) {r : Laid} (refusal : r .refused ≡ layoutRefusal b s l n) (counted : r .count ≡ length (laidFor b s l n)) (nodes : r .nodes ≡ atFront (laidFor b s l n)) where

@@ -1,4 +1,4 @@
--- Questions 3 and 4 by the fields that the code reads: a case that is cut before one of its counts is not whole, since the end
+-- Questions 3, 4 and 14 by the fields that the code reads: a case that is cut before one of its counts is not whole, since the end
 -- lies after every count. Assumes nothing.
 use Prim.Native.Nat.{ℕ, _*_, _/_, _%_, _≤_, _<_}
 use mathlib.Core.Path.{_≡_, refl, sym, ap, _∙_}
@@ -9,13 +9,15 @@ use lib.Dec.{leb, eqb}
 use lib.ListN.{length}
 use borrow.Author.Needs.{needs}
 use borrow.Author.Tests.{ne-eqb, le-leb, lt-leb, eqb-true, eq-eqb}
-use Rattle.model.specs.Limits.{maxCaseBytes, maxSummary, maxPattern, patternWidth}
-use Rattle.model.specs.Bytes.{sectionEnd, firstAt, secondAt, caseEnd, caseOf, isWholeCase}
-use Rattle.model.specs.Questions.{between, caseWhole, countsInRange}
+use Rattle.model.specs.Limits.{maxCaseBytes, maxSummary, maxMembers, patternWidth}
+use Rattle.model.specs.Bytes.{sectionEnd, firstAt, setAt, setEnd, setOf, caseEnd, caseOf, isWholeCase}
+use Rattle.model.specs.Questions.{between, caseWhole, countInRange, countsInRange, setInRange}
+use Rattle.model.specs.Lists.{allOf}
 use Rattle.model.proofs.ListLaws.{bool-ext}
+use Rattle.model.proofs.Bytes.{set-starts}
 use Rattle.format.specs.Given.{summaryIn, patternAt}
 use Rattle.questions.proofs.TestLaws.{and-no}
-use Rattle.questions.proofs.NumberedLaws.{first-pattern, second-pattern}
+use Rattle.questions.proofs.NumberedLaws.{first-pattern, set-members}
 
 -- ---- 3
 
@@ -32,40 +34,41 @@ pub half-field : (b : List ℕ) → (length b % 2 ≡ 0 → ⊥) → false ≡ c
 half-field b n = not-end b (λ e. n (omega arith))
 
 pub no-fields : (b : List ℕ) → length b / 2 ≡ 0 → false ≡ caseWhole b
-no-fields b z = not-end b (λ e. omega arith)
+no-fields b z = let k = set-starts b (setAt b) in not-end b (λ e. omega arith)
 
 module _ (b : List ℕ) (first : ℕ) (p : first ≡ firstAt b) where
   pub cut-at-first : length b / 2 ≤ first → false ≡ caseWhole b
-  cut-at-first h = not-end b (λ e. omega arith)
+  cut-at-first h = let k = set-starts b (setAt b) in not-end b (λ e. omega arith)
 
-  module _ (second : ℕ) (q : second ≡ sectionEnd patternWidth b first) where
-    at-second : second ≡ secondAt b
-    at-second = q ∙ ap (sectionEnd patternWidth b) p
+  module _ (on : ℕ) (q : on ≡ sectionEnd patternWidth b first) where
+    at-set : on ≡ setAt b
+    at-set = q ∙ ap (sectionEnd patternWidth b) p
 
-    pub cut-at-second : length b / 2 ≤ second → false ≡ caseWhole b
-    cut-at-second h = let s = at-second in not-end b (λ e. omega arith)
+    pub cut-at-set : length b / 2 ≤ on → false ≡ caseWhole b
+    cut-at-set h = let s = at-set in let k = set-starts b (setAt b) in not-end b (λ e. omega arith)
 
     -- where no half field is left, the number of fields decides
-    pub whole-by-fields : (end : ℕ) → end ≡ sectionEnd patternWidth b second → length b ≤ maxCaseBytes → length b % 2 ≡ 0 → eqb (length b / 2) end ≡ caseWhole b
+    pub whole-by-fields : (r : Bool) → r ≡ eqb (length b / 2) (setEnd b on) → length b ≤ maxCaseBytes → length b % 2 ≡ 0 → r ≡ caseWhole b
     unfolding caseWhole isWholeCase
-    whole-by-fields end r h z = rw (le-leb (length b) maxCaseBytes h) (bool-ext (eqb (length b / 2) end) (eqb (length b) (2 * caseEnd b)) forth back)
+    whole-by-fields r a h z = a ∙ rw (at-set, le-leb (length b) maxCaseBytes h) (bool-ext (eqb (length b / 2) (caseEnd b)) (eqb (length b) (2 * caseEnd b)) forth back)
       where
-        at-end : end ≡ caseEnd b
-        at-end = r ∙ ap (sectionEnd patternWidth b) at-second
+        forth : eqb (length b / 2) (caseEnd b) ≡ true → eqb (length b) (2 * caseEnd b) ≡ true
+        forth e = let q = eqb-true (length b / 2) (caseEnd b) e in eq-eqb (length b) (2 * caseEnd b) (omega arith)
 
-        forth : eqb (length b / 2) end ≡ true → eqb (length b) (2 * caseEnd b) ≡ true
-        forth e = let s = at-end in let q = eqb-true (length b / 2) end e in eq-eqb (length b) (2 * caseEnd b) (omega arith)
+        back : eqb (length b) (2 * caseEnd b) ≡ true → eqb (length b / 2) (caseEnd b) ≡ true
+        back e = let q = eqb-true (length b) (2 * caseEnd b) e in eq-eqb (length b / 2) (caseEnd b) (omega arith)
 
-        back : eqb (length b) (2 * caseEnd b) ≡ true → eqb (length b / 2) end ≡ true
-        back e = let s = at-end in let q = eqb-true (length b) (2 * caseEnd b) e in eq-eqb (length b / 2) end (omega arith)
+pub ruleset whole = (needs, too-long, half-field, no-fields, cut-at-first, cut-at-set, whole-by-fields)
 
-pub ruleset whole = (needs, too-long, half-field, no-fields, cut-at-first, cut-at-second, whole-by-fields)
+-- ---- 4 and 14
 
--- ---- 4
-
--- by the three tables
-pub counts-asked : (b : List ℕ) (first second : ℕ) (r : Bool) → first ≡ firstAt b → second ≡ secondAt b
-    → r ≡ (between 1 maxSummary (length (summaryIn b)) && between 1 maxPattern (length (patternAt b first)) && between 1 maxPattern (length (patternAt b second)))
+-- by the tables
+pub counts-asked : (b : List ℕ) (first on : ℕ) (r : Bool) → first ≡ firstAt b → on ≡ setAt b
+    → r ≡ (between 1 maxSummary (length (summaryIn b)) && countInRange (patternAt b first) && allOf countInRange (setOf b on))
     → r ≡ countsInRange (caseOf b)
 unfolding countsInRange
-counts-asked b first second r p q e = rw (first-pattern b first p, second-pattern b second q) e
+counts-asked b first on r p q e = rw (first-pattern b first p, set-members b on q) e
+
+pub set-asked : (b : List ℕ) (on n : ℕ) (r : Bool) → on ≡ setAt b → n ≡ length (setOf b on) → r ≡ between 1 maxMembers n → r ≡ setInRange (caseOf b)
+unfolding setInRange
+set-asked b on n r p q e = rw (set-members b on p, ← q) e

@@ -1,8 +1,8 @@
 -- Questions 10 and 11 by the fields that the code reads. Assumes nothing.
 use Prim.Native.Nat.{ℕ, _+_, _*_, _/_, _%_, _≤_, _<_}
-use mathlib.Core.Path.{_≡_, refl, sym, ap, _∙_}
+use mathlib.Core.Path.{_≡_, sym, ap, _∙_}
 use mathlib.Core.Bool.{Bool, true, false, _&&_, not}
-use mathlib.Core.List.{List, [], _∷_, map}
+use mathlib.Core.List.{List}
 use native.Mathlib.Omega.{arith}
 use lib.Dec.{eqb, ltb}
 use lib.ListN.{length}
@@ -11,14 +11,14 @@ use Rattle.model.specs.Limits.{documentWidth}
 use Rattle.model.specs.Lists.{upFrom, allOf}
 use Rattle.model.specs.Pattern.{arity}
 use Rattle.model.specs.Bytes.{field, sectionEnd, WholeSection, caseOf, documentOf, isWholeDocument, listOf, isWholeList}
-use Rattle.model.specs.Questions.{listInRange, selected}
+use Rattle.model.specs.Questions.{listInRange, patternGiven, selected}
 use Rattle.format.specs.Given.{patternAt}
 use Rattle.format.proofs.GivenLaws.{whole-document}
 use Rattle.format.proofs.ListLaws.{list-count}
 use Rattle.questions.specs.Numbered.{numberedAt}
 use Rattle.questions.proofs.NumberedLaws.{numbered-pattern}
 use Rattle.questions.proofs.TestLaws.{said-yes}
-use Rattle.questions.proofs.LoopLaws.{Passed, passed-more, all-passed, one-failed}
+use Rattle.questions.proofs.LoopLaws.{Passed, passed-more, all-passed, one-failed, all-map}
 
 -- ---- a document
 
@@ -30,11 +30,6 @@ pub asked-section : (answer : Bool) (w : List ℕ) → answer ≡ isWholeDocumen
 asked-section answer w e t = whole-document w (said-yes answer (isWholeDocument w) e t)
 
 -- ---- a list
-
-all-map : {A : Type 0} (test : A → Bool) (f : ℕ → A) (xs : List ℕ) → allOf test (map f xs) ≡ allOf (λ i. test (f i)) xs
-unfolding allOf
-all-map test f [] = refl
-all-map test f (x ∷ xs) = ap (λ (t : Bool). elim (test (f x)) as (λ _. Bool) [ true ↦ t | false ↦ false ]) (all-map test f xs)
 
 -- 11, by the fields
 pub list-asked : (k n : ℕ) (l : List ℕ) (r : Bool) → r ≡ (eqb (length l % 2) 0 && eqb (length l / 2) k && allOf (λ i. ltb (field l i) n) (upFrom 0 (length l / 2)))
@@ -64,6 +59,6 @@ pub entry-more : (l : List ℕ) (n i v : ℕ) → Below l n i → v ≡ field l 
 entry-more l n i v p e h = passed-more (λ j. ltb (field l j) n) 0 i p (rw (← e) (lt-ltb v n h))
 
 -- of the pattern that a number gives and of the document
-pub result-asked : (b : List ℕ) (s at k : ℕ) (w : List ℕ) (n : ℕ) (l : List ℕ) (r : Bool) → at ≡ numberedAt b s → k ≡ arity (patternAt b at)
+pub result-asked : (b : List ℕ) (s at k : ℕ) (w : List ℕ) (n : ℕ) (l : List ℕ) (r : Bool) → patternGiven (caseOf b) s ≡ true → at ≡ numberedAt b s → k ≡ arity (patternAt b at)
     → n ≡ length (documentOf w) → r ≡ listInRange k n l → r ≡ listInRange (arity (selected (caseOf b) s)) (length (documentOf w)) l
-result-asked b s at k w n l r p q e a = rw (numbered-pattern b s at p, ← q, ← e) a
+result-asked b s at k w n l r g p q e a = rw (numbered-pattern b s at g p, ← q, ← e) a

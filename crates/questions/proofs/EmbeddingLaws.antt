@@ -16,7 +16,7 @@ use Rattle.model.specs.Summary.{Summary, asDocument, summaryParent, summaryLabe
 use Rattle.model.specs.Pattern.{Pattern, noPatternRecord, IsPatternTree, patternParent, patternLabel, descends, labelFits, Embeds}
 use Rattle.model.specs.Embeddings.{belowTest, climbs, edgeTest, imageIn, summaryEmbeddings}
 use Rattle.model.specs.Bytes.{caseOf, listOf, isWholeList}
-use Rattle.model.specs.Questions.{isSummaryEmbedding, selected, refusal, caseQuestions}
+use Rattle.model.specs.Questions.{patternGiven, isSummaryEmbedding, selected, refusal, caseQuestions}
 use Rattle.model.proofs.ListLaws.{bool-ext, and-intro, and-left, and-right, any-intro, any-elim, all-below, below-all, same-eq, same-refl}
 use Rattle.model.proofs.TreeLaws.{length-asDocument, test-below, below-test, below-cases, test-edge, edge-test}
 use Rattle.model.proofs.Embeddings.{embeddings-sound, embeddings-complete-list}
@@ -198,10 +198,10 @@ parent-imaged b at l q p i h n e =
 
 -- ---- the question
 
-module _ (b : List ℕ) (s at : ℕ) (l : List ℕ) (accepts : refusal (caseQuestions b) ≡ 0) (p : at ≡ numberedAt b s) where
+module _ (b : List ℕ) (s at : ℕ) (l : List ℕ) (accepts : refusal (caseQuestions b) ≡ 0) (g : patternGiven (caseOf b) s ≡ true) (p : at ≡ numberedAt b s) where
   pub images-given : (n : ℕ) → n ≡ length (patternAt b at) → length l / 2 ≡ n → Images b at l
   images-given n e half =
-      record { summary = given-summary (accepted b accepts); pattern = given-numbered (accepted b accepts) s p; count = list-count l ∙ half ∙ e }
+      record { summary = given-summary (accepted b accepts); pattern = given-numbered (accepted b accepts) s g p; count = list-count l ∙ half ∙ e }
 
   -- 13, by the fields
   pub embedding-asked : (r : Bool) → r ≡ (eqb (length l % 2) 0 && (eqb (length l / 2) (length (patternAt b at)) && allOf (imageKeptIn b at l) (upFrom 0 (length (patternAt b at)))))
@@ -210,9 +210,9 @@ module _ (b : List ℕ) (s at : ℕ) (l : List ℕ) (accepts : refusal (caseQues
   embedding-asked r e =
       let S : Summary = summaryIn b in
       let P : Pattern = patternAt b at in
-      let listed = listed-by-tests S P (listOf l) (given-numbered (accepted b accepts) s p .tree) (given-summary (accepted b accepts) .tree) in
+      let listed = listed-by-tests S P (listOf l) (given-numbered (accepted b accepts) s g p .tree) (given-summary (accepted b accepts) .tree) in
       let same : anyOf (sameList (listOf l)) (summaryEmbeddings S (selected (caseOf b) s)) ≡ anyOf (sameList (listOf l)) (summaryEmbeddings S P) =
-      ap (λ (Q : Pattern). anyOf (sameList (listOf l)) (summaryEmbeddings S Q)) (numbered-pattern b s at p) in
+      ap (λ (Q : Pattern). anyOf (sameList (listOf l)) (summaryEmbeddings S Q)) (numbered-pattern b s at g p) in
       let counts = ap (λ (m : ℕ). eqb m (length P) && allOf (imageKept S P (listOf l)) (upFrom 0 (length P))) (list-count l) in
       e ∙ sym (ap (λ (t : Bool). eqb (length l % 2) 0 && t) (same ∙ listed ∙ counts))
 

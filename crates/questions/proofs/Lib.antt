@@ -1,6 +1,7 @@
 pub mod TestLaws
 pub mod NumberedLaws
 pub mod LoopLaws
+pub mod MemberLaws
 pub mod CaseLaws
 pub mod SummaryLaws
 pub mod PatternLaws

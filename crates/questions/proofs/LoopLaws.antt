@@ -4,7 +4,7 @@ use Prim.Native.Nat.{ℕ, suc, _+_, _≤_, _<_}
 use mathlib.Core.Path.{_≡_, refl, sym, ap, _∙_}
 use mathlib.Core.Bool.{Bool, true, false, not}
 use mathlib.Core.Logic.{_⊎_, inl, inr}
-use mathlib.Core.List.{List, [], _∷_, _++_}
+use mathlib.Core.List.{List, [], _∷_, _++_, map}
 use native.Mathlib.Omega.{arith}
 use native.Mathlib.Numerals.{add-one}
 use lib.ListN.{length, getD, take}
@@ -44,6 +44,12 @@ module _ (test : ℕ → Bool) (a : ℕ) where
       go : (allOf test (upFrom a n) ≡ true) ⊎ (allOf test (upFrom a n) ≡ false) → allOf test (upFrom a n) ≡ false
       go (inl y) = absurd (not-both (test i) (all-elim test (upFrom a n) y i (mem-upFrom a n i l u)) e)
       go (inr q) = q
+
+-- a list made of a range is tested number by number
+pub all-map : {A : Type 0} (test : A → Bool) (f : ℕ → A) (xs : List ℕ) → allOf test (map f xs) ≡ allOf (λ i. test (f i)) xs
+unfolding allOf
+all-map test f [] = refl
+all-map test f (x ∷ xs) = ap (λ (t : Bool). elim (test (f x)) as (λ _. Bool) [ true ↦ t | false ↦ false ]) (all-map test f xs)
 
 -- ---- a loop `for i in 0..count` that asks `if !answer(i) { return false; }`, where count is the table's length
 

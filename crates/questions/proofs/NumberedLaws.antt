@@ -1,43 +1,70 @@
 -- The patterns of a case by the fields where they begin, and the pattern that a number gives. Assumes nothing.
-use Prim.Native.Nat.{ℕ, _<_}
+use Prim.Native.Nat.{ℕ, _+_, _-_, _*_, _≤_, _<_}
 use mathlib.Core.Path.{_≡_, refl, sym, ap, _∙_, subst⁻¹}
-use mathlib.Core.Bool.{Bool, true, false}
-use mathlib.Core.List.{List}
+use mathlib.Core.Bool.{Bool, true, false, not}
+use mathlib.Core.List.{List, []}
 use native.Mathlib.Omega.{arith}
 use lib.Dec.{eqb}
-use lib.ListN.{length}
+use lib.ListN.{length, getD}
 use borrow.Author.Needs.{needs}
-use borrow.Author.Tests.{ne-eqb, eq-eqb}
+use borrow.Author.Tests.{ne-eqb, eq-eqb, eqb-false}
 use Rattle.model.specs.Limits.{summaryWidth, patternWidth}
 use Rattle.model.specs.Pattern.{Pattern}
-use Rattle.model.specs.Bytes.{firstAt, secondAt, caseOf, WholeSection, isWholeCase}
-use Rattle.model.specs.Questions.{selected}
-use Rattle.model.proofs.ListLaws.{by-bool}
+use Rattle.model.specs.Bytes.{firstAt, setAt, memberAt, setOf, caseOf, WholeSection, WholeSet, isWholeCase}
+use Rattle.model.specs.Questions.{patternGiven, selected}
 use Rattle.model.proofs.Bytes.{whole-case}
+use Rattle.model.proofs.CaseFacts.{between-facts}
 use Rattle.format.specs.Given.{patternAt}
+use Rattle.format.proofs.SectionLaws.{set-below, set-member}
 use Rattle.questions.specs.Numbered.{numberedAt}
+use Rattle.questions.proofs.TestLaws.{said-yes}
 
 -- which field a number gives
 pub numbered-first : (b : List ℕ) (s at : ℕ) → at ≡ firstAt b → s ≡ 1 → at ≡ numberedAt b s
 numbered-first b s at e y = rw (eq-eqb s 1 y, numberedAt) e
 
-pub numbered-second : (b : List ℕ) (s at : ℕ) → at ≡ secondAt b → (s ≡ 1 → ⊥) → at ≡ numberedAt b s
-numbered-second b s at e n = rw (ne-eqb s 1 n, numberedAt) e
+pub numbered-member : (b : List ℕ) (s on at : ℕ) → on ≡ setAt b → at ≡ memberAt b on (s - 2) → (s ≡ 1 → ⊥) → at ≡ numberedAt b s
+numbered-member b s on at p e n = rw (ne-eqb s 1 n, numberedAt) (e ∙ ap (λ (k : ℕ). memberAt b k (s - 2)) p)
 
 -- the patterns
 pub first-pattern : (b : List ℕ) (at : ℕ) → at ≡ firstAt b → caseOf b .first ≡ patternAt b at
 unfolding caseOf
 first-pattern b at e = ap (patternAt b) (sym e)
 
-pub second-pattern : (b : List ℕ) (at : ℕ) → at ≡ secondAt b → caseOf b .second ≡ patternAt b at
+pub set-members : (b : List ℕ) (on : ℕ) → on ≡ setAt b → caseOf b .members ≡ setOf b on
 unfolding caseOf
-second-pattern b at e = ap (patternAt b) (sym e)
+set-members b on e = ap (setOf b) (sym e)
 
-pub numbered-pattern : (b : List ℕ) (s at : ℕ) → at ≡ numberedAt b s → selected (caseOf b) s ≡ patternAt b at
+-- a number that was answered to give a pattern does; where that is not the first, it is a member
+pub number-told : (answer : Bool) (b : List ℕ) (s : ℕ) → answer ≡ patternGiven (caseOf b) s → not answer ≡ false → patternGiven (caseOf b) s ≡ true
+number-told answer b s e t = said-yes answer (patternGiven (caseOf b) s) e t
+
+pub number-least : (b : List ℕ) (s : ℕ) → patternGiven (caseOf b) s ≡ true → (s ≡ 1 → ⊥) → 2 ≤ s
+unfolding patternGiven
+number-least b s g n = let r = between-facts 1 (length (caseOf b .members) + 1) s g in omega arith
+
+pub number-below : (b : List ℕ) (s on : ℕ) → patternGiven (caseOf b) s ≡ true → on ≡ setAt b → (s ≡ 1 → ⊥) → s - 2 < length (setOf b on)
+unfolding patternGiven
+number-below b s on g e n =
+    let r = between-facts 1 (length (caseOf b .members) + 1) s g in
+    let m : length (caseOf b .members) ≡ length (setOf b on) = ap length (set-members b on e) in
+    omega arith
+
+-- what holds of the first pattern and of each member, with the fields that hold their counts, holds of the one that a number gives
+by-number : (b : List ℕ) (s : ℕ) (F : ℕ → Pattern → Type 0) → patternGiven (caseOf b) s ≡ true → F (firstAt b) (caseOf b .first)
+    → ((i : ℕ) → i < length (setOf b (setAt b)) → F (memberAt b (setAt b) i) (getD (setOf b (setAt b)) i [])) → F (numberedAt b s) (selected (caseOf b) s)
 unfolding caseOf
-numbered-pattern b s at e =
-    by-bool (λ (t : Bool). (elim t as (λ _. Pattern) [ true ↦ caseOf b .first | false ↦ caseOf b .second ])
-    ≡ patternAt b (elim t as (λ _. ℕ) [ true ↦ firstAt b | false ↦ secondAt b ])) (eqb s 1) refl refl ∙ ap (patternAt b) (sym e)
+by-number b s F g f m = go (eqb s 1) refl
+  where
+    go : (t : Bool) → eqb s 1 ≡ t
+        → F (elim t as (λ _. ℕ) [ true ↦ firstAt b | false ↦ memberAt b (setAt b) (s - 2) ])
+        (elim t as (λ _. Pattern) [ true ↦ caseOf b .first | false ↦ getD (caseOf b .members) (s - 2) [] ])
+    go true k = f
+    go false k = m (s - 2) (number-below b s (setAt b) g refl (eqb-false s 1 k))
+
+pub numbered-pattern : (b : List ℕ) (s at : ℕ) → patternGiven (caseOf b) s ≡ true → at ≡ numberedAt b s → selected (caseOf b) s ≡ patternAt b at
+numbered-pattern b s at g e =
+    by-number b s (λ n P. P ≡ patternAt b n) g (first-pattern b (firstAt b) refl) (λ i h. set-member b (setAt b) i h) ∙ ap (patternAt b) (sym e)
 
 -- the sections of a whole case are whole
 pub whole-summary : (b : List ℕ) → isWholeCase b ≡ true → WholeSection summaryWidth b 0
@@ -46,17 +73,20 @@ whole-summary b w = whole-case b .0 w .summary
 pub first-section : (b : List ℕ) (at : ℕ) → isWholeCase b ≡ true → at ≡ firstAt b → WholeSection patternWidth b at
 first-section b at w e = subst⁻¹ (WholeSection patternWidth b) e (whole-case b .0 w .first)
 
-pub second-section : (b : List ℕ) (at : ℕ) → isWholeCase b ≡ true → at ≡ secondAt b → WholeSection patternWidth b at
-second-section b at w e = subst⁻¹ (WholeSection patternWidth b) e (whole-case b .0 w .second)
+pub set-sections : (b : List ℕ) (on : ℕ) → isWholeCase b ≡ true → on ≡ setAt b → WholeSet b on
+set-sections b on w e = subst⁻¹ (WholeSet b) e (whole-case b .0 w .members)
 
-pub numbered-section : (b : List ℕ) (s at : ℕ) → isWholeCase b ≡ true → at ≡ numberedAt b s → WholeSection patternWidth b at
-numbered-section b s at w e =
+pub numbered-section : (b : List ℕ) (s at : ℕ) → isWholeCase b ≡ true → patternGiven (caseOf b) s ≡ true → at ≡ numberedAt b s → WholeSection patternWidth b at
+numbered-section b s at w g e =
     subst⁻¹ (WholeSection patternWidth b) e
-    (by-bool (λ (t : Bool). WholeSection patternWidth b (elim t as (λ _. ℕ) [ true ↦ firstAt b | false ↦ secondAt b ])) (eqb s 1)
-    (whole-case b .0 w .first) (whole-case b .0 w .second))
+    (by-number b s (λ n P. WholeSection patternWidth b n) g (whole-case b .0 w .first)
+    (λ i h. whole-case b .0 w .members .sections i (set-below b (setAt b) i h)))
 
--- a whole case has its first count
+-- a whole case has its first count and the set's
 pub whole-count : (b : List ℕ) → isWholeCase b ≡ true → 1 < length b
 whole-count b w = let s = whole-case b .0 w .summary .count in omega arith
 
-pub ruleset sections = (needs, whole-summary, first-section, second-section, numbered-section, whole-count, numbered-first, numbered-second)
+pub whole-set-count : (b : List ℕ) (on : ℕ) → isWholeCase b ≡ true → on ≡ setAt b → 2 * (on + 1) ≤ length b
+whole-set-count b on w e = set-sections b on w e .count
+
+pub ruleset sections = (needs, whole-summary, first-section, set-sections, numbered-section, whole-count, whole-set-count, numbered-first, numbered-member, number-told, number-least, number-below)

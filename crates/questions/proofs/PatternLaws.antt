@@ -5,20 +5,22 @@ use mathlib.Core.Bool.{Bool, true, false, _&&_, _||_}
 use mathlib.Core.List.{List}
 use native.Mathlib.Omega.{arith}
 use lib.Dec.{eqb, leb, ltb}
-use lib.ListN.{getD}
+use lib.ListN.{length, getD}
 use borrow.Author.Needs.{needs}
 use borrow.Author.Tests.{le-leb, lt-leb, eq-eqb, ne-eqb}
 use Rattle.model.specs.Lists.{upFrom, allOf, countOf}
 use Rattle.model.specs.Limits.{maxPosition}
 use Rattle.model.specs.Pattern.{PatternRecord, Pattern, noPatternRecord, patternParent, position, arity}
 use Rattle.model.specs.Fitting.{parentRule}
-use Rattle.model.specs.Bytes.{Case, firstAt, secondAt, caseOf}
+use Rattle.model.specs.Bytes.{Case, firstAt, setAt, setOf, caseOf}
 use Rattle.model.specs.Questions.{patternRecordKept, patternKept, patternsKept, positionsOnce, positionsKept, patternGiven, positionGiven, between, selected}
 use Rattle.format.specs.Given.{patternAt}
+use Rattle.questions.specs.declared.members.Asked.the-variants.{Positions}
+use Rattle.questions.specs.Members.{askedOf}
 use Rattle.questions.specs.Numbered.{numberedAt}
 use Rattle.questions.proofs.TestLaws.{and-no, and-assoc, and-no-left}
 use Rattle.questions.proofs.LoopLaws.{Passed, passed-none, passed-more, all-passed, one-failed}
-use Rattle.questions.proofs.NumberedLaws.{first-pattern, second-pattern, numbered-pattern}
+use Rattle.questions.proofs.NumberedLaws.{first-pattern, set-members, numbered-pattern}
 
 -- 7, with the rule for the flag by itself
 module _ (P : Pattern) (q : ℕ) where
@@ -31,25 +33,28 @@ module _ (P : Pattern) (q : ℕ) where
   pattern-asked r e = e ∙ ap (λ (t : Bool). t && leb (position P q) maxPosition) (sym (and-assoc (parentRule q (patternParent P q)) (leb edgeOf 1) (ltb 0 q || eqb edgeOf 0)))
 
 -- 7 and 8 by the fields where the patterns begin
-module _ (b : List ℕ) (first second : ℕ) (r : Bool) (p : first ≡ firstAt b) (s : second ≡ secondAt b) where
-  pub patterns-asked : r ≡ (patternKept (patternAt b first) && patternKept (patternAt b second)) → r ≡ patternsKept (caseOf b)
+module _ (b : List ℕ) (first on : ℕ) (r : Bool) (p : first ≡ firstAt b) (s : on ≡ setAt b) where
+  pub patterns-asked : r ≡ (patternKept (patternAt b first) && allOf patternKept (setOf b on)) → r ≡ patternsKept (caseOf b)
   unfolding patternsKept
-  patterns-asked e = rw (first-pattern b first p, second-pattern b second s) e
+  patterns-asked e = rw (first-pattern b first p, set-members b on s) e
 
-  pub positions-asked : r ≡ (positionsOnce (patternAt b first) && positionsOnce (patternAt b second) && eqb (arity (patternAt b first)) (arity (patternAt b second)))
-      → r ≡ positionsKept (caseOf b)
+  pub positions-asked : (k : ℕ) → k ≡ arity (patternAt b first) → r ≡ (positionsOnce (patternAt b first) && allOf (askedOf (Positions k)) (setOf b on)) → r ≡ positionsKept (caseOf b)
   unfolding positionsKept
-  positions-asked e = rw (first-pattern b first p, second-pattern b second s) e
+  positions-asked k a e = rw (first-pattern b first p, set-members b on s, ← a) e
 
--- 12 by the pattern that the number gives
-pub position-no : (c : Case) (s p : ℕ) → false ≡ patternGiven s → false ≡ positionGiven c s p
+-- 12 by the set's count, and by the pattern that the number gives
+pub number-asked : (b : List ℕ) (on n s : ℕ) (r : Bool) → on ≡ setAt b → n ≡ length (setOf b on) → r ≡ between 1 (n + 1) s → r ≡ patternGiven (caseOf b) s
+unfolding patternGiven
+number-asked b on n s r p q e = rw (set-members b on p, ← q) e
+
+pub position-no : (c : Case) (s p : ℕ) → false ≡ patternGiven c s → false ≡ positionGiven c s p
 unfolding positionGiven
-position-no c s p e = and-no-left (patternGiven s) (between 1 (arity (selected c s)) p) e
+position-no c s p e = and-no-left (patternGiven c s) (between 1 (arity (selected c s)) p) e
 
-pub position-asked : (b : List ℕ) (s at p : ℕ) (r : Bool) → at ≡ numberedAt b s → r ≡ (patternGiven s && between 1 (arity (patternAt b at)) p)
+pub position-asked : (b : List ℕ) (s at p : ℕ) (r : Bool) → patternGiven (caseOf b) s ≡ true → at ≡ numberedAt b s → r ≡ between 1 (arity (patternAt b at)) p
     → r ≡ positionGiven (caseOf b) s p
 unfolding positionGiven
-position-asked b s at p r e a = rw (numbered-pattern b s at e) a
+position-asked b s at p r g e a = rw (g, numbered-pattern b s at g e) a
 
 -- 8 of one pattern, whose k is read and whose positions are then counted
 abbrev pub heldOnce : Pattern → ℕ → Bool

@@ -1,6 +1,7 @@
 -- A return of a refusal, after questions that were asked in order: each that was answered yes leaves the decision to what is asked
 -- after it, and the first that was answered no decides; the case questions, asked among others, do either as a whole. `search asked`
--- goes through the questions of a call by these laws. Assumes nothing.
+-- goes through the questions of a call by these laws, and `search required` through what a question requires of those before it.
+-- Assumes nothing.
 use Prim.Native.Nat.{ℕ}
 use mathlib.Core.Path.{_≡_, refl, sym, _∙_}
 use mathlib.Core.Bool.{Bool, true, false, not}
@@ -9,7 +10,8 @@ use native.Mathlib.Omega.{arith}
 use borrow.Author.Needs.{needs}
 use Rattle.model.specs.Limits.{documentWidth}
 use Rattle.model.specs.Bytes.{isWholeCase, WholeSection}
-use Rattle.model.specs.Questions.{caseWhole, documentKept, ask, Question, refusal, caseQuestions}
+use Rattle.model.specs.Summary.{Summary}
+use Rattle.model.specs.Questions.{caseWhole, summaryKept, documentKept, ask, Question, refusal, caseQuestions}
 use Rattle.model.specs.Facts.{AcceptedCase}
 use Rattle.model.proofs.Bytes.{whole-case}
 use Rattle.model.proofs.CallFacts.{document-facts}
@@ -17,6 +19,7 @@ use Rattle.model.proofs.CaseFacts.{accepted-case}
 use Rattle.model.proofs.Refusals.{AllYes, Numbered, accepted-all-yes, refusal-after, refusal-kept, refusal-yes, refusal-no}
 use Rattle.format.proofs.GivenLaws.{whole-document}
 use Rattle.questions.proofs.TestLaws.{said-no, said-yes}
+use Rattle.questions.proofs.NumberedLaws.{number-told}
 
 -- ---- one question
 
@@ -34,7 +37,7 @@ asked-all = refl
 
 numbered : (b : List ℕ) → Numbered (caseQuestions b)
 unfolding caseQuestions
-numbered b = (omega arith, (omega arith, (omega arith, (omega arith, (omega arith, (omega arith, tt))))))
+numbered b = (omega arith, (omega arith, (omega arith, (omega arith, (omega arith, (omega arith, (omega arith, tt)))))))
 
 all-yes : (b : List ℕ) → refusal (caseQuestions b) ≡ 0 → AllYes (caseQuestions b)
 all-yes b e = accepted-all-yes (caseQuestions b) (numbered b) e
@@ -52,6 +55,9 @@ pub asked-whole : (answer : Bool) (b : List ℕ) → answer ≡ caseWhole b → 
 unfolding caseWhole
 asked-whole answer b e t = said-yes answer (isWholeCase b) e t
 
+pub asked-summary : (answer : Bool) (S : Summary) → answer ≡ summaryKept S → not answer ≡ false → summaryKept S ≡ true
+asked-summary answer S e t = said-yes answer (summaryKept S) e t
+
 pub case-accepts : (refused : ℕ) (b : List ℕ) → refused ≡ refusal (caseQuestions b) → refused ≡ 0 → refusal (caseQuestions b) ≡ 0
 case-accepts refused b e z = sym e ∙ z
 
@@ -65,4 +71,6 @@ accepted b e = record { whole = whole-case b .0 (accepted-whole b e); facts = ac
 pub asked-document : (answer : Bool) (w : List ℕ) → answer ≡ documentKept w → not answer ≡ false → WholeSection documentWidth w 0
 asked-document answer w e t = whole-document w (document-facts w (said-yes answer (documentKept w) e t) .whole)
 
-pub ruleset asked = (needs, asked-no, asked-yes, asked-all, case-no, case-yes, asked-whole, case-accepts, accepted-whole, asked-document)
+pub ruleset asked = (needs, asked-no, asked-yes, asked-all, case-no, case-yes)
+
+pub ruleset required = (needs, asked-whole, case-accepts, accepted-whole, asked-document, number-told)

@@ -1,3 +1,4 @@
 pub mod Numbered
+pub mod Members
 pub mod Rules
 pub mod Images

@@ -2,6 +2,7 @@
 // summary's parents, so a test takes as many steps as the pattern has nodes times the summary's depth.
 
 ghost use mathlib.Core.Path.{_≡_};
+ghost use mathlib.Core.Bool.{true};
 ghost use Prim.Native.Nat.{_<_};
 ghost use lib.Dec.{eqb};
 ghost use lib.ListN.{length};
@@ -10,7 +11,7 @@ ghost use Rattle.model.specs.Lists.{upFrom, allOf};
 ghost use Rattle.model.specs.Summary.{asDocument};
 ghost use Rattle.model.specs.Embeddings.{childTest, belowTest, edgeTest, imageIn};
 ghost use Rattle.model.specs.Bytes.{caseOf, listOf, WholeSection};
-ghost use Rattle.model.specs.Questions.{isSummaryEmbedding, refusal, caseQuestions};
+ghost use Rattle.model.specs.Questions.{patternGiven, isSummaryEmbedding, refusal, caseQuestions};
 ghost use Rattle.format.specs.Given.{summaryIn, patternAt, SummaryGiven};
 ghost use Rattle.questions.specs.Images.{reachedIn, imageKeptIn, Images};
 use crate::pattern::numbered_at;
@@ -120,9 +121,10 @@ pub fn images_kept(b: &[u8], at: usize, l: &[u8]) -> bool
     true
 }
 
-// 13. Is the list an embedding of that pattern into the summary? The case is one that questions 3 to 8 accept.
+// 13. Is the list an embedding of that pattern into the summary? The case is one that questions 3 to 8 accept, and 12 the number.
 pub fn is_embedding_list(b: &[u8], number: u64, l: &[u8]) -> bool
     requires { ⌜ refusal (caseQuestions (now b)) ≡ 0 ⌝ }
+    requires { ⌜ patternGiven (caseOf (now b)) number ≡ true ⌝ }
     ensures { λ r. ⌜ r ≡ isSummaryEmbedding (caseOf (now (b .entry))) number (now (l .entry)) ⌝ }
 {
     let at = numbered_at(b, number);

@@ -4,6 +4,7 @@ pub mod case;
 pub mod document;
 pub mod embedding;
 pub mod list;
+pub mod members;
 pub mod numbers;
 pub mod pattern;
 pub mod refusals;

@@ -6,7 +6,7 @@ ghost use lib.ListN.{length};
 ghost use Rattle.model.specs.Limits.{documentWidth};
 ghost use Rattle.model.specs.Pattern.{arity as arityOf};
 ghost use Rattle.model.specs.Bytes.{caseOf, documentOf, isWholeCase, WholeSection};
-ghost use Rattle.model.specs.Questions.{listInRange, selected};
+ghost use Rattle.model.specs.Questions.{listInRange, patternGiven, selected};
 use crate::pattern::arity;
 use crate::pattern::numbered_at;
 use format::document::document_count;
@@ -34,6 +34,7 @@ pub fn list_in_range(k: usize, n: usize, r: &[u8]) -> bool
 // 11, with k of the pattern that a number gives.
 pub fn result_in_range(b: &[u8], number: u64, w: &[u8], r: &[u8]) -> bool
     requires { ⌜ isWholeCase (now b) ≡ true ⌝ }
+    requires { ⌜ patternGiven (caseOf (now b)) number ≡ true ⌝ }
     requires { ⌜ WholeSection documentWidth (now w) 0 ⌝ }
     ensures { λ x. ⌜ x ≡ listInRange (arityOf (selected (caseOf (now (b .entry))) number)) (length (documentOf (now (w .entry)))) (now (r .entry)) ⌝ }
 {

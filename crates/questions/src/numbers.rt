@@ -1,7 +1,7 @@
-// The questions on numbers alone: 1, 2, 9 and, of the pattern's number, 12.
+// The questions on numbers alone: 1, 2 and 9.
 
 ghost use mathlib.Core.Path.{_≡_};
-ghost use Rattle.model.specs.Questions.{limitInRange, bufferLargeEnough, tableLargeEnough, tallyInRange, patternGiven};
+ghost use Rattle.model.specs.Questions.{limitInRange, bufferLargeEnough, tableLargeEnough, tallyInRange};
 use crate::rules::between;
 use format::limits::MAX_LIMIT;
 use format::limits::MAX_TALLY;
@@ -34,11 +34,4 @@ pub fn tally_in_range(tally: u64, limit: u64) -> bool
     ensures { λ r. ⌜ r ≡ tallyInRange tally limit ⌝ }
 {
     limit <= MAX_TALLY && tally <= MAX_TALLY - limit
-}
-
-// 12. Is the pattern's number 1 or 2?
-pub fn pattern_given(number: u64) -> bool
-    ensures { λ r. ⌜ r ≡ patternGiven number ⌝ }
-{
-    between(1, 2, number)
 }

@@ -5,21 +5,22 @@ ghost use mathlib.Core.Path.{_≡_};
 ghost use Rattle.model.specs.Questions.{refusal, caseQuestions, verdictRefusal, fitsRefusal, resultRefusal, nodesRefusal, pathsRefusal, layoutRefusal};
 use crate::case::case_whole;
 use crate::case::counts_in_range;
+use crate::case::set_in_range;
 use crate::document::document_kept;
 use crate::embedding::is_embedding_list;
 use crate::list::result_in_range;
+use crate::members::patterns_kept;
+use crate::members::positions_kept;
 use crate::numbers::buffer_large_enough;
 use crate::numbers::limit_in_range;
-use crate::numbers::pattern_given;
 use crate::numbers::table_large_enough;
 use crate::numbers::tally_in_range;
-use crate::pattern::patterns_kept;
+use crate::pattern::pattern_given;
 use crate::pattern::position_given;
-use crate::pattern::positions_kept;
 use crate::summary::siblings_differ;
 use crate::summary::summary_kept;
 
-// Questions 3 to 8, which every call asks of its case.
+// Questions 3 to 8, with 14 right after 4, which every call asks of its case.
 pub fn case_refusal(b: &[u8]) -> u64
     ensures { λ r. ⌜ r ≡ refusal (caseQuestions (now (b .entry))) ⌝ }
 {
@@ -28,6 +29,9 @@ pub fn case_refusal(b: &[u8]) -> u64
     }
     if !counts_in_range(b) {
         return 4;
+    }
+    if !set_in_range(b) {
+        return 14;
     }
     if !summary_kept(b) {
         return 5;
@@ -89,7 +93,7 @@ pub fn result_refusal(b: &[u8], number: u64, w: &[u8], r: &[u8]) -> u64
     if !document_kept(w) {
         return 10;
     }
-    if !pattern_given(number) {
+    if !pattern_given(b, number) {
         return 12;
     }
     if !result_in_range(b, number, w, r) {
@@ -126,7 +130,7 @@ pub fn paths_refusal(b: &[u8], number: u64) -> u64
     if refused != 0 {
         return refused;
     }
-    if !pattern_given(number) {
+    if !pattern_given(b, number) {
         return 12;
     }
     0
@@ -143,7 +147,7 @@ pub fn layout_refusal(b: &[u8], number: u64, l: &[u8], table: usize) -> u64
     if refused != 0 {
         return refused;
     }
-    if !pattern_given(number) {
+    if !pattern_given(b, number) {
         return 12;
     }
     if !is_embedding_list(b, number, l) {

@@ -1,4 +1,4 @@
-// The questions on the summary's records: 5 and 6. Before question 5 a parent may be any number.
+// The questions on the summary's records: 5 and 6. Before question 5 a parent may be any number; 6 is asked after it.
 
 ghost use mathlib.Core.Path.{_≡_};
 ghost use mathlib.Core.Bool.{true, not};
@@ -61,14 +61,15 @@ pub fn alike(b: &[u8], i: SummaryNode, j: SummaryNode) -> bool
     summary_label(b, i) == summary_label(b, j)
 }
 
-// No node before j is its sibling with its label.
+// No node before j is its sibling with its label. Siblings stand after their parent, so nodes before it need not be looked at.
 pub fn differs_before(b: &[u8], j: SummaryNode) -> bool
-    requires { ⌜ WholeSection summaryWidth (now b) 0 ⌝ }
+    requires { ⌜ WholeSection summaryWidth (now b) 0 × (summaryKept (summaryIn (now b)) ≡ true) ⌝ }
     requires { ⌜ j .0 < length (summaryIn (now b)) ⌝ }
     ensures { λ r. ⌜ r ≡ allOf (λ i. not (areAlike (summaryIn (now (b .entry))) i (j .0))) (upFrom 0 (j .0)) ⌝ }
 {
     let n = j.0;
-    for i in 0..n {
+    let first = summary_parent(b, j).0;
+    for i in first..n {
         if alike(b, SummaryNode(i), j) {
             return false;
         }
@@ -78,7 +79,7 @@ pub fn differs_before(b: &[u8], j: SummaryNode) -> bool
 
 // 6. Do siblings in the summary have different labels?
 pub fn siblings_differ(b: &[u8]) -> bool
-    requires { ⌜ isWholeCase (now b) ≡ true ⌝ }
+    requires { ⌜ (isWholeCase (now b) ≡ true) × (summaryKept (summaryIn (now b)) ≡ true) ⌝ }
     ensures { λ r. ⌜ r ≡ siblingsDiffer (summaryIn (now (b .entry))) ⌝ }
 {
     let n = summary_count(b);

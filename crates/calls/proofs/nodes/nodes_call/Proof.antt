@@ -27,15 +27,15 @@ facts c =
     accepted-nodes (a .case .now) (a .number) (a .document .now) (a .position) (length (a .answer .now)) (sym (c .before .nodes-refusal .ensures) ∙ c .if1 .left)
 
 numbered-at-requires : tie.Need-numbered-at-requires
-numbered-at-requires c κs = accepted-whole (facts c .case)
+numbered-at-requires c κs = let F = facts c in (accepted-whole (F .case), F .number)
 
 nodes-at-requires : tie.Need-nodes-at-requires
 nodes-at-requires c κs =
     let a = c .before .before .before .before .before .before .before .args in
     let F = facts (c .before .before) in
     let e = c .before .numbered-at .ensures in (
-      (given-numbered (F .case) (a .number) e, numbered-facts (F .case) (a .number) e, given-document (F .document)),
-      (F .positionLow, subst (λ (P : Pattern). a .position ≤ arity P) (numbered-pattern (a .case .now) (a .number) _ e) (F .positionHigh), F .document .size),
+      (given-numbered (F .case) (a .number) (F .number) e, numbered-facts (F .case) (a .number) (F .number) e, given-document (F .document)),
+      (F .positionLow, subst (λ (P : Pattern). a .position ≤ arity P) (numbered-pattern (a .case .now) (a .number) _ (F .number) e) (F .positionHigh), F .document .size),
     )
 
 write-counted-requires : tie.Need-write-counted-requires
@@ -51,7 +51,7 @@ returns-2 c =
     let picked = found .before .before in
     let a = picked .before .before .before .before .before .before .args in
     nodes-yes (a .case .now) (a .number) (a .document .now) (a .position) (a .answer .now) (picked .before .before .nodes-refusal .ensures) (picked .before .if1 .left)
-    (replicate 1024 0) (numbered-pattern (a .case .now) (a .number) _ (picked .numbered-at .ensures)) (found .nodes-at .ensures) (c .before .before .write-counted .ensures .1)
+    (replicate 1024 0) (numbered-pattern (a .case .now) (a .number) _ (facts (picked .before) .number) (picked .numbered-at .ensures)) (found .nodes-at .ensures) (c .before .before .write-counted .ensures .1)
 
 pub nodes-call-spec : {M : Type 1} → statement M
 nodes-call-spec =

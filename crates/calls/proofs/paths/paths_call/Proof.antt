@@ -19,17 +19,17 @@ facts : (c : tie.Else1) → PathsFacts (c .before .before .before .args .case .n
 facts c = let a = c .before .before .before .args in accepted-paths (a .case .now) (a .number) (sym (c .before .paths-refusal .ensures) ∙ c .if1 .left)
 
 numbered-at-requires : tie.Need-numbered-at-requires
-numbered-at-requires c κs = accepted-whole (facts c .case)
+numbered-at-requires c κs = let F = facts c in (accepted-whole (F .case), F .number)
 
 path-masks-requires : tie.Need-path-masks-requires
-path-masks-requires c κs = let F = facts (c .before) in (given-summary (F .case), given-numbered (F .case) (c .before .before .before .before .args .number) (c .numbered-at .ensures))
+path-masks-requires c κs = let F = facts (c .before) in (given-summary (F .case), given-numbered (F .case) (c .before .before .before .before .args .number) (F .number) (c .numbered-at .ensures))
 
 returns-2 : tie.Need-returns-2
 returns-2 c =
     let picked = c .before .before .before in
     let a = picked .before .before .before .before .args in
     paths-yes (a .case .now) (a .number) (picked .before .before .paths-refusal .ensures) (picked .before .if1 .left)
-    (numbered-pattern (a .case .now) (a .number) _ (picked .numbered-at .ensures)) (c .before .before .path-masks .ensures) (c .path-counts .ensures)
+    (numbered-pattern (a .case .now) (a .number) _ (facts (picked .before) .number) (picked .numbered-at .ensures)) (c .before .before .path-masks .ensures) (c .path-counts .ensures)
 
 pub paths-call-spec : {M : Type 1} → statement M
 paths-call-spec =

@@ -33,15 +33,15 @@ facts c =
     accepted-result (a .case .now) (a .number) (a .document .now) (a .list .now) (sym (c .before .result-refusal .ensures) ∙ c .if1 .left)
 
 numbered-at-requires : tie.Need-numbered-at-requires
-numbered-at-requires c κs = accepted-whole (facts c .case)
+numbered-at-requires c κs = let F = facts c in (accepted-whole (F .case), F .number)
 
 is-result-requires : tie.Need-is-result-requires
 is-result-requires c κs =
     let a = c .before .before .before .before .before .before .args in
     let F = facts (c .before) in
     let e = c .numbered-at .ensures in (
-      (given-numbered (F .case) (a .number) e, numbered-facts (F .case) (a .number) e, given-document (F .document)),
-      subst (λ (P : Pattern). ListFacts (arity P) (length (documentOf (a .document .now))) (a .list .now)) (numbered-pattern (a .case .now) (a .number) _ e) (F .list),
+      (given-numbered (F .case) (a .number) (F .number) e, numbered-facts (F .case) (a .number) (F .number) e, given-document (F .document)),
+      subst (λ (P : Pattern). ListFacts (arity P) (length (documentOf (a .document .now))) (a .list .now)) (numbered-pattern (a .case .now) (a .number) _ (F .number) e) (F .list),
     )
 
 -- the test's answer is the call's
@@ -54,7 +54,7 @@ told c p =
     result-answered _ _ _ _
     (answer-given _ _ (result-accepted (a .case .now) (a .number) (a .document .now) (a .list .now)) (picked .before .before .result-refusal .ensures) (picked .before .if1 .left)
     (c .is-result .ensures
-    ∙ ap (λ (P : Pattern). isResult P (documentOf (a .document .now)) (listOf (a .list .now))) (sym (numbered-pattern (a .case .now) (a .number) _ (picked .numbered-at .ensures))))
+    ∙ ap (λ (P : Pattern). isResult P (documentOf (a .document .now)) (listOf (a .list .now))) (sym (numbered-pattern (a .case .now) (a .number) _ (facts (picked .before) .number) (picked .numbered-at .ensures))))
     p)
 
 returns-2 : tie.Need-returns-2

@@ -35,7 +35,7 @@ abbrev read : tie.After-lay-out → tie.After-read-list
 read c = c .before .before .before .before .before
 
 numbered-at-requires : tie.Need-numbered-at-requires
-numbered-at-requires c κs = accepted-whole (facts (c .before .before) .case)
+numbered-at-requires c κs = let F = facts (c .before .before) in (accepted-whole (F .case), F .number)
 
 read-list-requires : tie.Need-read-list-requires
 read-list-requires c κs = list-fits (facts (c .before .before .before .before))

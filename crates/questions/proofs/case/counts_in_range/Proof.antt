@@ -1,6 +1,6 @@
--- `questions::case::counts_in_range` meets its contract: a whole case has the three counts, and each is tested as the definition says. Assumes nothing.
+-- `questions::case::counts_in_range` meets its contract: a whole case has every count, and each is tested as the definition says. Assumes nothing.
 use Rattle.model.specs.Questions.{between}
-use Rattle.questions.proofs.TestLaws.{joined, ruled, ruled-no, ruled-yes}
+use Rattle.questions.proofs.TestLaws.{joined, ruled-no, ruled-yes}
 use Rattle.questions.proofs.NumberedLaws.{sections}
 use Rattle.questions.proofs.CaseLaws.{counts-asked}
 use Rattle.questions.proofs.case.counts_in_range.Statement.{statement}
@@ -13,7 +13,7 @@ counts-in-range-spec =
     (λ c κs. search sections) (λ c κs. search sections)
     (λ c κs. search sections) (λ c κs. search sections)
     (λ c. search (joined, counts-asked, ruled-no (between 1)))
-    (λ c κs. search sections) (λ c κs. search sections)
-    (λ c. search (joined, counts-asked, ruled-yes (between 1), ruled-no (between 1)))
-    (λ c κs. search sections) (λ c κs. search sections)
-    (λ c. search (joined, counts-asked, ruled-yes (between 1), ruled (between 1))))
+    (λ c κs. search sections)
+    (λ c. search (joined, counts-asked, ruled-yes (between 1)))
+    (λ c κs. search sections)
+    (λ c. search (joined, counts-asked, ruled-yes (between 1))))

@@ -7,6 +7,11 @@ use Rattle.questions.proofs.EmbeddingLaws.{images-given, embedding-aske
 use Rattle.questions.proofs.embedding.is_embedding_list.Statement.{statement}
 use Rattle.questions.proofs.embedding.is_embedding_list.Tie as tie
 
+images-kept-requires : tie.Need-images-kept-requires
+images-kept-requires c κs =
+    let start = c .before .before .before .before .before .before in
+    images-given _ (start .args .number) _ _ (start .pre .0) (start .pre .1) (c .before .before .before .numbered-at .ensures) _ (c .before .pattern-count .ensures .0) (c .if2 .left)
+
 pub is-embedding-list-spec : {M : Type 1} → statement M
 is-embedding-list-spec =
     tie.close
@@ -15,6 +20,5 @@ is-embedding-list-spec =
     (λ c. search (joined, compared, embedding-asked))
     (λ c κs. search (sections, accepted-whole))
     (λ c. search (joined, compared, embedding-asked))
-    (λ c κs. images-given _ (c .before .before .before .before .before .before .args .number) _ _ (c .before .before .before .before .before .before .pre)
-    (c .before .before .before .numbered-at .ensures) _ (c .before .pattern-count .ensures .0) (c .if2 .left))
+    images-kept-requires
     (λ c. search (joined, compared, embedding-asked)))

@@ -1,7 +1,7 @@
 -- `questions::pattern::position_given` meets its contract: the number gives a whole section, whose k bounds the position. Assumes nothing.
 use Rattle.model.specs.Questions.{between}
 use Rattle.questions.proofs.TestLaws.{joined, ruled}
-use Rattle.questions.proofs.NumberedLaws.{sections}
+use Rattle.questions.proofs.NumberedLaws.{sections, number-told}
 use Rattle.questions.proofs.PatternLaws.{position-no, position-asked}
 use Rattle.questions.proofs.pattern.position_given.Statement.{statement}
 use Rattle.questions.proofs.pattern.position_given.Tie as tie
@@ -15,4 +15,4 @@ position-given-spec =
     (λ c κs. search sections)
     (λ c κs. search sections)
     (λ c κs. search sections)
-    (λ c. search (joined, position-asked, ruled (between 1))))
+    (λ c. search (joined, number-told, position-asked, ruled (between 1))))

@@ -1,9 +1,9 @@
--- `questions::pattern::patterns_kept` meets its contract: a whole case has both sections, and each pattern is tested. Assumes nothing.
+-- `questions::members::patterns_kept` meets its contract: a whole case has every section, and each pattern is tested. Assumes nothing.
 use Rattle.questions.proofs.TestLaws.{joined}
 use Rattle.questions.proofs.NumberedLaws.{sections}
 use Rattle.questions.proofs.PatternLaws.{patterns-asked}
-use Rattle.questions.proofs.pattern.patterns_kept.Statement.{statement}
-use Rattle.questions.proofs.pattern.patterns_kept.Tie as tie
+use Rattle.questions.proofs.members.patterns_kept.Statement.{statement}
+use Rattle.questions.proofs.members.patterns_kept.Tie as tie
 
 pub patterns-kept-spec : {M : Type 1} → statement M
 patterns-kept-spec =
