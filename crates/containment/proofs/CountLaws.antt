@@ -1,7 +1,7 @@
 -- Counts are cut at a cap of 32 bits: each stays at or below it, so two of them multiply in 64 bits; and what a run that skips a count
 -- of embeddings comes to. Assumes nothing.
 use Prim.Native.Nat.{ℕ, suc, _+_, _-_, _*_, _^_, _≤_, _<_, min}
-use mathlib.Core.Path.{_≡_, refl, sym, ap, subst}
+use mathlib.Core.Path.{_≡_, refl, sym, ap, _∙_, subst}
 use mathlib.Core.Bool.{Bool, true, false}
 use mathlib.Core.List.{List, [], _∷_}
 use native.Mathlib.Omega.{arith}
@@ -10,13 +10,14 @@ use lib.Dec.{eqb, ltb}
 use lib.ListN.{length, getD, set}
 use lib.Seq.{set-out, getD-set-same, getD-set-other}
 use borrow.Author.Tests.{eqb-true, eqb-false, ltb-true, ltb-false, lt-ltb, le-ltb}
-use Rattle.model.specs.Lists.{upFrom}
+use Rattle.model.specs.Lists.{upFrom, has}
 use Rattle.model.specs.Pattern.{Pattern, patternParent}
 use Rattle.model.specs.Verdict.{Progress, going, halted}
 use Rattle.model.specs.Skipping.{skip}
 use Rattle.containment.specs.Blocks.{cell, capIn}
 use Rattle.containment.specs.Room.{Capped}
-use Rattle.containment.specs.Skipping.{loop, joinAt, plusUpTo, timesUpTo, childTurn, childLoop, timesBy, leftTurn}
+use Rattle.containment.specs.Skipping.{loop, joinAt, plusUpTo, timesUpTo, childTurn, childLoop, timesBy, ownWays, belowWays, leftTurn}
+use Rattle.containment.specs.Stepping.{Candidates}
 
 -- ---- counts stay below the cap
 
@@ -79,7 +80,31 @@ count-joined i n m {K} e l R =
     go j h true q false t = subst (λ (u : List ℕ). getD u j 0 ≤ capIn m) (sym (set-out m i v (ltb-false i (length m) t))) (R .bounded j h)
     go j h false q t p = subst (λ (k : ℕ). k ≤ capIn m) (sym (getD-set-other m i j v 0 (eqb-false j i q))) (R .bounded j h)
 
--- ---- what counting asks, where judging is asked too
+-- ---- what is handed up
+
+module _ (K : ℕ) (P : Pattern) (M : Candidates) (c : ℕ) (t : List ℕ) (y : ℕ) where
+  abbrev own-by : Bool → ℕ
+  own-by b = elim b as (λ _. ℕ) [ true ↦ timesBy K P t c y | false ↦ 0 ]
+
+  pub own-yes : {n : ℕ} → has (M .parts c) y ≡ true → n ≡ timesBy K P t c y → n ≡ ownWays K P M c t y
+  unfolding ownWays
+  own-yes e p = p ∙ sym (ap own-by e)
+
+  pub own-no : has (M .parts c) y ≡ false → 0 ≡ ownWays K P M c t y
+  unfolding ownWays
+  own-no e = sym (ap own-by e)
+
+module _ (c : ℕ) (t : List ℕ) (y : ℕ) where
+  abbrev below-by : Bool → ℕ
+  below-by b = elim b as (λ _. ℕ) [ true ↦ getD t (cell c y) 0 | false ↦ 0 ]
+
+  pub below-yes : {far : Bool} {n : ℕ} → far ≡ true → n ≡ getD t (cell c y) 0 → n ≡ belowWays far c t y
+  unfolding belowWays
+  below-yes e p = p ∙ sym (ap below-by e)
+
+  pub below-no : {far : Bool} → far ≡ false → 0 ≡ belowWays far c t y
+  unfolding belowWays
+  below-no e = sym (ap below-by e)
 
 -- ---- a skip
 

@@ -1,5 +1,5 @@
 -- The test by masks is the model's quick test: by the tables each chain offers what the model says, what hangs from the first
--- pattern's nodes is gathered from the last to the first, and the second pattern's root is bit 0. Assumes nothing.
+-- pattern's nodes is gathered from the last to the first, and the member's root is bit 0. Assumes nothing.
 use Prim.Native.Nat.{ℕ, _-_, _≤_, _<_}
 use mathlib.Core.Path.{_≡_, refl, sym, ap, ap₂, _∙_, subst}
 use mathlib.Core.Bool.{Bool, true, false, _&&_}
@@ -49,7 +49,7 @@ module _ (S : Summary) (P Q : Pattern) (T : Sets) (C : ChainSets S Q T) (t : IsT
       go true e = ap (λ (u : ℕ). ltb 0 c && true && f u) (sym (eqb-true (patternParent P c) j e))
       go false e = shut (ltb 0 c) (f j) (f (patternParent P c))
 
-  -- the second pattern's root meets at the root by what is gathered, where F passes G on and E hangs from each node
+  -- the member's root meets at the root by what is gathered, where F passes G on and E hangs from each node
   pub gathered-meets : (F : ℕ → ℕ → ℕ) (E G : ℕ → ℕ → Bool) → ((c : ℕ) → 0 < c → c < length P → F c (maskBelow (E c) (length Q)) ≡ maskBelow (G c) (length Q))
       → ((j r : ℕ) → j < length P → E j r ≡ anyOf (λ c. ltb 0 c && eqb (patternParent P c) j && G c r) (upFrom 0 (length P))) → 0 < length Q
       → rootBy T P (getD (gather (patternParent P) F (length P - 1) (replicate 16 0)) 0 0)

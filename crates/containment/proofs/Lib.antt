@@ -3,10 +3,11 @@ pub mod ChainLaws
 pub mod GatherLaws
 pub mod Judging
 pub mod KeepLaws
-pub mod MemberLaws
+pub mod MaskMembers
 pub mod Pruning
 pub mod ClimbLaws
 pub mod RowLaws
+pub mod WaysRow
 pub mod SkipTables
 pub mod Deciding
 pub mod Skipping
@@ -22,7 +23,9 @@ pub mod BlockSets
 pub mod RoomLaws
 pub mod BlockLaws
 pub mod ClimbLoop
+pub mod EachLoop
 pub mod SkipLoop
 pub mod SettleLaws
+pub mod RowsLaws
 pub mod LastLoop
 pub mod AnswerLaws

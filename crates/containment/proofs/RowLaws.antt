@@ -1,12 +1,11 @@
 -- Tables in rows, filled from the last node to the first: an entry that is right once the rows after its own are, is right when its
--- turn comes, for no later turn writes to it. And what loops come to that join masks, intersect them, or add and multiply counts up
--- to a cap. Assumes nothing.
+-- turn comes, for no later turn writes to it. And what loops come to that join masks, intersect them, or multiply counts up to a cap. Assumes nothing.
 use Prim.Native.Nat.{ℕ, zero, suc, _+_, _-_, _*_, _≤_, _<_, min}
 use mathlib.Core.Path.{_≡_, refl, sym, ap, _∙_, subst}
 use mathlib.Core.Bool.{Bool, true, false, _&&_, _||_, or-false, and-true, or-assoc, and-assoc}
 use mathlib.Core.List.{List, [], _∷_, List·Memᴰ, List·Memᴰ·head, List·Memᴰ·tail}
 use native.Mathlib.Omega.{arith}
-use native.Mathlib.Nat.{mul-assoc, mul-one, add-assoc, add-zero}
+use native.Mathlib.Nat.{mul-assoc, mul-one}
 use lib.Bits.{bitAnd, bitOr}
 use lib.Dec.{ltb}
 use lib.ListN.{length, getD}
@@ -14,8 +13,8 @@ use borrow.Author.Tests.{ltb-true, ltb-false}
 use Rattle.model.specs.Lists.{keep, anyOf, allOf, maskBelow}
 use Rattle.model.specs.Tree.{Document, IsTree, parentOf}
 use Rattle.model.specs.Embeddings.{edgeTest}
-use Rattle.model.specs.Skipping.{sumOf, productOf}
-use Rattle.model.proofs.WaysLaws.{cap-sums, cap-products}
+use Rattle.model.specs.Skipping.{productOf}
+use Rattle.model.proofs.WaysLaws.{cap-products}
 use Rattle.bits.proofs.MaskLaws.{any-cons, mask-agree, mask-or, mask-and}
 use Rattle.containment.specs.Blocks.{cell}
 use Rattle.containment.specs.Skipping.{fillTurn, fillRows, loop}
@@ -26,7 +25,7 @@ use Rattle.containment.proofs.ClimbLaws.{climb-length, climb-other, cli
 module _ (m n init : ℕ) (row : ℕ → List ℕ → List ℕ) (E : ℕ → ℕ → ℕ) (same : (c : ℕ) (t : List ℕ) → c < m → length (row c t) ≡ length t)
     (other : (c d y : ℕ) (t : List ℕ) → c < m → y < n → (d ≡ c → ⊥) → getD (row c t) (cell d y) 0 ≡ getD t (cell d y) 0)
     (right : (c x : ℕ) (t : List ℕ) → 0 < c → c < m → x < n → 64 * m ≤ length t → ((d y : ℕ) → c < d → d < m → y < n → getD t (cell d y) 0 ≡ E d y)
-    → getD t (cell c x) 0 ≡ init → getD (row c t) (cell c x) 0 ≡ E c x) where
+    → ((y : ℕ) → y < n → getD t (cell c y) 0 ≡ init) → getD (row c t) (cell c x) 0 ≡ E c x) where
   -- the rows after c are right, and the others are as they began
   record Filled (c : ℕ) (t : List ℕ) : Type 0 where
     long : 64 * m ≤ length t
@@ -48,7 +47,7 @@ module _ (m n init : ℕ) (row : ℕ → List ℕ → List ℕ) (E : ℕ → ℕ
       go d y a b k false e =
           let i : d ≤ suc c = ltb-false (suc c) d e in
           let q : suc c ≡ d = omega arith in
-          subst (λ (j : ℕ). getD (row (suc c) t) (cell j y) 0 ≡ E j y) q (right (suc c) y t (omega arith) h k (f .long) (f .after) (f .before (suc c) y (omega arith) k))
+          subst (λ (j : ℕ). getD (row (suc c) t) (cell j y) 0 ≡ E j y) q (right (suc c) y t (omega arith) h k (f .long) (f .after) (λ j i. f .before (suc c) j (omega arith) i))
 
   filled-rows : (c : ℕ) (t : List ℕ) → c < m → Filled c t → Filled 0 (fillRows row c t)
   unfolding fillRows
@@ -106,14 +105,6 @@ module _ (w : ℕ) (f : ℕ → ℕ) (L : ℕ → ℕ → Bool) where
       ∙ mask-agree (λ p. (A p && L x p) && allOf (λ y. L y p) xs) (λ p. A p && allOf (λ y. L y p) (x ∷ xs)) w (λ p k. and-assoc (A p) (L x p) (allOf (λ y. L y p) xs) ∙ ap (λ (b : Bool). A p && b) (sym (all-cons (λ y. L y p) x xs)))
 
 module _ (K : ℕ) (f g : ℕ → ℕ) where
-  -- counts added
-  pub loop-sum : (a : ℕ) (xs : List ℕ) → ((x : ℕ) → List·Memᴰ x xs → f x ≡ min K (g x)) → loop (λ acc x. min K (acc + f x)) (min K a) xs ≡ min K (a + sumOf g xs)
-  unfolding loop sumOf
-  loop-sum a [] h = ap (min K) (sym (add-zero a))
-  loop-sum a (x ∷ xs) h =
-      ap (λ (b : ℕ). loop (λ acc x. min K (acc + f x)) b xs) (ap (λ (b : ℕ). min K (min K a + b)) (h x (List·Memᴰ·head refl)) ∙ cap-sums K a (g x))
-      ∙ loop-sum (a + g x) xs (λ y k. h y (List·Memᴰ·tail k)) ∙ ap (min K) (add-assoc a (g x) (sumOf g xs))
-
   -- counts multiplied
   pub loop-product : (a : ℕ) (xs : List ℕ) → ((x : ℕ) → List·Memᴰ x xs → f x ≡ min K (g x)) → loop (λ acc x. min K (acc * f x)) (min K a) xs ≡ min K (a * productOf g xs)
   unfolding loop productOf

@@ -19,7 +19,7 @@ use Rattle.containment.specs.Blocks.{cell}
 use Rattle.containment.specs.Judging.{joinUp, gather, Sets, passBy}
 use Rattle.containment.specs.Stepping.{Candidates, members, placesBy}
 use Rattle.containment.specs.Steps.{progressOf, Stepped}
-use Rattle.containment.specs.Skipping.{sureBy, surelyBy, leftBy, PlacedBy, MaySkip}
+use Rattle.containment.specs.Skipping.{sureBy, leftBy, PlacedBy, MaySkip}
 use Rattle.containment.specs.declared.Budget.{Budget}
 use Rattle.containment.specs.declared.Run.{Run}
 use Rattle.containment.proofs.StepLoop.{sites-take, StepInv, first-among}
@@ -127,8 +127,8 @@ module _ {P : Pattern} {M : Candidates} (T : IsPatternTree P) where
 -- ---- stepping
 
 -- with the next node placed, the images still stand at places of theirs
-pub placed-step : {T : Sets} {P : Pattern} {M : Candidates} {q : ℕ} {n : Budget} {entry images : List ℕ} {rest v : ℕ} {now : Budget} {images′ : List ℕ} → IsPatternTree P → length entry ≡ length P
-    → StepInv T P M q n entry images rest now → PlacedBy P M q entry → 0 < q → q < length P → (rest ≡ 0 → ⊥) → v ≡ trailingZeros 64 rest → images′ ≡ set images q v → PlacedBy P M (q + 1) images′
+pub placed-step : {test : List ℕ → Bool} {P : Pattern} {M : Candidates} {q : ℕ} {n : Budget} {entry images : List ℕ} {rest v : ℕ} {now : Budget} {images′ : List ℕ} → IsPatternTree P → length entry ≡ length P
+    → StepInv test P M q n entry images rest now → PlacedBy P M q entry → 0 < q → q < length P → (rest ≡ 0 → ⊥) → v ≡ trailingZeros 64 rest → images′ ≡ set images q v → PlacedBy P M (q + 1) images′
 placed-step {P = P} {M} {q} {entry = entry} {images} {v = v} t e I G z h ne p s =
     let k : length images ≡ length P = I .placed in
     let l : patternParent P q < q = t .earlier q z h in
@@ -138,9 +138,9 @@ placed-step {P = P} {M} {q} {entry = entry} {images} {v = v} t e I G z h ne p s 
     (subst (λ (x : ℕ). List·Memᴰ v (members (placesBy P M q x))) same (subst (λ (m : ℕ). List·Memᴰ v (members m)) (sites-take P M entry q (omega arith) l) (first-among I ne p))))
 
 -- all extensions are skipped
-pub step-skip : {T : Sets} {P : Pattern} {M : Candidates} {lows counts : List ℕ} {K q : ℕ} {n : Budget} {c : ℕ} {entry : List ℕ} {r : Run} → MaySkip T P M lows counts K → PlacedBy P M q entry → 0 < q → q ≤ length P
-    → n .left < K → length entry ≡ length P → ((c : ℕ) → c < length P → getD entry c 0 < 64) → surelyBy T P lows q entry ≡ true → c ≡ leftBy K P counts q entry
-    → ((es : List ℕ) → progressOf es r ≡ skip (n .left) (n .tried) c) → Stepped T P M q n entry entry r
+pub step-skip : {test : List ℕ → Bool} {sure : ℕ → List ℕ → Bool} {P : Pattern} {M : Candidates} {counts : List ℕ} {K q : ℕ} {n : Budget} {c : ℕ} {entry : List ℕ} {r : Run} → MaySkip test sure P M counts K → PlacedBy P M q entry
+    → 0 < q → q ≤ length P → n .left < K → length entry ≡ length P → ((c : ℕ) → c < length P → getD entry c 0 < 64) → sure q entry ≡ true → c ≡ leftBy K P counts q entry
+    → ((es : List ℕ) → progressOf es r ≡ skip (n .left) (n .tried) c) → Stepped test P M q n entry entry r
 step-skip {q = q} {n = n} {entry = entry} M G z h l p i e k s =
     record {
       kept = refl;

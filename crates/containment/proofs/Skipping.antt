@@ -34,9 +34,9 @@ use Rattle.containment.specs.Judging.{Sets, passBy, judgeBy}
 use Rattle.containment.specs.Prepared.{ChainSets, StepSets}
 use Rattle.containment.specs.Blocks.{cell}
 use Rattle.containment.specs.Stepping.{members, stepFrom, Candidates, placesBy, sitesBy}
-use Rattle.containment.specs.Skipping.{loop, lowTable, waysTable, sureBy, sureGiven, surelyBy, leftTurn, leftBy, PlacedBy, MaySkip}
+use Rattle.containment.specs.Skipping.{loop, lowTable, waysTable, sureBy, sureGiven, surelyBy, leftTurn, leftBy, PlacedBy}
 use Rattle.containment.proofs.KeepLaws.{keep-keep, flat-agree}
-use Rattle.containment.proofs.MemberLaws.{members-mask}
+use Rattle.containment.proofs.MaskMembers.{members-mask}
 use Rattle.containment.proofs.Judging.{pass-mask, at-parent, gathered-meets, judge-quick}
 use Rattle.containment.proofs.Deciding.{reach-mask, path-parts}
 use Rattle.containment.proofs.RowLaws.{loop-keep, loop-product}
@@ -288,23 +288,24 @@ module _ (S : Summary) (P Q : Pattern) (T : Sets) (M : Candidates) (C : ChainSet
   up-parents : (b : ℕ) → b < length (asDocument S) → T .up b ≡ parentOf (asDocument S) b
   up-parents b l = C .ups b (back l)
 
-  -- from tables as they begin, of least offers and of counts, the run may be skipped with those that are filled
-  pub may-skip : (K : ℕ) (lows₀ counts₀ : List ℕ) → 0 < K → 0 < length Q → 1024 ≤ length lows₀ → 1024 ≤ length counts₀
-      → ((i : ℕ) → i < 1024 → getD lows₀ i 0 ≡ 2 ^ length Q - 1) → ((i : ℕ) → i < 1024 → getD counts₀ i 0 ≡ 0)
-      → MaySkip T P M (lowTable T P M lows₀) (waysTable K (T .up) P M counts₀) K
-  may-skip K lows₀ counts₀ some y room-l room-c all none =
-      record {
-        skipped = λ q left tried es z le long h G e.
-            ap (run (judgeBy T P) (going left tried)) (steps-completions P M (length P - q) (take q es))
-            ∙ run-skip (judgeBy T P) left tried (completions parent places (length P - q) (take q es)) (surely-all q es z le long G (lowTable T P M lows₀) lowest y e)
-            ∙ sym (skip-capped K left tried (length (completions parent places (length P - q) (take q es))) h) ∙ ap (skip left tried) (count-all q es z le long G K (waysTable K (T .up) P M counts₀) some counted);
-      }
-    where
-      wide : length (asDocument S) ≤ 64
-      wide = subst (λ (n : ℕ). n ≤ 64) (sym (length-asDocument S)) narrow
+  wide : length (asDocument S) ≤ 64
+  wide = subst (λ (n : ℕ). n ≤ 64) (sym (length-asDocument S)) narrow
 
+  -- where this member surely passes, the run by any test that says yes where this member's does is a skip; the tables are filled from
+  -- such as begin with all nodes and with no ways, and counts by any table of the summary's parents
+  pub member-skips : (K : ℕ) (lows₀ counts₀ : List ℕ) (up : ℕ → ℕ) → 0 < K → 0 < length Q → 1024 ≤ length lows₀ → 1024 ≤ length counts₀
+      → ((i : ℕ) → i < 1024 → getD lows₀ i 0 ≡ 2 ^ length Q - 1) → ((i : ℕ) → i < 1024 → getD counts₀ i 0 ≡ 0)
+      → ((b : ℕ) → b < length (asDocument S) → up b ≡ parentOf (asDocument S) b)
+      → (test : List ℕ → Bool) → ((es : List ℕ) → judgeBy T P es ≡ true → test es ≡ true)
+      → (q left tried : ℕ) (es : List ℕ) → 0 < q → q ≤ length P → q ≤ length es → left < K → PlacedBy P M q es → surelyBy T P (lowTable T P M lows₀) q es ≡ true
+      → run test (going left tried) (stepFrom (sitesBy P M) (length P - q) (take q es)) ≡ skip left tried (leftBy K P (waysTable K up P M (length (asDocument S)) counts₀) q es)
+  member-skips K lows₀ counts₀ up some y room-l room-c all none ups test says q left tried es z le long h G e =
+      ap (run test (going left tried)) (steps-completions P M (length P - q) (take q es))
+      ∙ run-skip test left tried (completions parent places (length P - q) (take q es)) (λ fs k. says fs (surely-all q es z le long G (lowTable T P M lows₀) lowest y e fs k))
+      ∙ sym (skip-capped K left tried (length (completions parent places (length P - q) (take q es))) h) ∙ ap (skip left tried) (count-all q es z le long G K (waysTable K up P M (length (asDocument S)) counts₀) some counted)
+    where
       lowest : (c x : ℕ) → 0 < c → c < length P → x < length S → getD (lowTable T P M lows₀) (cell c x) 0 ≡ maskBelow (low S P Q places c x) (length Q)
       lowest c x z h l = low-table S P Q T M C (s .tree) p range wide up-parents paths-inside paths-reached (λ c x y z h l m. reached c x y z h (back l) m) lows₀ (omega arith) (λ d y i j. all (cell d y) (let w = wide in omega arith)) c x z h (across l)
 
-      counted : (c x : ℕ) → 0 < c → c < length P → x < length S → getD (waysTable K (T .up) P M counts₀) (cell c x) 0 ≡ min K (ways (length P) parent places c x)
-      counted c x z h l = ways-table (asDocument S) (s .tree) wide (T .up) P M p up-parents paths-inside paths-reached K some counts₀ (omega arith) (λ d y i j. none (cell d y) (let w = wide in omega arith)) c x z h (across l)
+      counted : (c x : ℕ) → 0 < c → c < length P → x < length S → getD (waysTable K up P M (length (asDocument S)) counts₀) (cell c x) 0 ≡ min K (ways (length P) parent places c x)
+      counted c x z h l = ways-table (asDocument S) (s .tree) wide up P M p ups paths-inside paths-reached K some counts₀ (omega arith) (λ d y i j. none (cell d y) (let w = wide in omega arith)) c x z h (across l)

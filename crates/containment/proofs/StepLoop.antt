@@ -19,8 +19,7 @@ use Rattle.model.specs.Lists.{has}
 use Rattle.model.specs.Pattern.{Pattern, patternParent, descends}
 use Rattle.model.specs.Verdict.{Progress, going, failed, halted, step, run}
 use Rattle.model.proofs.Verdict.{run-append, run-failed, run-halted, step-pass, step-fail}
-use Rattle.containment.specs.Judging.{Sets, judgeBy}
-use Rattle.containment.specs.Room.{Judgeable}
+use Rattle.containment.specs.Room.{Steppable}
 use Rattle.containment.specs.Stepping.{Candidates, members, stepFrom, reachBy, placesBy, sitesBy, allBy}
 use Rattle.containment.specs.Steps.{goingBy, progressOf, Stepped}
 use Rattle.containment.proofs.Run.{the-type}
@@ -28,7 +27,7 @@ use Rattle.containment.specs.declared.Budget.{Budget}
 use Rattle.containment.specs.declared.Run.{Run}
 use Rattle.containment.specs.declared.Run.the-variants.{Going, Failed, Stopped}
 use Rattle.containment.proofs.KeepLaws.{flat-cons}
-use Rattle.containment.proofs.MemberLaws.{members-none, first-left}
+use Rattle.containment.proofs.MaskMembers.{members-none, first-left}
 
 -- ---- one embedding tried
 
@@ -92,7 +91,7 @@ no-tag : OneOf (1 ∷ 2 ∷ []) 0 → ⊥
 no-tag (inl e) = absurd (omega arith)
 no-tag (inr e) = absurd (omega arith)
 
-module _ (T : Sets) (P : Pattern) (M : Candidates) where
+module _ (test : List ℕ → Bool) (P : Pattern) (M : Candidates) where
   -- what is left to step through with the places of node q in `rest`, after the images es
   abbrev pub ahead : ℕ → List ℕ → ℕ → List (List ℕ)
   ahead q es rest = flatMap (λ v. stepFrom (sitesBy P M) (length P - (q + 1)) (es ++ v ∷ [])) (members rest)
@@ -105,18 +104,18 @@ module _ (T : Sets) (P : Pattern) (M : Candidates) where
     pub sum : now .left + now .tried ≡ n .left + n .tried
     pub fits : rest < 2 ^ 64
     pub among : (v : ℕ) → List·Memᴰ v (members rest) → List·Memᴰ v (members (sitesBy P M (take q entry)))
-    pub same : run (judgeBy T P) (goingBy now) (ahead q (take q entry) rest) ≡ run (judgeBy T P) (goingBy n) (stepFrom (sitesBy P M) (length P - q) (take q entry))
+    pub same : run test (goingBy now) (ahead q (take q entry) rest) ≡ run test (goingBy n) (stepFrom (sitesBy P M) (length P - q) (take q entry))
 
-module _ {T : Sets} {P : Pattern} {M : Candidates} {q : ℕ} {n : Budget} {entry : List ℕ} where
+module _ {test : List ℕ → Bool} {P : Pattern} {M : Candidates} {q : ℕ} {n : Budget} {entry : List ℕ} where
   -- a whole embedding
-  pub step-leaf : {r : Run} → q ≡ length P → length entry ≡ length P → ((c : ℕ) → c < length P → getD entry c 0 < 64) → progressOf entry r ≡ step (judgeBy T P) (goingBy n) entry
-      → Stepped T P M q n entry entry r
+  pub step-leaf : {r : Run} → q ≡ length P → length entry ≡ length P → ((c : ℕ) → c < length P → getD entry c 0 < 64) → progressOf entry r ≡ step test (goingBy n) entry
+      → Stepped test P M q n entry entry r
   unfolding stepFrom run
   step-leaf {r} e p i s =
       record {
         kept = refl;
         inside = i;
-        same = s ∙ ap (step (judgeBy T P) (goingBy n)) (sym all) ∙ ap (λ (k : ℕ). run (judgeBy T P) (goingBy n) (stepFrom (sitesBy P M) k (take q entry))) none;
+        same = s ∙ ap (step test (goingBy n)) (sym all) ∙ ap (λ (k : ℕ). run test (goingBy n) (stepFrom (sitesBy P M) k (take q entry))) none;
       }
     where
       none : 0 ≡ length P - q
@@ -126,7 +125,7 @@ module _ {T : Sets} {P : Pattern} {M : Candidates} {q : ℕ} {n : Budget} {entry
       all = ap (λ (k : ℕ). take k entry) (e ∙ sym p) ∙ take-length entry
 
   pub step-start : {rest : ℕ} → q < length P → length entry ≡ length P → ((c : ℕ) → c < length P → getD entry c 0 < 64) → rest ≡ sitesBy P M (take q entry) → rest < 2 ^ 64
-      → StepInv T P M q n entry entry rest n
+      → StepInv test P M q n entry entry rest n
   unfolding stepFrom
   step-start {rest} h p i e f =
       record {
@@ -136,24 +135,24 @@ module _ {T : Sets} {P : Pattern} {M : Candidates} {q : ℕ} {n : Budget} {entry
         sum = refl;
         fits = f;
         among = λ v k. subst (λ (s : ℕ). List·Memᴰ v (members s)) e k;
-        same = ap (λ (k : ℕ). run (judgeBy T P) (goingBy n) (ahead T P M q (take q entry) k)) e ∙ ap (λ (k : ℕ). run (judgeBy T P) (goingBy n) (stepFrom (sitesBy P M) k (take q entry))) more;
+        same = ap (λ (k : ℕ). run test (goingBy n) (ahead test P M q (take q entry) k)) e ∙ ap (λ (k : ℕ). run test (goingBy n) (stepFrom (sitesBy P M) k (take q entry))) more;
       }
     where
       more : suc (length P - (q + 1)) ≡ length P - q
       more = omega arith
 
-  pub step-end : {images : List ℕ} {rest : ℕ} {now : Budget} → StepInv T P M q n entry images rest now → rest ≡ 0 → Stepped T P M q n entry images (Going now)
+  pub step-end : {images : List ℕ} {rest : ℕ} {now : Budget} → StepInv test P M q n entry images rest now → rest ≡ 0 → Stepped test P M q n entry images (Going now)
   unfolding flatMap run
   step-end {images} {rest} {now} v e =
       record {
         kept = v .kept;
         inside = v .inside;
-        same = sym (ap (λ (xs : List ℕ). run (judgeBy T P) (goingBy now) (flatMap (λ v. stepFrom (sitesBy P M) (length P - (q + 1)) (take q entry ++ v ∷ [])) xs)) (ap members e ∙ members-none)) ∙ v .same;
+        same = sym (ap (λ (xs : List ℕ). run test (goingBy now) (flatMap (λ v. stepFrom (sitesBy P M) (length P - (q + 1)) (take q entry ++ v ∷ [])) xs)) (ap members e ∙ members-none)) ∙ v .same;
       }
 
   -- one place more, by the recursion
-  module _ {images : List ℕ} {rest v rest′ : ℕ} {now : Budget} {images′ images″ : List ℕ} {r : Run} (I : StepInv T P M q n entry images rest now) (h : q < length P) (ne : rest ≡ 0 → ⊥)
-      (p : v ≡ trailingZeros 64 rest) (p′ : rest′ ≡ rest - 2 ^ v) (s : images′ ≡ set images q v) (S : Stepped T P M (q + 1) now images′ images″ r) where
+  module _ {images : List ℕ} {rest v rest′ : ℕ} {now : Budget} {images′ images″ : List ℕ} {r : Run} (I : StepInv test P M q n entry images rest now) (h : q < length P) (ne : rest ≡ 0 → ⊥)
+      (p : v ≡ trailingZeros 64 rest) (p′ : rest′ ≡ rest - 2 ^ v) (s : images′ ≡ set images q v) (S : Stepped test P M (q + 1) now images′ images″ r) where
     longer : take (q + 1) images′ ≡ take q entry ++ v ∷ []
     longer =
         let k : length images ≡ length P = I .placed in
@@ -164,49 +163,49 @@ module _ {T : Sets} {P : Pattern} {M : Candidates} {q : ℕ} {n : Budget} {entry
         let k : length images ≡ length P = I .placed in
         sym (take-take q (q + 1) images″ (omega arith)) ∙ ap (take q) (S .kept) ∙ take-take q (q + 1) images′ (omega arith) ∙ ap (take q) s ∙ take-set-le q images q v (omega arith) ∙ I .kept
 
-    next-same : run (judgeBy T P) (progressOf images″ r) (ahead T P M q (take q entry) rest′) ≡ run (judgeBy T P) (goingBy n) (stepFrom (sitesBy P M) (length P - q) (take q entry))
+    next-same : run test (progressOf images″ r) (ahead test P M q (take q entry) rest′) ≡ run test (goingBy n) (stepFrom (sitesBy P M) (length P - q) (take q entry))
     next-same =
-        ap (λ (g : Progress). run (judgeBy T P) g (flatMap F (members rest′))) (S .same ∙ ap (λ (es : List ℕ). run (judgeBy T P) (goingBy now) (stepFrom (sitesBy P M) (length P - (q + 1)) es)) longer)
-        ∙ sym (run-append (judgeBy T P) (goingBy now) (F v) (flatMap F (members rest′)))
-        ∙ ap (run (judgeBy T P) (goingBy now)) (sym (flat-cons F v (members rest′)) ∙ ap (flatMap F) (sym (first-left (I .fits) ne p p′)))
+        ap (λ (g : Progress). run test g (flatMap F (members rest′))) (S .same ∙ ap (λ (es : List ℕ). run test (goingBy now) (stepFrom (sitesBy P M) (length P - (q + 1)) es)) longer)
+        ∙ sym (run-append test (goingBy now) (F v) (flatMap F (members rest′)))
+        ∙ ap (run test (goingBy now)) (sym (flat-cons F v (members rest′)) ∙ ap (flatMap F) (sym (first-left (I .fits) ne p p′)))
         ∙ I .same
       where
         F : ℕ → List (List ℕ)
         F u = stepFrom (sitesBy P M) (length P - (q + 1)) (take q entry ++ u ∷ [])
 
-    pub step-again : {now′ : Budget} → length images″ ≡ length images → r ≡ Going now′ → StepInv T P M q n entry images″ rest′ now′
+    pub step-again : {now′ : Budget} → length images″ ≡ length images → r ≡ Going now′ → StepInv test P M q n entry images″ rest′ now′
     step-again {now′} len e =
         let G : progressOf images″ r ≡ goingBy now′ = ap (progressOf images″) e in
         record {
           kept = next-kept;
           placed = len ∙ I .placed;
           inside = S .inside;
-          sum = run-sum (judgeBy T P) (now .left) (now .tried) (now′ .left) (now′ .tried) (stepFrom (sitesBy P M) (length P - (q + 1)) (take (q + 1) images′)) (sym (S .same) ∙ G) ∙ I .sum;
+          sum = run-sum test (now .left) (now .tried) (now′ .left) (now′ .tried) (stepFrom (sitesBy P M) (length P - (q + 1)) (take (q + 1) images′)) (sym (S .same) ∙ G) ∙ I .sum;
           fits = let k : rest < 2 ^ 64 = I .fits in omega arith;
           among = λ u k. I .among u (subst (λ (us : List ℕ). List·Memᴰ u us) (sym (first-left (I .fits) ne p p′)) (List·Memᴰ·tail k));
-          same = ap (λ (g : Progress). run (judgeBy T P) g (ahead T P M q (take q entry) rest′)) (sym G) ∙ next-same;
+          same = ap (λ (g : Progress). run test g (ahead test P M q (take q entry) rest′)) (sym G) ∙ next-same;
         }
 
   -- the verdict is known
-  pub step-over : {images : List ℕ} {rest v rest′ : ℕ} {now : Budget} {images′ images″ : List ℕ} (r : Run) → StepInv T P M q n entry images rest now → q < length P → (rest ≡ 0 → ⊥)
-      → v ≡ trailingZeros 64 rest → rest′ ≡ rest - 2 ^ v → images′ ≡ set images q v → Stepped T P M (q + 1) now images′ images″ r → OneOf (1 ∷ 2 ∷ []) (tagOf the-type r)
-      → Stepped T P M q n entry images″ r
+  pub step-over : {images : List ℕ} {rest v rest′ : ℕ} {now : Budget} {images′ images″ : List ℕ} (r : Run) → StepInv test P M q n entry images rest now → q < length P → (rest ≡ 0 → ⊥)
+      → v ≡ trailingZeros 64 rest → rest′ ≡ rest - 2 ^ v → images′ ≡ set images q v → Stepped test P M (q + 1) now images′ images″ r → OneOf (1 ∷ 2 ∷ []) (tagOf the-type r)
+      → Stepped test P M q n entry images″ r
   step-over (Going a) I h ne p p′ s S tag = absurd (no-tag tag)
   step-over {rest′ = rest′} {images″ = images″} (Failed a) I h ne p p′ s S tag =
       record {
         kept = next-kept I h ne p p′ s S;
         inside = S .inside;
-        same = sym (run-failed (judgeBy T P) a images″ (ahead T P M q (take q entry) rest′)) ∙ next-same I h ne p p′ s S;
+        same = sym (run-failed test a images″ (ahead test P M q (take q entry) rest′)) ∙ next-same I h ne p p′ s S;
       }
   step-over {rest′ = rest′} {images″ = images″} (Stopped a) I h ne p p′ s S tag =
       record {
         kept = next-kept I h ne p p′ s S;
         inside = S .inside;
-        same = sym (run-halted (judgeBy T P) a (ahead T P M q (take q entry) rest′)) ∙ next-same I h ne p p′ s S;
+        same = sym (run-halted test a (ahead test P M q (take q entry) rest′)) ∙ next-same I h ne p p′ s S;
       }
 
   -- the first place left is one of the node's
-  pub first-among : {images : List ℕ} {rest v : ℕ} {now : Budget} → StepInv T P M q n entry images rest now → (rest ≡ 0 → ⊥) → v ≡ trailingZeros 64 rest → List·Memᴰ v (members (sitesBy P M (take q entry)))
+  pub first-among : {images : List ℕ} {rest v : ℕ} {now : Budget} → StepInv test P M q n entry images rest now → (rest ≡ 0 → ⊥) → v ≡ trailingZeros 64 rest → List·Memᴰ v (members (sitesBy P M (take q entry)))
   first-among {v = v} I ne p = I .among v (subst (λ (us : List ℕ). List·Memᴰ v us) (sym (first-left (I .fits) ne p refl)) (List·Memᴰ·head refl))
 
 -- ---- other images
@@ -220,25 +219,33 @@ placed-inside {m} {q} {v} images {images′} h k s i c l = subst (λ (xs : List 
     go false e = subst (λ (x : ℕ). x < 64) (sym (getD-set-other images q c v 0 (eqb-false c q e))) (i c l)
 
 -- other images in the summary do as well
-pub judge-images : {t p : List ℕ} {at : ℕ} {images : List ℕ} (images′ : List ℕ) → Judgeable t p at images → length images′ ≡ length images → ((c : ℕ) → c < length images → getD images′ c 0 < 64) → Judgeable t p at images′
-judge-images images′ R e i = record { base = R .base; placed = e ∙ R .placed; inside = λ c h. i c (subst (λ (n : ℕ). c < n) (sym (R .placed)) h) }
+pub other-images : {ts : List (List ℕ)} {p : List ℕ} {at : ℕ} {images : List ℕ} (images′ : List ℕ) → Steppable ts p at images → length images′ ≡ length images → ((c : ℕ) → c < length images → getD images′ c 0 < 64)
+    → Steppable ts p at images′
+other-images images′ R e i =
+    record {
+      base = R .base;
+      stands = record { pattern = R .stands .pattern; placed = e ∙ R .stands .placed; inside = λ c h. i c (subst (λ (n : ℕ). c < n) (sym (R .stands .placed)) h) };
+    }
 
 -- with one node placed
-pub judge-placed : {t p : List ℕ} {at q v : ℕ} {images images′ : List ℕ} → Judgeable t p at images → q < length images → v < 64 → images′ ≡ set images q v → Judgeable t p at images′
-judge-placed {q = q} {v = v} {images = images} {images′ = images′} R h k s =
-    record { base = R .base; placed = ap length s ∙ length-set images q v ∙ R .placed; inside = placed-inside images h k s (R .inside) }
+pub images-placed : {ts : List (List ℕ)} {p : List ℕ} {at q v : ℕ} {images images′ : List ℕ} → Steppable ts p at images → q < length images → v < 64 → images′ ≡ set images q v → Steppable ts p at images′
+images-placed {q = q} {v = v} {images = images} {images′ = images′} R h k s =
+    record {
+      base = R .base;
+      stands = record { pattern = R .stands .pattern; placed = ap length s ∙ length-set images q v ∙ R .stands .placed; inside = placed-inside images h k s (R .stands .inside) };
+    }
 
 -- ---- all embeddings
 
-module _ (T : Sets) (P : Pattern) (M : Candidates) (limit : ℕ) where
-  pub all-none : has (M .parts 0) 0 ≡ false → going limit 0 ≡ run (judgeBy T P) (going limit 0) (allBy P M)
+module _ (test : List ℕ → Bool) (P : Pattern) (M : Candidates) (limit : ℕ) where
+  pub all-none : has (M .parts 0) 0 ≡ false → going limit 0 ≡ run test (going limit 0) (allBy P M)
   unfolding allBy run
-  all-none e = sym (ap (λ (b : Bool). run (judgeBy T P) (going limit 0) (elim b as (λ _. List (List ℕ)) [ true ↦ stepFrom (sitesBy P M) (length P - 1) (0 ∷ []) | false ↦ [] ])) e)
+  all-none e = sym (ap (λ (b : Bool). run test (going limit 0) (elim b as (λ _. List (List ℕ)) [ true ↦ stepFrom (sitesBy P M) (length P - 1) (0 ∷ []) | false ↦ [] ])) e)
 
   pub all-some : {n : Budget} (images : List ℕ) {images′ images″ : List ℕ} {r : Run} → goingBy n ≡ going limit 0 → has (M .parts 0) 0 ≡ true → 0 < length images → images′ ≡ set images 0 0
-      → Stepped T P M 1 n images′ images″ r → progressOf images″ r ≡ run (judgeBy T P) (going limit 0) (allBy P M)
+      → Stepped test P M 1 n images′ images″ r → progressOf images″ r ≡ run test (going limit 0) (allBy P M)
   unfolding allBy
   all-some {n} images {images′} g e h s S =
       S .same
-      ∙ ap₂ (λ (a : Progress) (es : List ℕ). run (judgeBy T P) a (stepFrom (sitesBy P M) (length P - 1) es)) g (ap (take 1) s ∙ take-suc-set images 0 0 h)
-      ∙ sym (ap (λ (b : Bool). run (judgeBy T P) (going limit 0) (elim b as (λ _. List (List ℕ)) [ true ↦ stepFrom (sitesBy P M) (length P - 1) (0 ∷ []) | false ↦ [] ])) e)
+      ∙ ap₂ (λ (a : Progress) (es : List ℕ). run test a (stepFrom (sitesBy P M) (length P - 1) es)) g (ap (take 1) s ∙ take-suc-set images 0 0 h)
+      ∙ sym (ap (λ (b : Bool). run test (going limit 0) (elim b as (λ _. List (List ℕ)) [ true ↦ stepFrom (sitesBy P M) (length P - 1) (0 ∷ []) | false ↦ [] ])) e)

@@ -14,7 +14,7 @@ use Rattle.model.specs.Pattern.{Pattern, patternParent}
 use Rattle.containment.specs.Blocks.{cell}
 use Rattle.containment.specs.Stepping.{members}
 use Rattle.containment.specs.Skipping.{loop, joinAt, climbRow, fillRows, childTurn, childLoop, leftTurn, leftBy}
-use Rattle.containment.proofs.MemberLaws.{members-none, first-left}
+use Rattle.containment.proofs.MaskMembers.{members-none, first-left}
 use Rattle.containment.proofs.ClimbLaws.{climb-none, climb-far, climb-near}
 
 -- ---- over a range

@@ -1,5 +1,6 @@
--- What is worked out once a case stands in two blocks that are lent whole, and each thing that they hold has its place in them. Where a
--- summary or a pattern has fewer nodes than its part of a block, zeros follow.
+-- What is worked out once a case stands in blocks that are lent whole, one of the summary and the first pattern and one for each member
+-- of the set, and each thing that they hold has its place in them. Where a summary or a pattern has fewer nodes than its part of a block,
+-- zeros follow.
 use Prim.Native.Nat.{ℕ, _+_, _*_}
 use mathlib.Core.List.{List}
 use lib.ListN.{getD}
@@ -10,7 +11,12 @@ use Rattle.containment.specs.Stepping.{Candidates}
 abbrev pub cell : ℕ → ℕ → ℕ
 cell c x = 64 * c + x
 
--- ---- `Second`, 1,760 numbers, of the summary and the second pattern. From 0, by cell: what a node and all below it offer at least
+-- ---- `Parents`, 64 numbers, by summary node: its parent
+
+abbrev pub parentIn : List ℕ → ℕ → ℕ
+parentIn parents x = getD parents x 0
+
+-- ---- `Member`, 1,760 numbers, of the summary and a member of the set. From 0, by cell: what a node and all below it offer at least
 
 -- by summary node: its parent, the pattern nodes whose labels fit it, what its filled-up children offer
 abbrev pub upIn : List ℕ → ℕ → ℕ

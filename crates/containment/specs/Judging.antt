@@ -1,4 +1,4 @@
--- The quick test of an embedding by masks, as the code computes it. Sets of the second pattern's nodes are 16-bit masks. Tables
+-- The quick test of an embedding by masks, as the code computes it for one member of the set. Sets of its nodes are 16-bit masks. Tables
 -- are made once a case. proofs/Judging.antt shows that with the right tables this is the model's quick test.
 use Prim.Native.Nat.{ℕ, zero, suc, _-_, _/_, _%_}
 use mathlib.Core.Bool.{Bool, true, false}
@@ -71,7 +71,7 @@ passBy T P es c e = hangBy T (getD es (patternParent P c) 0) (getD es c 0) (posi
 unfoldable pub givenBy : Sets → Pattern → List ℕ → List ℕ
 givenBy T P es = gather (patternParent P) (passBy T P es) (length P - 1) (replicate 16 0)
 
--- the second pattern's root meets at the root, where g hangs from it
+-- the member's root meets at the root, where g hangs from it
 unfoldable pub rootBy : Sets → Pattern → ℕ → Bool
 rootBy T P g = has (meetsBy T 0 (position P 0) (bitOr (T .closed 0) g)) 0
 

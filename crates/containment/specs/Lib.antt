@@ -8,3 +8,4 @@ pub mod Settling
 pub mod Skipping
 pub mod Stepping
 pub mod Steps
+pub mod Members

@@ -1,8 +1,8 @@
--- What the blocks hold when they are those of a summary and two patterns.
+-- What the blocks hold when they are those of a summary, a first pattern and the members of a set.
 use Prim.Native.Nat.{ℕ, _-_, _^_, _≤_, _<_}
 use mathlib.Core.Path.{_≡_}
 use mathlib.Core.Bool.{Bool}
-use mathlib.Core.List.{List}
+use mathlib.Core.List.{List, []}
 use lib.ListN.{length, getD}
 use Rattle.model.specs.Limits.{maxPosition}
 use Rattle.model.specs.Lists.{maskBelow}
@@ -38,7 +38,7 @@ pub record StepSets (S : Summary) (P : Pattern) (M : Candidates) : Type 0 where
 
 -- ---- blocks that are made
 
--- the block of a summary and a second pattern holds what one node takes, and the summary's parents, with zeros after them; what is
+-- the block of a summary and a member holds what one node takes, and the summary's parents, with zeros after them; what is
 -- offered at least is not known yet, so all nodes stand in the cells
 pub record SetsMade (S : Summary) (Q : Pattern) (t : List ℕ) : Type 0 where
   pub tree : Rooted 64 (upIn t)
@@ -47,10 +47,15 @@ pub record SetsMade (S : Summary) (Q : Pattern) (t : List ℕ) : Type 0 where
   pub cells : (i : ℕ) → i < 1024 → getD t i 0 ≡ 2 ^ length Q - 1
 
 -- and what a chain takes
-pub record SecondMade (S : Summary) (Q : Pattern) (t : List ℕ) : Type 0 where
+pub record MemberMade (S : Summary) (Q : Pattern) (t : List ℕ) : Type 0 where
   pub tree : Rooted 64 (upIn t)
   pub sets : ChainSets S Q (setsIn t)
   pub cells : (i : ℕ) → i < 1024 → getD t i 0 ≡ 2 ^ length Q - 1
+
+-- one for each member, in the set's order
+pub record MembersMade (S : Summary) (Qs : List Pattern) (ts : List (List ℕ)) : Type 0 where
+  pub count : length ts ≡ length Qs
+  pub each : (i : ℕ) → i < length Qs → MemberMade S (getD Qs i []) (getD ts i [])
 
 -- the block of a summary and a first pattern holds what stepping takes, if `parts` has the pattern's paths; no ways are counted yet
 pub record MasksMade (S : Summary) (parts lasts : List ℕ) (cap : ℕ) (m : List ℕ) : Type 0 where

@@ -33,7 +33,7 @@ pub record FilledFront (n v : ℕ) (before after : List ℕ) : Type 0 where
 abbrev pub pathTable : Summary → Pattern → List ℕ
 pathTable S P = map (pathMask S P) (upFrom 0 16)
 
--- ---- the second pattern
+-- ---- a member of the set
 
 -- p's position is 0 or n
 abbrev pub mayHold : Pattern → ℕ → ℕ → Bool

@@ -11,9 +11,9 @@ use Rattle.model.specs.Lists.{upFrom, has}
 use Rattle.model.specs.Pattern.{Pattern, patternParent, descends, position}
 use Rattle.model.specs.Verdict.{going, run}
 use Rattle.model.specs.Skipping.{skip}
-use Rattle.containment.specs.Judging.{gather, Sets, nodeBy, passBy, rootBy, judgeBy}
+use Rattle.containment.specs.Judging.{gather, Sets, nodeBy, passBy, rootBy}
 use Rattle.containment.specs.Stepping.{members, stepFrom, Candidates, placesBy, sitesBy}
-use Rattle.containment.specs.Blocks.{cell}
+use Rattle.containment.specs.Blocks.{cell, setsIn}
 
 -- what a loop over a list comes to
 unfoldable pub loop : {A : Type 0} → (A → ℕ → A) → A → List ℕ → A
@@ -36,14 +36,11 @@ climbRow join pass up far c (suc k) b h t =
       | false ↦ t
     ]
 
--- what becomes of what comes up on its way through a node: an offer is offered on, and ways stay as many; how ways are added and
--- multiplied, cut at the cap K
+-- what becomes of an offer on its way through a node: it is offered on
 abbrev pub offerOn : Sets → ℕ → ℕ → ℕ
 offerOn T x h = nodeBy T x 0 h
 
-abbrev pub sameOn : ℕ → ℕ → ℕ
-sameOn x n = n
-
+-- how ways are added and multiplied, cut at the cap K
 abbrev pub plusUpTo : ℕ → ℕ → ℕ → ℕ
 plusUpTo K acc n = min K (acc + n)
 
@@ -85,19 +82,37 @@ lowRow T P M c t = loop (lowTurn T P c) t (members (M .parts c))
 abbrev pub lowTable : Sets → Pattern → Candidates → List ℕ → List ℕ
 lowTable T P M t = fillRows (lowRow T P M) (length P - 1) t
 
+-- in every member's block
+pub record LowsFilled (P : Pattern) (M : Candidates) (before after : List (List ℕ)) : Type 0 where
+  pub count : length after ≡ length before
+  pub each : (i : ℕ) → i < length before → getD after i [] ≡ lowTable (setsIn (getD before i [])) P M (getD before i [])
+
 -- in how many ways all below node c can be placed where it stands at y, cut at the cap K
 unfoldable pub timesBy : ℕ → Pattern → List ℕ → ℕ → ℕ → ℕ
 timesBy K = childLoop (timesUpTo K) 1
 
--- and node c with all below it, where its parent stands at x. From one of its paths, and from all
-abbrev pub waysTurn : ℕ → (ℕ → ℕ) → Pattern → ℕ → List ℕ → ℕ → List ℕ
-waysTurn K up P c = fillTurn (plusUpTo K) sameOn (timesBy K P) up (descends P c) c
+-- what node c with all below it hands up from y to y's parent: its ways at y, if y is one of its paths, and, by a descendant edge, its
+-- ways below y
+unfoldable pub ownWays : ℕ → Pattern → Candidates → ℕ → List ℕ → ℕ → ℕ
+ownWays K P M c t y = elim (has (M .parts c) y) [ true ↦ timesBy K P t c y | false ↦ 0 ]
 
-unfoldable pub waysRow : ℕ → (ℕ → ℕ) → Pattern → Candidates → ℕ → List ℕ → List ℕ
-waysRow K up P M c t = loop (waysTurn K up P c) t (members (M .parts c))
+unfoldable pub belowWays : Bool → ℕ → List ℕ → ℕ → ℕ
+belowWays far c t y = elim far [ true ↦ getD t (cell c y) 0 | false ↦ 0 ]
 
-abbrev pub waysTable : ℕ → (ℕ → ℕ) → Pattern → Candidates → List ℕ → List ℕ
-waysTable K up P M t = fillRows (waysRow K up P M) (length P - 1) t
+-- in how many ways node c with all below it can be placed, where its parent stands at x. What one summary node hands up, and what all n
+-- do, from the last on
+abbrev pub waysTurn : ℕ → (ℕ → ℕ) → Pattern → Candidates → ℕ → ℕ → List ℕ → List ℕ
+waysTurn K up P M c y t = joinAt (plusUpTo K) (cell c (up y)) (plusUpTo K (ownWays K P M c t y) (belowWays (descends P c) c t y)) t
+
+-- the turns begin before this node: none where there are no paths
+abbrev pub topOf : ℕ → ℕ → ℕ
+topOf paths n = elim (eqb paths 0) [ true ↦ 1 | false ↦ n ]
+
+unfoldable pub waysRow : ℕ → (ℕ → ℕ) → Pattern → Candidates → ℕ → ℕ → List ℕ → List ℕ
+waysRow K up P M n c t = fillRows (waysTurn K up P M c) (topOf (M .parts c) n - 1) t
+
+abbrev pub waysTable : ℕ → (ℕ → ℕ) → Pattern → Candidates → ℕ → List ℕ → List ℕ
+waysTable K up P M n t = fillRows (waysRow K up P M n) (length P - 1) t
 
 -- ---- a partial embedding: the images es of the first q nodes
 
@@ -133,7 +148,8 @@ pub record PlacedBy (P : Pattern) (M : Candidates) (q : ℕ) (es : List ℕ) : T
   pub first : getD es 0 0 ≡ 0
   pub placed : (c : ℕ) → 0 < c → c < q → List·Memᴰ (getD es c 0) (members (placesBy P M c (getD es (patternParent P c) 0)))
 
--- the tables are such that the run over the completions of the first q images may be skipped where they surely pass
-pub record MaySkip (T : Sets) (P : Pattern) (M : Candidates) (lows counts : List ℕ) (K : ℕ) : Type 0 where
-  pub skipped : (q left tried : ℕ) (es : List ℕ) → 0 < q → q ≤ length P → q ≤ length es → left < K → PlacedBy P M q es → surelyBy T P lows q es ≡ true
-      → run (judgeBy T P) (going left tried) (stepFrom (sitesBy P M) (length P - q) (take q es)) ≡ skip left tried (leftBy K P counts q es)
+-- the run over the completions of the first q images, by this test of a whole embedding, may be skipped where this test of a partial
+-- one says that they surely pass
+pub record MaySkip (test : List ℕ → Bool) (sure : ℕ → List ℕ → Bool) (P : Pattern) (M : Candidates) (counts : List ℕ) (K : ℕ) : Type 0 where
+  pub skipped : (q left tried : ℕ) (es : List ℕ) → 0 < q → q ≤ length P → q ≤ length es → left < K → PlacedBy P M q es → sure q es ≡ true
+      → run test (going left tried) (stepFrom (sitesBy P M) (length P - q) (take q es)) ≡ skip left tried (leftBy K P counts q es)

@@ -1,11 +1,11 @@
 -- What stepping through the embeddings comes to, as the model's fold over them.
 use Prim.Native.Nat.{ℕ, _-_, _<_}
 use mathlib.Core.Path.{_≡_}
+use mathlib.Core.Bool.{Bool}
 use mathlib.Core.List.{List}
 use lib.ListN.{length, getD, take}
 use Rattle.model.specs.Pattern.{Pattern}
 use Rattle.model.specs.Verdict.{Progress, going, failed, halted, run}
-use Rattle.containment.specs.Judging.{Sets, judgeBy}
 use Rattle.containment.specs.Stepping.{Candidates, stepFrom, sitesBy}
 use Rattle.containment.specs.declared.Budget.{Budget}
 use Rattle.containment.specs.declared.Run.{Run}
@@ -22,8 +22,8 @@ progressOf es (Failed tried) = failed tried es
 progressOf es (Stopped tried) = halted tried
 
 -- stepping from node q on: the images of the nodes before q are kept, all images are summary nodes, and the run is the fold over the
--- extensions
-pub record Stepped (T : Sets) (P : Pattern) (M : Candidates) (q : ℕ) (n : Budget) (entry exit : List ℕ) (r : Run) : Type 0 where
+-- extensions by the test of a whole embedding
+pub record Stepped (test : List ℕ → Bool) (P : Pattern) (M : Candidates) (q : ℕ) (n : Budget) (entry exit : List ℕ) (r : Run) : Type 0 where
   pub kept : take q exit ≡ take q entry
   pub inside : (c : ℕ) → c < length P → getD exit c 0 < 64
-  pub same : progressOf exit r ≡ run (judgeBy T P) (goingBy n) (stepFrom (sitesBy P M) (length P - q) (take q entry))
+  pub same : progressOf exit r ≡ run test (goingBy n) (stepFrom (sitesBy P M) (length P - q) (take q entry))

@@ -1,16 +1,16 @@
-// The quick test of an embedding by masks. Sets of the second pattern's nodes are 16-bit masks.
+// The quick test of an embedding by masks, of one member of the set. Sets of the member's nodes are 16-bit masks.
 
 use crate::masks::Masks;
 use crate::masks::last;
-use crate::second::Second;
-use crate::second::allowed;
-use crate::second::closed;
-use crate::second::deep;
-use crate::second::fitting;
-use crate::second::high;
-use crate::second::least_at;
-use crate::second::low;
-use crate::second::up;
+use crate::member::Member;
+use crate::member::allowed;
+use crate::member::closed;
+use crate::member::deep;
+use crate::member::fitting;
+use crate::member::high;
+use crate::member::least_at;
+use crate::member::low;
+use crate::member::up;
 use bits::has16;
 use format::field::wide64;
 use format::nodes::PatternNode;
@@ -35,14 +35,14 @@ ghost use Rattle.containment.specs.Settling.{unlessOver, foldedRow, open
 pub type Row = [u16; 16];
 
 // The pattern nodes all of whose children are in acc.
-fn full(t: &Second, acc: u16) -> u16
+fn full(t: &Member, acc: u16) -> u16
     ensures { λ r. ⌜ r ≡ fullBy (setsIn (now (t .entry))) acc ⌝ }
 {
     low(t, acc % 256) & high(t, acc / 256)
 }
 
 // The pattern nodes that meet at summary node x, where position n is held and acc is offered.
-fn met(t: &Second, x: SummaryNode, n: usize, acc: u16) -> u16
+fn met(t: &Member, x: SummaryNode, n: usize, acc: u16) -> u16
     requires { ⌜ (x .0 < 64) × (n < 16) ⌝ }
     ensures { λ r. ⌜ r ≡ meetsBy (setsIn (now (t .entry))) (x .0) n acc ⌝ }
 {
@@ -50,7 +50,7 @@ fn met(t: &Second, x: SummaryNode, n: usize, acc: u16) -> u16
 }
 
 // What is offered to the node above x.
-pub fn offered(t: &Second, x: SummaryNode, n: usize, acc: u16) -> u16
+pub fn offered(t: &Member, x: SummaryNode, n: usize, acc: u16) -> u16
     requires { ⌜ (x .0 < 64) × (n < 16) ⌝ }
     ensures { λ r. ⌜ r ≡ offersBy (setsIn (now (t .entry))) (x .0) n acc ⌝ }
 {
@@ -58,7 +58,7 @@ pub fn offered(t: &Second, x: SummaryNode, n: usize, acc: u16) -> u16
 }
 
 // What a node on x with position n, its filled-up children and what hangs from it, g, offer.
-pub fn node(t: &Second, x: SummaryNode, n: usize, g: u16) -> u16
+pub fn node(t: &Member, x: SummaryNode, n: usize, g: u16) -> u16
     requires { ⌜ (x .0 < 64) × (n < 16) ⌝ }
     ensures { λ r. ⌜ r ≡ nodeBy (setsIn (now (t .entry))) (x .0) n g ⌝ }
 {
@@ -66,7 +66,7 @@ pub fn node(t: &Second, x: SummaryNode, n: usize, g: u16) -> u16
 }
 
 // What the chain from below a down to b offers, where b holds position n and g hangs from it.
-fn hang(t: &Second, a: SummaryNode, b: SummaryNode, n: usize, g: u16) -> u16
+fn hang(t: &Member, a: SummaryNode, b: SummaryNode, n: usize, g: u16) -> u16
     requires { ⌜ (Rooted 64 (upIn (now t))) × (b .0 < 64) × (n < 16) ⌝ }
     ensures { λ r. ⌜ r ≡ hangBy (setsIn (now (t .entry))) (a .0) (b .0) n g ⌝ }
 {
@@ -80,7 +80,7 @@ fn hang(t: &Second, a: SummaryNode, b: SummaryNode, n: usize, g: u16) -> u16
 }
 
 // What node c of the first pattern, (p, at), passes on to its parent, where e hangs from it.
-fn pass(t: &Second, p: &[u8], at: usize, images: &[u16], c: PatternNode, e: u16) -> u16
+fn pass(t: &Member, p: &[u8], at: usize, images: &[u16], c: PatternNode, e: u16) -> u16
     requires { ⌜ Judgeable (now t) (now p) at (now images) ⌝ }
     requires { ⌜ (0 < c .0) × (c .0 < length (patternAt (now p) at)) ⌝ }
     ensures { λ r. ⌜ r ≡ passBy (setsIn (now (t .entry))) (patternAt (now (p .entry)) at) (now (images .entry)) (c .0) e ⌝ }
@@ -100,7 +100,7 @@ pub fn join(t: &mut [u16], j: usize, set: u16)
 // What node c passes on to its parent at least, where e hangs from it and the nodes before q are placed: the least that it offers
 // where it is not placed and its parent is.
 fn handed(
-    t: &Second,
+    t: &Member,
     p: &[u8],
     at: usize,
     images: &[u16],
@@ -130,7 +130,7 @@ struct Share {
 }
 
 // What a node passes on, where its part ends with the node just placed.
-fn folded(t: &Second, p: &[u8], at: usize, images: &[u16], s: Share) -> u16
+fn folded(t: &Member, p: &[u8], at: usize, images: &[u16], s: Share) -> u16
     requires { ⌜ Judgeable (now t) (now p) at (now images) ⌝ }
     requires { ⌜ (0 < s .node .0) × (s .node .0 < length (patternAt (now p) at)) ⌝ }
     ensures { λ r. ⌜ r ≡ unlessOver (s .over) (passBy (setsIn (now (t .entry))) (patternAt (now (p .entry)) at) (now (images .entry)) (s .node .0) (s .set)) ⌝ }
@@ -142,7 +142,7 @@ fn folded(t: &Second, p: &[u8], at: usize, images: &[u16], s: Share) -> u16
 }
 
 // What a node passes on at least, where its part is not settled.
-fn opened(t: &Second, p: &[u8], at: usize, images: &[u16], q: PatternNode, s: Share) -> u16
+fn opened(t: &Member, p: &[u8], at: usize, images: &[u16], q: PatternNode, s: Share) -> u16
     requires { ⌜ Judgeable (now t) (now p) at (now images) ⌝ }
     requires { ⌜ (0 < s .node .0) × (s .node .0 < length (patternAt (now p) at)) ⌝ }
     ensures { λ r. ⌜ r ≡ unlessOver (s .over)
@@ -156,7 +156,7 @@ fn opened(t: &Second, p: &[u8], at: usize, images: &[u16], q: PatternNode, s: Sh
 
 // The row with what the parts that end with node q offer, which is placed.
 pub fn settle(
-    t: &Second,
+    t: &Member,
     m: &Masks,
     p: &[u8],
     at: usize,
@@ -185,7 +185,7 @@ pub fn settle(
 
 // What hangs at least from the first pattern's root: what is settled, and each other node, from the last on, passes on to its parent.
 fn given(
-    t: &Second,
+    t: &Member,
     m: &Masks,
     p: &[u8],
     at: usize,
@@ -213,8 +213,8 @@ fn given(
     hangs[0]
 }
 
-// The second pattern's root meets at the root, where g hangs from it.
-pub fn root(t: &Second, p: &[u8], at: usize, g: u16) -> bool
+// The member's root meets at the root, where g hangs from it.
+pub fn root(t: &Member, p: &[u8], at: usize, g: u16) -> bool
     requires { ⌜ Climbable (now t) (now p) at ⌝ }
     ensures { λ r. ⌜ r ≡ rootBy (setsIn (now (t .entry))) (patternAt (now (p .entry)) at) g ⌝ }
 {
@@ -225,7 +225,7 @@ pub fn root(t: &Second, p: &[u8], at: usize, g: u16) -> bool
 
 // Every completion of the images of the nodes before q surely passes, by the row that is settled and what is offered at least besides.
 pub fn judge(
-    t: &Second,
+    t: &Member,
     m: &Masks,
     p: &[u8],
     at: usize,

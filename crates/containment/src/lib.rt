@@ -2,7 +2,8 @@
 
 mod judge;
 mod masks;
-mod second;
+mod member;
+mod parents;
 mod sets;
 mod skip;
 mod steps;

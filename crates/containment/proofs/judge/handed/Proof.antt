@@ -2,7 +2,7 @@
 use mathlib.Core.Path.{_∙_}
 use native.Mathlib.Omega.{arith}
 use borrow.Author.Needs.{needs}
-use Rattle.containment.proofs.RoomLaws.{parent-placed, image-lt}
+use Rattle.containment.proofs.RoomLaws.{parent-placed, image-lt, judge-stands}
 use Rattle.containment.proofs.SkipLoop.{sure-placed, sure-least, sure-none}
 use Rattle.containment.proofs.judge.handed.Statement.{statement}
 use Rattle.containment.proofs.judge.handed.Tie as tie
@@ -18,13 +18,13 @@ image-of-requires : tie.Need-image-of-requires
 image-of-requires c κs =
     let l = c .before .before .before in
     let s = start l .pre in
-    parent-placed (s .0) (s .1 .0) (s .1 .1) (l .pattern-parent .ensures)
+    parent-placed (judge-stands (s .0)) (s .1 .0) (s .1 .1) (l .pattern-parent .ensures)
 
 least-at-requires : tie.Need-least-at-requires
 least-at-requires c κs =
     let l = c .before .before .before .before in
     let s = start l .pre in
-    (omega (arith, s .0 .base .pattern .few), image-lt (s .0) (parent-placed (s .0) (s .1 .0) (s .1 .1) (l .pattern-parent .ensures)) (c .image-of .ensures))
+    (omega (arith, s .0 .base .pattern .few), image-lt (judge-stands (s .0)) (parent-placed (judge-stands (s .0)) (s .1 .0) (s .1 .1) (l .pattern-parent .ensures)) (c .image-of .ensures))
 
 returns-2 : tie.Need-returns-2
 returns-2 c =

@@ -2,17 +2,17 @@
 use native.Mathlib.Omega.{arith}
 use borrow.Author.Needs.{needs}
 use Rattle.containment.specs.Judging.{passBy}
-use Rattle.containment.proofs.RoomLaws.{position-lt, parent-placed, image-lt}
+use Rattle.containment.proofs.RoomLaws.{position-lt, parent-placed, image-lt, judge-stands}
 use Rattle.containment.proofs.judge.pass.Statement.{statement}
 use Rattle.containment.proofs.judge.pass.Tie as tie
 
 image-of-requires : tie.Need-image-of-requires
-image-of-requires c κs = let s = c .before .before .before .pre in parent-placed (s .0) (s .1 .0) (s .1 .1) (c .pattern-parent .ensures)
+image-of-requires c κs = let s = c .before .before .before .pre in parent-placed (judge-stands (s .0)) (s .1 .0) (s .1 .1) (c .pattern-parent .ensures)
 
 hang-requires : tie.Need-hang-requires
 hang-requires c κs =
     let s = c .before .before .before .before .before .before .pre in
-    (s .0 .base .tree, image-lt (s .0) (omega (arith, s .0 .placed, s .1 .1)) (c .before .image-of2 .ensures), position-lt (s .0 .base) (s .1 .1) (c .pattern-position .ensures .0))
+    (s .0 .base .tree, image-lt (judge-stands (s .0)) (omega (arith, s .0 .placed, s .1 .1)) (c .before .image-of2 .ensures), position-lt (s .0 .base) (s .1 .1) (c .pattern-position .ensures .0))
 
 returns : tie.Need-returns
 unfolding passBy

@@ -1,4 +1,4 @@
--- `containment::judge::root` meets its contract: what hangs from the root is met there, and bit 0 is the second pattern's root. Assumes
+-- `containment::judge::root` meets its contract: what hangs from the root is met there, and bit 0 is the member's root. Assumes
 -- nothing.
 use native.Mathlib.Omega.{arith}
 use borrow.Author.Needs.{needs}

@@ -1,0 +1,36 @@
+-- The rows of all members: each is settled by itself, and a whole embedding passes by some member exactly when the root of some member
+-- meets by its row. Assumes nothing.
+use Prim.Native.Nat.{ℕ, _+_, _≤_, _<_}
+use mathlib.Core.Path.{_≡_, sym, ap, _∙_}
+use mathlib.Core.List.{List, []}
+use native.Mathlib.Omega.{arith}
+use lib.ListN.{length, getD, set, take, replicate, getD-replicate}
+use Rattle.model.specs.Lists.{upFrom}
+use Rattle.model.specs.Limits.{maxMembers}
+use Rattle.model.specs.Pattern.{Pattern, IsPatternTree, patternParent}
+use Rattle.model.proofs.ListLaws.{any-agree, upFrom-mem}
+use Rattle.containment.specs.Blocks.{lastIn, setsIn}
+use Rattle.containment.specs.Judging.{rootBy, judgeBy}
+use Rattle.containment.specs.Members.{judgedBySome, rootOfSome, RowsSettled, RowsFolded}
+use Rattle.containment.specs.Settling.{Lasts, foldedRow}
+use Rattle.containment.proofs.SettleLaws.{row-whole, row-kept, row-next, row-start}
+
+module _ (P : Pattern) (tree : IsPatternTree P) {ts : List (List ℕ)} {m : List ℕ} where
+  pub rows-whole : {q : ℕ} {es : List ℕ} {rows : List (List ℕ)} → RowsSettled ts m P q es rows → q ≡ length P → judgedBySome ts P es ≡ rootOfSome ts P rows
+  unfolding judgedBySome rootOfSome
+  rows-whole {q} {es} {rows} s e =
+      any-agree (λ i. judgeBy (setsIn (getD ts i [])) P es) (λ i. rootBy (setsIn (getD ts i [])) P (getD (getD rows i []) 0 0)) (upFrom 0 (length ts))
+      (λ i k. (let u = upFrom-mem 0 (length ts) i k in row-whole P tree (s .each i (omega arith)) e))
+
+  pub rows-kept : {q : ℕ} {es : List ℕ} {rows : List (List ℕ)} (fs : List ℕ) → q ≤ length P → take q fs ≡ take q es → RowsSettled ts m P q es rows → RowsSettled ts m P q fs rows
+  rows-kept fs h e s = record { each = λ i k. row-kept P tree fs h e (s .each i k) }
+
+  -- the rows are copied, and what ends with the node just placed is folded in
+  pub rows-next : {q : ℕ} (v : ℕ) {es fs : List ℕ} {rows copies after : List (List ℕ)} → q < length P → length P ≤ 16 → RowsSettled ts m P q es rows → fs ≡ set es q v
+      → ((i : ℕ) → i < length ts → getD copies i [] ≡ getD rows i []) → RowsFolded ts m P q fs copies after → RowsSettled ts m P (q + 1) fs after
+  rows-next {q} v {es} {fs} h few s e copied folded =
+      record { each = λ i k. row-next P tree v h few (s .each i k) e (folded .each i k ∙ ap (foldedRow (setsIn (getD ts i [])) P (lastIn m) q fs) (copied i k)) }
+
+  pub rows-start : (es : List ℕ) → Lasts (length P) (patternParent P) (lastIn m) → length ts ≤ maxMembers → RowsSettled ts m P 1 es (replicate maxMembers (replicate 16 0))
+  rows-start es L few =
+      record { each = λ i k. record { lasts = L; same = getD-replicate maxMembers i (replicate 16 0) [] (omega arith) ∙ row-start {t = getD ts i []} {m = m} P tree es L .same } }
