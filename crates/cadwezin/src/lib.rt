@@ -61,7 +61,7 @@ fn values(answer: Answer) -> VerdictAnswer
     }
 }
 
-// Decide whether the first pattern is contained in the second. What "not included" shows goes to the front of the answer buffer, and
+// Decide whether the first pattern is contained in the set. What "not included" shows goes to the front of the answer buffer, and
 // the tally grows by tried.
 #[no_mangle]
 pub extern "C" fn cadwezin_verdict(

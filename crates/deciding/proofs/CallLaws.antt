@@ -52,7 +52,7 @@ module _ (b : List ℕ) (small : AreBytes b) (L tally : ℕ) (buffer : List ℕ)
     pub tally-fits : {n : ℕ} → n ≡ triedIn r → tally + n ≤ maxTally
     tally-fits {n} e =
         let k : n ≡ triedOf v = tried e in
-        let l : triedOf v ≤ L = verdict-tried (caseOf b .summary) (caseOf b .first) (caseOf b .second) L in
+        let l : triedOf v ≤ L = verdict-tried (caseOf b .summary) (caseOf b .first) (caseOf b .members) L in
         omega (arith, accepted-verdict b L tally (length buffer) z .tallied)
 
     pub answered-accepted : {answer : Answer} {n : ℕ} → answer ≡ asAnswer r → n ≡ triedIn r → VerdictAnswered b L tally buffer (outcomeOf answer after (tally + n))

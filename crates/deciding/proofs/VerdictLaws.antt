@@ -15,14 +15,14 @@ use Rattle.model.specs.Pattern.{Pattern, arity, SummaryEmbedding}
 use Rattle.model.specs.Embeddings.{imageIn}
 use Rattle.model.specs.Facts.{CaseFacts, AcceptedCase}
 use Rattle.model.specs.Verdict.{Verdict, included, notIncluded, stopped}
-use Rattle.model.specs.Bytes.{Case, caseOf, firstAt, secondAt, writtenAtFront}
+use Rattle.model.specs.Bytes.{Case, caseOf, firstAt, setAt, setOf, writtenAtFront}
 use Rattle.model.specs.Calls.{shown}
 use Rattle.model.proofs.Bytes.{front-none, front-written}
 use Rattle.model.proofs.Decision.{placed}
 use Rattle.model.proofs.Verdict.{verdict-shown}
-use Rattle.format.specs.Given.{summaryIn, patternAt, PatternGiven}
-use Rattle.format.proofs.GivenLaws.{given-summary, given-first, given-second}
-use Rattle.questions.proofs.NumberedLaws.{first-pattern, second-pattern}
+use Rattle.format.specs.Given.{summaryIn, patternAt, PatternGiven, SetGiven}
+use Rattle.format.proofs.GivenLaws.{given-summary, given-first, given-set}
+use Rattle.questions.proofs.NumberedLaws.{first-pattern}
 use Rattle.canonical.specs.Given.{embeddingIn}
 use Rattle.canonical.specs.Shown.{shownDocument, Showable}
 use Rattle.containment.specs.Answer.{answerOf, shownOf, caseBy, verdictOf, CaseGiven}
@@ -62,26 +62,27 @@ shown-not S P n es = refl
 
 -- ---- an accepted case
 
-module _ {b : List ℕ} (A : AcceptedCase b) {first second : ℕ} (e : first ≡ firstAt b) (f : second ≡ secondAt b) where
-  same-case : caseBy b b first b second ≡ caseOf b
-  same-case = λ i. record { summary = caseOf b .summary; first = sym (first-pattern b first e) i; second = sym (second-pattern b second f) i }
+module _ {b : List ℕ} (A : AcceptedCase b) {first set : ℕ} (e : first ≡ firstAt b) (f : set ≡ setAt b) where
+  same-case : caseBy b b first set ≡ caseOf b
+  unfolding caseOf
+  same-case = λ i. record { summary = caseOf b .summary; first = sym (first-pattern b first e) i; members = ap (setOf b) f i }
 
-  pub case-given : CaseGiven b b first b second
+  pub case-given : CaseGiven b b first set
   case-given =
       record {
         summary = given-summary A;
         first = subst (λ (at : ℕ). PatternGiven b at) (sym e) (given-first A);
-        second = subst (λ (at : ℕ). PatternGiven b at) (sym f) (given-second A);
+        members = subst (λ (on : ℕ). SetGiven b on) (sym f) (given-set A);
         facts = subst (λ (c : Case). CaseFacts c) (sym same-case) (A .facts);
       }
 
   -- what is told of it by the fields where its patterns stand
-  pub told-case : {limit : ℕ} {before after : List ℕ} {r : Containment} → Told (caseBy b b first b second) limit before after r → Told (caseOf b) limit before after r
+  pub told-case : {limit : ℕ} {before after : List ℕ} {r : Containment} → Told (caseBy b b first set) limit before after r → Told (caseOf b) limit before after r
   told-case {limit} {before} {after} {r} t = subst (λ (c : Case). Told c limit before after r) same-case t
 
   module _ (limit : ℕ) where
     abbrev v : Verdict
-    v = verdictOf (caseBy b b first b second) limit
+    v = verdictOf (caseBy b b first set) limit
 
     abbrev es : List ℕ
     es = shownOf v
@@ -91,7 +92,7 @@ module _ {b : List ℕ} (A : AcceptedCase b) {first second : ℕ} (e : first ≡
       is-not = not-included v (sym a ∙ n)
 
       embedded : (length es ≡ length (patternAt b first)) × SummaryEmbedding (summaryIn b) (patternAt b first) (imageIn es)
-      embedded = placed (case-given .facts .summary) (case-given .facts .first) (verdict-shown (summaryIn b) (patternAt b first) (patternAt b second) limit t es is-not .0)
+      embedded = placed (case-given .facts .summary) (case-given .facts .first) (verdict-shown (summaryIn b) (patternAt b first) (setOf b set) limit t es is-not .0)
 
       -- the images are the embedding
       shown-images : embeddingIn b first images ≡ es

@@ -4,7 +4,7 @@ use canonical::show;
 use containment::Containment;
 use containment::verdict::verdict;
 use format::sections::first_at;
-use format::sections::second_at;
+use format::sections::set_at;
 use questions::pattern::arity;
 use questions::refusals::verdict_refusal;
 ghost use mathlib.Core.Path.{_≡_};
@@ -38,9 +38,9 @@ fn accepted(case: &[u8], limit: u64, answer: &mut [u8]) -> Containment
     ensures { λ r. ⌜ Told (caseOf (now (case .entry))) limit (now (answer .entry)) (now (answer .exit)) r ⌝ }
 {
     let first = first_at(case);
-    let second = second_at(case);
+    let set = set_at(case);
     let mut images = [0u16; 16];
-    let r = verdict(case, case, first, case, second, &mut images, limit);
+    let r = verdict(case, case, first, set, &mut images, limit);
     let Containment::NotContained(rank) = r else {
         return r;
     };

@@ -20,15 +20,30 @@ fn field_of(b: &[u8], i: usize) -> usize
     field(b, i)
 }
 
-// The field that holds the count of the pattern that a number gives.
+// The field that holds the count of the next section, where there is more to pass over; else that of the present one.
+fn passed(case: &[u8], at: usize, more: bool) -> usize
+    requires { ⌜ at < 4000000 ⌝ }
+    ensures { λ r. ⌜ r ≤ at + 262141 ⌝ }
+{
+    if !more {
+        return at;
+    }
+    at + 1 + 4 * field_of(case, at)
+}
+
+// The field that holds the count of the pattern that a number gives: the first, or one of eight members.
 fn pattern_at(case: &[u8], number: u64) -> usize
-    ensures { λ r. ⌜ r < 1000000 ⌝ }
+    ensures { λ r. ⌜ r < 4000000 ⌝ }
 {
     let first = 1 + 3 * field_of(case, 0);
     if number == 1 {
         return first;
     }
-    first + 1 + 4 * field_of(case, first)
+    let mut at = 1 + passed(case, first, true);
+    for i in 0..7 {
+        at = passed(case, at, 2 + i < number);
+    }
+    at
 }
 
 // The first document node after v that is on summary node s; the column's length where there is none.

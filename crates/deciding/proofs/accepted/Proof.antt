@@ -10,37 +10,37 @@ use Rattle.deciding.proofs.accepted.Statement.{statement}
 use Rattle.deciding.proofs.accepted.Tie as tie
 
 -- the function's entry, from where the patterns' places are known
-abbrev start : tie.After-second-at → tie.Start
+abbrev start : tie.After-set-at → tie.Start
 start c = c .before .before .before .before
 
-second-at-requires : tie.Need-second-at-requires
-second-at-requires c κs = whole-case _ .1 (c .before .before .before .pre .0 .whole)
+set-at-requires : tie.Need-set-at-requires
+set-at-requires c κs = whole-case _ .1 (c .before .before .before .pre .0 .whole)
 
 verdict-requires : tie.Need-verdict-requires
 verdict-requires c κs =
     let l = c .before in
     let p = start l .pre in
-    let G = case-given (p .0) (l .before .first-at .ensures) (l .second-at .ensures) in
+    let G = case-given (p .0) (l .before .first-at .ensures) (l .set-at .ensures) in
     ((G, p .2), omega (arith, G .first .few, length-replicate {A = ℕ} 16 0))
 
 returns : tie.Need-returns
 returns c =
     let d = c .before .before in
     let l = d .before .before in
-    told-case (start l .pre .0) (l .before .first-at .ensures) (l .second-at .ensures) (told-nothing _ (d .verdict .ensures .0) (c .match .keys2))
+    told-case (start l .pre .0) (l .before .first-at .ensures) (l .set-at .ensures) (told-nothing _ (d .verdict .ensures .0) (c .match .keys2))
 
 arity-requires : tie.Need-arity-requires
 arity-requires c κs =
     let l = c .before .before .before .before .before .before .before in
-    case-given (start l .pre .0) (l .before .first-at .ensures) (l .second-at .ensures) .first .whole
+    case-given (start l .pre .0) (l .before .first-at .ensures) (l .set-at .ensures) .first .whole
 
 show-requires : tie.Need-show-requires
 show-requires c κs =
     let d = c .before .before .before .before .before .before .before in
     let l = d .before .before in
     let s = start l in (
-      showable (s .pre .0) (l .before .first-at .ensures) (l .second-at .ensures) (s .args .limit) (replicate 16 0) (d .verdict .ensures .0) (c .before .before .before .before .r .given .1) (d .verdict .ensures .1) (c .before .arity .ensures .0)
-          (omega (arith, d .verdict .kept .1 .1 .1 .1 .1 .0, length-replicate {A = ℕ} 16 0)),
+      showable (s .pre .0) (l .before .first-at .ensures) (l .set-at .ensures) (s .args .limit) (replicate 16 0) (d .verdict .ensures .0) (c .before .before .before .before .r .given .1) (d .verdict .ensures .1) (c .before .arity .ensures .0)
+          (omega (arith, d .verdict .kept .1 .1 .1 .1 .0, length-replicate {A = ℕ} 16 0)),
       s .pre .1,
     )
 
@@ -50,9 +50,9 @@ returns-2 c =
     let d = w .before .before .before .before .before .before .before .before in
     let l = d .before .before in
     let s = start l in
-    told-shown (s .pre .0) (l .before .first-at .ensures) (l .second-at .ensures) (s .args .limit) (replicate 16 0) (d .verdict .ensures .0) (w .before .before .before .before .before .r .given .1) (d .verdict .ensures .1) (w .show .ensures)
+    told-shown (s .pre .0) (l .before .first-at .ensures) (l .set-at .ensures) (s .args .limit) (replicate 16 0) (d .verdict .ensures .0) (w .before .before .before .before .before .r .given .1) (d .verdict .ensures .1) (w .show .ensures)
 
 pub accepted-spec : {M : Type 1} → statement M
 accepted-spec =
-    tie.close (tie.spec (λ c κs. search needs) second-at-requires (λ c. search needs) verdict-requires (λ c. search needs) returns
+    tie.close (tie.spec (λ c κs. search needs) set-at-requires (λ c. search needs) verdict-requires (λ c. search needs) returns
     (λ c. search needs) arity-requires show-requires (λ c. search needs) returns-2)

@@ -8,7 +8,7 @@ use Rattle.vectors.proofs.check.own_nodes.Statement.{statement}
 use Rattle.vectors.proofs.check.own_nodes.Tie as tie
 
 abbrev Inv-loop : tie.InvT-loop
-Inv-loop case number list at own₀ start m v₀ k₀ q₀ own v k q = (q ≤ m) × (m < 65536) × (start < 1000000) × (length own ≡ length own₀)
+Inv-loop case number list at own₀ start m v₀ k₀ q₀ own v k q = (q ≤ m) × (m < 65536) × (start < 4000000) × (length own ≡ length own₀)
 
 abbrev μ-loop : tie.MeasureT-loop
 μ-loop case number list at own₀ start m v₀ k₀ q₀ own v k q = m - q
