@@ -2,27 +2,29 @@
  *
  * Link with libcadwezin.a, which `rt staticlib cadwezin` writes to target/staticlib/. It needs memcpy and memset and nothing else.
  *
- * Bytes. Every field is 16 bits, low byte first. A section is a count and as many records. A case is three sections: the summary
- * (document 01: outline), records (parent, label, strong 0 or 1); the first pattern (document 01: selection) and the second, records
- * (parent, label or 0 for any, edge 0 child or 1 descendant, position or 0). A document (document 01: volume) is one section, records
- * (parent, label). A list is bare fields with no count. Record 0 is the root, with parent 0; any other parent number is below its
- * record's own.
+ * Bytes. Every field is 16 bits, low byte first. A section is a count and as many records. A case is the section of the summary
+ * (document 01: outline), records (parent, label, strong 0 or 1); the section of the first pattern (document 01: selection), records
+ * (parent, label or 0 for any, edge 0 child or 1 descendant, position or 0); and the set: a count of patterns, its members, and as many
+ * sections like the first pattern's. A document (document 01: volume) is one section, records (parent, label). A list is bare fields
+ * with no count. Record 0 is the root, with parent 0; any other parent number is below its record's own. Patterns have numbers: 1 is
+ * the first pattern, 1 + i the set's i-th member.
  *
  * Any bytes, any numbers and buffers and tables of any length may be given. Each call asks its questions in the order that its
  * paragraph gives, and the first one answered no refuses the call:
  *
  *    1  Is the limit 1 to 1,000,000?
  *    2  Has the answer buffer 4,096 bytes or more, or the table 1,024 records or more?
- *    3  Has the case at most 65,536 bytes, every count and announced record whole, and nothing after?
- *    4  Are the counts 1 to 64, 1 to 16 and 1 to 16?
+ *    3  Has the case at most 65,536 bytes, every count, announced record and announced member whole, and nothing after?
+ *    4  Is the summary's count 1 to 64, and the first pattern's and every member's 1 to 16?
+ *   14  Is the set's count 1 to 8? (Each call that asks question 4 asks this one right after it.)
  *    5  Do all summary records keep the rules for parent, label (not 0) and strong (0 on the root)?
  *    6  Do siblings in the summary have different labels?
- *    7  Do all records of both patterns keep the rules for parent and edge (0 on the root), with positions at most 8?
- *    8  Has each pattern the positions 1 to k once each, k at least 1, the same k in both?
+ *    7  Do all records of all patterns keep the rules for parent and edge (0 on the root), with positions at most 8?
+ *    8  Has each pattern the positions 1 to k once each, k at least 1, the same k in all?
  *    9  Is the tally plus the limit at most 1,000,000,000,000?
  *   10  Is the document whole, nothing after, with 1 to 1,024 nodes, parents by the rule and labels not 0?
  *   11  Is the list k fields, each below the document's count?
- *   12  Is the selection 1 or 2 and, where given, the position 1 to k?
+ *   12  Is the pattern's number 1 to 1 + the set's count and, where given, the position 1 to k?
  *   13  Is the list a placement of that pattern?
  *
  * A refusal holds the question's number in `refused` and zero in every other field, and alters no lent byte, record or tally. Where a
@@ -54,6 +56,7 @@ extern "C" {
 #define CADWEZIN_CASE_BYTES_MOST 65536                 /* the greatest length of a case */
 #define CADWEZIN_DOCUMENT_NODES_MOST 1024              /* the greatest count of a document */
 #define CADWEZIN_PATTERN_NODES_MOST 16                 /* the greatest count of a pattern */
+#define CADWEZIN_MEMBERS_MOST 8                        /* the greatest count of a set */
 
 /* The kind of a verdict. A refused one has kind 0. */
 #define CADWEZIN_CONTAINED UINT64_C(1)     /* document 01: included */
@@ -99,12 +102,14 @@ struct cadwezin_node_record {
   uint16_t label;
 };
 
-/* Verdict: is the first pattern contained in the second, in every document that conforms to the summary? Takes a case, a limit on the
- * canonical documents tried, a tally and an answer buffer. Questions 1 to 9. Answers CADWEZIN_CONTAINED (all pass; tried is how many
- * there are, or 0 where there are none), CADWEZIN_NOT_CONTAINED (one of the first `limit` does not pass; tried is the earliest one's
- * rank, from 1) or CADWEZIN_STOPPED (the first `limit` all pass and there are more; tried is the limit). Adds tried to the tally.
- * CADWEZIN_NOT_CONTAINED writes to the front of the answer buffer: the section of the document that does not pass, then a count k and
- * the k document nodes that are a result of the first pattern and none of the second. The other two write nothing there. */
+/* Verdict: is the first pattern contained in the union of the set: in every document that conforms to the summary, is each of its
+ * results a result of at least one member? Takes a case, a limit on the canonical documents tried, a tally and an answer buffer.
+ * Questions 1 to 9. Answers CADWEZIN_CONTAINED (all pass; tried is how many there are, or 0 where there are none),
+ * CADWEZIN_NOT_CONTAINED (one of the first `limit` does not pass; tried is the earliest one's rank, from 1) or CADWEZIN_STOPPED (the
+ * first `limit` all pass and there are more; tried is the limit). One passes if its list is, as a whole, a result of some member; the
+ * members' order does not matter. Adds tried to the tally. CADWEZIN_NOT_CONTAINED writes to the front of the answer buffer: the section
+ * of the document that does not pass, then a count k and the k document nodes that are a result of the first pattern and of no member.
+ * The other two write nothing there. */
 struct cadwezin_verdict_answer cadwezin_verdict(const uint8_t *case_bytes, size_t case_length, uint64_t limit,
                                                 struct cadwezin_tally *tally, uint8_t *answer, size_t answer_length);
 
@@ -114,24 +119,24 @@ struct cadwezin_test_answer cadwezin_fits(const uint8_t *case_bytes, size_t case
                                           size_t document_length);
 
 /* Is it a result: does some embedding of the pattern into the document take the positions 1 to k to the nodes of the list? Takes a
- * case, a selection (1 the first pattern, 2 the second), a document, which need not conform to the summary, and a list of document
- * nodes. Questions 3 to 8, 10, 12, 11, in this order. Answers holds. Writes nothing. */
+ * case, a pattern's number, a document, which need not conform to the summary, and a list of document nodes. Questions 3 to 8, 10, 12,
+ * 11, in this order. Answers holds. Writes nothing. */
 struct cadwezin_test_answer cadwezin_result(const uint8_t *case_bytes, size_t case_length, uint64_t number,
                                             const uint8_t *document, size_t document_length, const uint8_t *list, size_t list_length);
 
-/* Nodes at a position: which document nodes does the position have in any result? Takes a case, a selection, a document, which need
- * not conform to the summary, a position and an answer buffer. Questions 2 to 8, 10, 12. Answers how many there are, and writes their
- * count and their numbers, ascending, to the front of the answer buffer; where there are none, the count 0. */
+/* Nodes at a position: which document nodes does the position have in any result? Takes a case, a pattern's number, a document, which
+ * need not conform to the summary, a position and an answer buffer. Questions 2 to 8, 10, 12. Answers how many there are, and writes
+ * their count and their numbers, ascending, to the front of the answer buffer; where there are none, the count 0. */
 struct cadwezin_count_answer cadwezin_nodes(const uint8_t *case_bytes, size_t case_length, uint64_t number, const uint8_t *document,
                                             size_t document_length, uint64_t position, uint8_t *answer, size_t answer_length);
 
-/* Paths of each node: which summary nodes does each pattern node take in some placement? Takes a case and a selection. Questions 3 to
- * 8, 12. Answers masks and counts. Writes nothing. */
+/* Paths of each node: which summary nodes does each pattern node take in some placement? Takes a case and a pattern's number.
+ * Questions 3 to 8, 12. Answers masks and counts. Writes nothing. */
 struct cadwezin_paths_answer cadwezin_paths(const uint8_t *case_bytes, size_t case_length, uint64_t number);
 
-/* Lay out a canonical document. Takes a case, a selection, a placement, which is a list of summary nodes, one for each pattern node,
- * and a table. Questions 2 to 8, 12, 13. Answers how many nodes the document has, at most 946, and writes their records to the front
- * of the table. */
+/* Lay out a canonical document. Takes a case, a pattern's number, a placement, which is a list of summary nodes, one for each pattern
+ * node, and a table. Questions 2 to 8, 12, 13. Answers how many nodes the document has, at most 946, and writes their records to the
+ * front of the table. */
 struct cadwezin_count_answer cadwezin_layout(const uint8_t *case_bytes, size_t case_length, uint64_t number, const uint8_t *list,
                                              size_t list_length, struct cadwezin_node_record *table, size_t table_length);
 

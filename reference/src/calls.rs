@@ -1,4 +1,5 @@
-//! The six calls, each with its questions in the order document 01 lists them.
+//! The six calls, each with its questions in the order document 01 lists them;
+//! question 14 comes with those about the case, right after question 4.
 //!
 //! "A refusal holds its number and zero in every other field. No lent byte,
 //! record or tally is altered."
@@ -305,27 +306,22 @@ fn layout_questions(
 
 /// Question 12, as far as it is about the selection.
 fn chosen(case: &Case, selection: u64) -> Result<Vec<SelectionNode>, u64> {
-    match selection {
-        1 => Ok(case.selections[0].clone()),
-        2 => Ok(case.selections[1].clone()),
-        _ => Err(12),
-    }
+    case.selection(selection).cloned().ok_or(12)
 }
 
 /// The kind, how many were tried, and the earliest trial that does not pass.
 fn judge(case: &Case, limit: u64) -> (u64, u64, Option<Trial>) {
-    let [first, second] = &case.selections;
-    let second = Shape::new(second);
+    let set: Vec<Shape> = case.set.iter().map(|member| Shape::new(member)).collect();
     let (mut kind, mut tried, mut failed) = (INCLUDED, 0, None);
-    each_placement(&case.outline, first, |placement| {
+    each_placement(&case.outline, &case.first, |placement| {
         if tried == limit {
             // "the first L all pass and there are more"
             kind = STOPPED;
             return false;
         }
         tried += 1;
-        let trial = lay_out(&case.outline, first, placement);
-        if passes(case, &trial, &second) {
+        let trial = lay_out(&case.outline, &case.first, placement);
+        if passes(case, &trial, &set) {
             return true;
         }
         kind = NOT_INCLUDED;
@@ -335,9 +331,9 @@ fn judge(case: &Case, limit: u64) -> (u64, u64, Option<Trial>) {
     (kind, tried, failed)
 }
 
-/// "A trial passes if the first selection's own nodes at positions 1 to k form
-/// a result of the second."
-fn passes(case: &Case, trial: &Trial, second: &Shape) -> bool {
+/// "A trial passes if its result is a result of at least one of them": the
+/// first selection's own nodes at positions 1 to k, as one list.
+fn passes(case: &Case, trial: &Trial, set: &[Shape]) -> bool {
     let volume: Vec<VolumeNode> = trial
         .nodes
         .iter()
@@ -346,13 +342,14 @@ fn passes(case: &Case, trial: &Trial, second: &Shape) -> bool {
             label: case.outline[node.outline].label,
         })
         .collect();
-    second.is_result(&volume, &own_result(case, trial))
+    let result = own_result(case, trial);
+    set.iter().any(|member| member.is_result(&volume, &result))
 }
 
 /// The first selection's own nodes at positions 1 to k.
 fn own_result(case: &Case, trial: &Trial) -> Vec<usize> {
     (1..=case.positions)
-        .filter_map(|position| holder(&case.selections[0], position))
+        .filter_map(|position| holder(&case.first, position))
         .map(|q| trial.own[q])
         .collect()
 }

@@ -1,6 +1,6 @@
-//! Document 01 as a plain program: outlines, selections and the inclusion
-//! verdict. It follows the document's sentences one by one and shares nothing
-//! with the program it is compared with.
+//! Document 01 as a plain program, with sets as in document 02's request #101:
+//! outlines, selections and the inclusion verdict. It follows the documents'
+//! sentences one by one and shares nothing with the program it is compared with.
 //!
 //! * `records`: sections, records and the questions about bytes.
 //! * `embedding`: embeddings of a selection into a volume.

@@ -1,4 +1,6 @@
-//! Sections and records, and the questions 3 to 8 and 10 about them.
+//! Sections and records, and the questions 3 to 8, 10 and 14 about them.
+
+use std::iter;
 
 /// "Has the case at most 65,536 bytes" (question 3).
 pub const CASE_BYTES: usize = 65_536;
@@ -6,6 +8,8 @@ pub const CASE_BYTES: usize = 65_536;
 pub const OUTLINE_NODES: usize = 64;
 /// "a rooted tree of 1 to 16 nodes"
 pub const SELECTION_NODES: usize = 16;
+/// "14, the set's count is not 1 to 8"
+pub const SET_SELECTIONS: usize = 8;
 /// "calls take up to 1,024 nodes"
 pub const VOLUME_NODES: usize = 1_024;
 /// "k (1 to 8) hold the positions 1 to k"
@@ -42,10 +46,23 @@ pub struct VolumeNode {
 #[derive(Clone, Debug)]
 pub struct Case {
     pub outline: Vec<OutlineNode>,
-    /// The first and the second selection.
-    pub selections: [Vec<SelectionNode>; 2],
-    /// k, the same in both selections.
+    pub first: Vec<SelectionNode>,
+    /// The members of the set, which count as one, in their order.
+    pub set: Vec<Vec<SelectionNode>>,
+    /// k, the same in the first selection and all members.
     pub positions: usize,
+}
+
+impl Case {
+    /// "selection numbers run from 1 to one more than the count": 1 is the
+    /// first selection, 1 + i the i-th member.
+    pub fn selection(&self, number: u64) -> Option<&Vec<SelectionNode>> {
+        match number {
+            0 => None,
+            1 => Some(&self.first),
+            _ => self.set.get(usize::try_from(number - 2).ok()?),
+        }
+    }
 }
 
 /// A question answered no refuses the call with the question's number.
@@ -57,23 +74,23 @@ pub fn ask(number: u64, yes: bool) -> Result<(), u64> {
     }
 }
 
-/// Questions 3 to 8, each asked of the whole case before the next one.
+/// Questions 3 to 8, and 14 "right after question 4", each asked of the whole
+/// case before the next one.
 pub fn read_case(bytes: &[u8]) -> Result<Case, u64> {
-    let (outline, first, second) = case_sections(bytes).ok_or(3u64)?;
+    let (outline, first, set) = case_sections(bytes).ok_or(3u64)?;
+    let selections = || iter::once(&first).chain(&set);
     let counts_right = (1..=OUTLINE_NODES).contains(&outline.len())
-        && (1..=SELECTION_NODES).contains(&first.len())
-        && (1..=SELECTION_NODES).contains(&second.len());
+        && selections().all(|rows| (1..=SELECTION_NODES).contains(&rows.len()));
     ask(4, counts_right)?;
+    ask(14, (1..=SET_SELECTIONS).contains(&set.len()))?;
     ask(5, outline_rules(&outline))?;
     ask(6, siblings_differ(&outline))?;
-    ask(7, selection_rules(&first) && selection_rules(&second))?;
-    let positions = common_positions(&first, &second).ok_or(8u64)?;
+    ask(7, selections().all(|rows| selection_rules(rows)))?;
+    let positions = common_positions(&first, &set).ok_or(8u64)?;
     Ok(Case {
         outline: outline.iter().map(outline_node).collect(),
-        selections: [
-            first.iter().map(selection_node).collect(),
-            second.iter().map(selection_node).collect(),
-        ],
+        first: selection_nodes(&first),
+        set: set.iter().map(|rows| selection_nodes(rows)).collect(),
         positions,
     })
 }
@@ -106,6 +123,18 @@ pub fn holder(selection: &[SelectionNode], position: usize) -> Option<usize> {
     selection.iter().position(|node| node.position == position)
 }
 
+/// The nodes of records that question 7 does not refuse.
+pub fn selection_nodes(rows: &[[u16; 4]]) -> Vec<SelectionNode> {
+    rows.iter()
+        .map(|&[parent, label, edge, position]| SelectionNode {
+            parent: parent.into(),
+            label,
+            descendant: edge == 1,
+            position: position.into(),
+        })
+        .collect()
+}
+
 /// What is left to be read of some bytes.
 struct Fields<'a> {
     rest: &'a [u8],
@@ -134,17 +163,23 @@ impl Fields<'_> {
     }
 }
 
-type CaseSections = (Vec<[u16; 3]>, Vec<[u16; 4]>, Vec<[u16; 4]>);
+type SelectionRows = Vec<[u16; 4]>;
+type CaseSections = (Vec<[u16; 3]>, SelectionRows, Vec<SelectionRows>);
 
 /// Question 3: "Has the case at most 65,536 bytes, every count and announced
-/// record whole, and nothing after?"
+/// record whole, and nothing after?" The set is "a count of selections followed
+/// by that many selection sections", whatever the count is.
 fn case_sections(bytes: &[u8]) -> Option<CaseSections> {
     if bytes.len() > CASE_BYTES {
         return None;
     }
     let mut fields = Fields { rest: bytes };
-    let sections = (fields.section()?, fields.section()?, fields.section()?);
-    fields.rest.is_empty().then_some(sections)
+    let (outline, first) = (fields.section()?, fields.section()?);
+    let mut set = Vec::new();
+    for _ in 0..fields.next()? {
+        set.push(fields.section()?);
+    }
+    fields.rest.is_empty().then_some((outline, first, set))
 }
 
 fn volume_section(bytes: &[u8]) -> Option<Vec<[u16; 2]>> {
@@ -197,14 +232,15 @@ fn selection_rules(rows: &[[u16; 4]]) -> bool {
 }
 
 /// Question 8: k, if "each selection [has] the positions 1 to k once each, k
-/// at least 1, the same k in both".
-fn common_positions(first: &[[u16; 4]], second: &[[u16; 4]]) -> Option<usize> {
+/// at least 1", the same k in the first and in all members.
+fn common_positions(first: &[[u16; 4]], set: &[SelectionRows]) -> Option<usize> {
     let held = held_positions(first);
     let from_one = held
         .iter()
         .zip(1u16..)
         .all(|(&held, wanted)| held == wanted);
-    (!held.is_empty() && from_one && held == held_positions(second)).then_some(held.len())
+    let same = set.iter().all(|rows| held_positions(rows) == held);
+    (!held.is_empty() && from_one && same).then_some(held.len())
 }
 
 /// The positions that are held, ascending, each as often as it is.
@@ -219,15 +255,6 @@ fn outline_node(&[parent, label, strong]: &[u16; 3]) -> OutlineNode {
         parent: parent.into(),
         label,
         strong: strong == 1,
-    }
-}
-
-fn selection_node(&[parent, label, edge, position]: &[u16; 4]) -> SelectionNode {
-    SelectionNode {
-        parent: parent.into(),
-        label,
-        descendant: edge == 1,
-        position: position.into(),
     }
 }
 
@@ -249,12 +276,22 @@ mod tests {
             .collect()
     }
 
+    /// An outline of one node, and a selection of one node with position 1.
+    const OUTLINE: [u16; 4] = [1, 0, 1, 0];
+    const SELECTION: [u16; 5] = [1, 0, 1, 0, 1];
+
+    fn refused(parts: &[&[u16]]) -> u64 {
+        read_case(&bytes(&parts.concat())).err().unwrap_or(0)
+    }
+
     #[test]
     fn the_whole_case_is_read_before_any_count_is_judged() {
-        assert_eq!(read_case(&bytes(&[0, 0, 0])).unwrap_err(), 4);
-        assert_eq!(read_case(&bytes(&[0, 0])).unwrap_err(), 3);
-        assert_eq!(read_case(&bytes(&[0, 0, 0, 0])).unwrap_err(), 3);
-        assert_eq!(read_case(&[]).unwrap_err(), 3);
+        assert_eq!(refused(&[&[0, 0, 0]]), 4);
+        assert_eq!(refused(&[&[0, 0, 1, 0]]), 4);
+        assert_eq!(refused(&[&[0, 0]]), 3);
+        assert_eq!(refused(&[&[0, 0, 1]]), 3);
+        assert_eq!(refused(&[&[0, 0, 0, 0]]), 3);
+        assert_eq!(refused(&[]), 3);
     }
 
     #[test]
@@ -272,15 +309,40 @@ mod tests {
     }
 
     #[test]
-    fn question_7_is_asked_of_both_selections_before_question_8_of_either() {
-        let case = [1, 0, 1, 0, 1, 0, 1, 0, 0, 1, 0, 1, 0, 9];
-        assert_eq!(read_case(&bytes(&case)).unwrap_err(), 7);
+    fn as_many_sections_are_read_as_announced() {
+        let empty = [0; 32_758];
+        let whole = |count: u16| refused(&[&OUTLINE, &SELECTION, &[count], &empty]);
+        assert_eq!(2 * (4 + 5 + 1 + empty.len()), 65_536);
+        assert_eq!(whole(32_758), 4);
+        assert_eq!(whole(32_757), 3);
+        assert_eq!(whole(32_759), 3);
+        assert_eq!(whole(u16::MAX), 3);
+    }
+
+    #[test]
+    fn question_7_is_asked_of_all_selections_before_question_8_of_any() {
+        let (none, ninth) = ([1, 0, 1, 0, 0], [1, 0, 1, 0, 9]);
+        assert_eq!(refused(&[&OUTLINE, &none, &[1], &ninth]), 7);
+        assert_eq!(refused(&[&OUTLINE, &none, &[2], &SELECTION, &ninth]), 7);
+        assert_eq!(refused(&[&OUTLINE, &SELECTION, &[2], &none, &ninth]), 7);
+        assert_eq!(refused(&[&OUTLINE, &SELECTION, &[2], &SELECTION, &none]), 8);
     }
 
     #[test]
     fn a_root_and_its_child_may_share_a_label() {
-        let case = [2, 0, 1, 0, 0, 1, 0, 1, 0, 1, 0, 1, 1, 0, 1, 0, 1];
-        assert_eq!(read_case(&bytes(&case)).unwrap().positions, 1);
+        let outline = [2, 0, 1, 0, 0, 1, 0];
+        assert_eq!(refused(&[&outline, &SELECTION, &[1], &SELECTION]), 0);
+    }
+
+    #[test]
+    fn selections_are_numbered_from_the_first_on() {
+        let labels = [7, 8, 9].map(|label| [1, 0, label, 0, 1]);
+        let [first, one, two] = &labels;
+        let case = bytes(&[&OUTLINE, &first[..], &[2], one, two].concat());
+        let case = read_case(&case).unwrap();
+        let label = |number| case.selection(number).map(|nodes| nodes[0].label);
+        assert_eq!([1, 2, 3].map(label), [Some(7), Some(8), Some(9)]);
+        assert_eq!([0, 4, u64::MAX].map(label), [None; 3]);
     }
 
     #[test]

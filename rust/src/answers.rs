@@ -3,21 +3,24 @@
 use crate::nodes::{PatternNode, SummaryNode};
 use std::fmt;
 
-/// One of the two patterns of a case.
+/// One of the patterns of a case.
 #[derive(Clone, Copy, Debug, PartialEq, Eq, Hash)]
 pub enum Pattern {
     /// The one that is contained or not.
     First,
-    /// The one that contains or does not.
-    Second,
+    /// A member of the set whose union contains it or does not, counted from 1. A call refuses one
+    /// that the case does not have.
+    Member(u64),
 }
 
 impl Pattern {
-    /// Its number in the calls: 1 or 2.
+    /// Its number in the calls: 1 for the first, 1 + i for member i. Where there can be no such
+    /// member it is 0, which no pattern has.
     pub fn number(self) -> u64 {
         match self {
             Pattern::First => 1,
-            Pattern::Second => 2,
+            Pattern::Member(0) => 0,
+            Pattern::Member(member) => member.wrapping_add(1),
         }
     }
 }
@@ -81,7 +84,7 @@ impl Refusal {
         }
     }
 
-    /// The question's number, 1 to 13.
+    /// The question's number, 1 to 14.
     pub fn number(self) -> u64 {
         self.0
     }
@@ -96,12 +99,13 @@ impl Refusal {
             5 => "a record of the summary breaks the rules",
             6 => "siblings in the summary share a label",
             7 => "a record of a pattern breaks the rules",
-            8 => "the positions are not 1 to k, once each and the same in both patterns",
+            8 => "the positions are not 1 to k, once each and the same in all patterns",
             9 => "the tally and the limit come to more than 1,000,000,000,000",
             10 => "the document is not whole or breaks the rules",
             11 => "the list is not one document node for each position",
             12 => "there is no such pattern or position",
-            _ => "the list is not a placement of the pattern",
+            13 => "the list is not a placement of the pattern",
+            _ => "the set has not 1 to 8 members",
         }
     }
 }

@@ -1,16 +1,18 @@
 //! Tree pattern containment under a path summary, decided by a library whose every function is proved.
 //!
-//! A *case* is bytes that hold a summary and two patterns, a *document* and a *list* are bytes too;
-//! `include/cadwezin.h` has their format and the questions. Each function takes any bytes, any numbers
-//! and buffers of any length, and answers or refuses; a refusal alters nothing that was lent.
+//! A *case* is bytes that hold a summary, a first pattern and a set of one to eight patterns, its
+//! *members*, which count as one; a *document* and a *list* are bytes too. `include/cadwezin.h` has
+//! their format and the questions. Each function takes any bytes, any numbers and buffers of any
+//! length, and answers or refuses; a refusal alters nothing that was lent.
 //!
 //! ```
 //! use cadwezin::{verdict, Shown, Tally, Verdict, ANSWER_BYTES, LIMIT_MOST};
 //!
-//! // Summary r(a(b)); first pattern r//*, second r/*, each with position 1 at the star.
-//! let fields: [u16; 28] = [
+//! // Summary r(a(b)); first pattern r//*, and a set of one, r/*, each with position 1 at the star.
+//! let fields: [u16; 29] = [
 //!     3, 0, 1, 0, 0, 2, 0, 1, 3, 0, //
 //!     2, 0, 1, 0, 0, 0, 0, 1, 1, //
+//!     1, //
 //!     2, 0, 1, 0, 0, 0, 0, 0, 1,
 //! ];
 //! let case: Vec<u8> = fields.iter().flat_map(|field| field.to_le_bytes()).collect();
@@ -45,12 +47,14 @@ pub const TABLE_RECORDS: usize = 1_024;
 pub const LIMIT_MOST: u64 = 1_000_000;
 /// What a tally and a limit may come to.
 pub const TALLY_MOST: u64 = 1_000_000_000_000;
+/// The most members of a set.
+pub const MEMBERS_MOST: u64 = 8;
 
-/// Is the first pattern contained in the second: in every document that conforms to the summary, is
-/// each result of the first a result of the second? Canonical documents are tried in order, at most
-/// `limit` of them. The tally grows by how many were tried. Where the answer is
-/// [`Verdict::NotContained`], a document and a result of the first pattern that is none of the second
-/// are written to the front of `answer`, for [`Shown::read`]. Questions 1 to 9.
+/// Is the first pattern contained in the union of the set: in every document that conforms to the
+/// summary, is each result of the first a result of at least one member? Canonical documents are tried
+/// in order, at most `limit` of them. The tally grows by how many were tried. Where the answer is
+/// [`Verdict::NotContained`], a document and a result of the first pattern that is one of no member are
+/// written to the front of `answer`, for [`Shown::read`]. Questions 1 to 9.
 pub fn verdict(
     case: &[u8],
     limit: u64,

@@ -12,7 +12,7 @@ pub struct ShownNode {
 }
 
 /// What a verdict shows that answers "not contained": a document that conforms to the summary, and a
-/// result of the first pattern in it that is none of the second.
+/// result of the first pattern in it that is one of no member of the set.
 #[derive(Clone, Debug, PartialEq, Eq)]
 pub struct Shown {
     /// The document's nodes, by number.

@@ -1,9 +1,9 @@
-//! E1 to E10 of document 01 through the library, and each call's way to refuse.
+//! E1 to E10 of document 01 through the library, sets, and each call's way to refuse.
 
 use cadwezin::{
     fits, is_result, layout, nodes_at, nodes_shown, paths, verdict, DocumentNode, NodeRecord,
     Pattern, PatternNode, Shown, ShownNode, SummaryNode, Tally, Verdict, ANSWER_BYTES, LIMIT_MOST,
-    TABLE_RECORDS, TALLY_MOST,
+    MEMBERS_MOST, TABLE_RECORDS, TALLY_MOST,
 };
 
 const E1: &[u8] = include_bytes!("../../tests/examples/e1.case");
@@ -117,7 +117,7 @@ fn what_is_shown_reads_back() {
         Ok(true)
     );
     assert_eq!(
-        is_result(E6, Pattern::Second, document, &answer[16..18]),
+        is_result(E6, Pattern::Member(1), document, &answer[16..18]),
         Ok(false)
     );
 }
@@ -134,7 +134,7 @@ fn nodes_at_a_position() {
     assert_eq!(nodes, [DocumentNode(1), DocumentNode(2)]);
     assert!(answer[6..].iter().all(|&byte| byte == FILLING));
     assert_eq!(
-        nodes_at(E6, Pattern::Second, &document, 1, &mut answer),
+        nodes_at(E6, Pattern::Member(1), &document, 1, &mut answer),
         Ok(1)
     );
 }
@@ -158,6 +158,53 @@ fn a_layout_fills_the_front_of_the_table() {
     };
     assert_eq!(table[..3], [node(0, 0, 1), node(0, 1, 2), node(1, 2, 3)]);
     assert!(table[3..].iter().all(|record| *record == blank));
+}
+
+/// E6 with these members, each a record for the root and one for its node with position 1.
+fn with_set(members: &[[u16; 4]]) -> Vec<u8> {
+    let mut case = E6[..38].to_vec();
+    case.extend(bytes(&[members.len() as u16]));
+    for member in members {
+        case.extend(bytes(&[2, 0, 1, 0, 0]));
+        case.extend(bytes(member));
+    }
+    case
+}
+
+#[test]
+fn members_count_as_one() {
+    let (child, below) = ([0, 0, 0, 1], [0, 3, 1, 1]);
+    assert_eq!(with_set(&[child]), E6);
+    let contained = Verdict::Contained { tried: 2 };
+    for set in [&[child, below][..], &[below, child], &[below, child, below]] {
+        assert_eq!(judged(&with_set(set), LIMIT_MOST, &[]), contained);
+    }
+    let shown = [2, 0, 1, 0, 2, 1, 1];
+    assert_eq!(
+        judged(&with_set(&[below]), LIMIT_MOST, &shown),
+        Verdict::NotContained { tried: 1 }
+    );
+}
+
+#[test]
+fn a_member_is_named_by_its_place_in_the_set() {
+    let case = with_set(&[[0, 0, 0, 1], [0, 3, 1, 1]]);
+    let mask = |pattern| paths(&case, pattern).map(|paths| paths.masks[1]);
+    assert_eq!(mask(Pattern::First), Ok(6));
+    assert_eq!(mask(Pattern::Member(1)), Ok(2));
+    assert_eq!(mask(Pattern::Member(2)), Ok(4));
+    for member in [0, 3, MEMBERS_MOST + 1, u64::MAX] {
+        assert_eq!(refused(mask(Pattern::Member(member))), 12);
+    }
+}
+
+#[test]
+fn a_set_has_one_to_eight_members() {
+    let count = |members: u64| fits(&with_set(&vec![[0, 0, 0, 1]; members as usize]), &[]);
+    assert_eq!(refused(count(0)), 14);
+    assert_eq!(refused(count(1)), 10);
+    assert_eq!(refused(count(MEMBERS_MOST)), 10);
+    assert_eq!(refused(count(MEMBERS_MOST + 1)), 14);
 }
 
 /// The number of a refusal.
@@ -213,4 +260,9 @@ fn a_refusal_says_what_is_wrong() {
     let refusal = fits(&[], &[]).expect_err("a refusal");
     let text = "refused 3: the case is too long, cut short, or followed by something";
     assert_eq!(refusal.to_string(), text);
+    let refusal = fits(&with_set(&[]), &[]).expect_err("a refusal");
+    assert_eq!(
+        refusal.to_string(),
+        "refused 14: the set has not 1 to 8 members"
+    );
 }

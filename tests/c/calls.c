@@ -1,5 +1,5 @@
-/* The six calls from C, by include/cadwezin.h: E6 and E10 of document 01, empty slices with a null pointer, and refusals, which alter
- * nothing. Prints how many answers were as they should be. */
+/* The six calls from C, by include/cadwezin.h: E6 and E10 of document 01, a set of two, empty slices with a null pointer, and refusals,
+ * which alter nothing. Prints how many answers were as they should be. */
 #include "cadwezin.h"
 #include <stdio.h>
 #include <stdlib.h>
@@ -8,10 +8,14 @@
 #define FILLING 0xAA
 #define COUNT(array) (sizeof(array) / sizeof((array)[0]))
 
-/* E6: summary r(a(b)); first r//0, second r/0, each with position 1 at the node of any label. The document is r(a(b)). */
-static const uint8_t e6[] = {3, 0, 0, 0, 1, 0, 0, 0, 0, 0, 2, 0, 0, 0, 1, 0, 3, 0, 0, 0, /* summary */
-                             2, 0, 0, 0, 1, 0, 0, 0, 0, 0, 0, 0, 0, 0, 1, 0, 1, 0,       /* first */
-                             2, 0, 0, 0, 1, 0, 0, 0, 0, 0, 0, 0, 0, 0, 0, 0, 1, 0};      /* second */
+/* Summary r(a(b)); first pattern r//0, members r/0 and r//b, each with position 1 at the last node. The document is r(a(b)). */
+#define SUMMARY 3, 0, 0, 0, 1, 0, 0, 0, 0, 0, 2, 0, 0, 0, 1, 0, 3, 0, 0, 0
+#define FIRST 2, 0, 0, 0, 1, 0, 0, 0, 0, 0, 0, 0, 0, 0, 1, 0, 1, 0
+#define CHILD 2, 0, 0, 0, 1, 0, 0, 0, 0, 0, 0, 0, 0, 0, 0, 0, 1, 0
+#define BELOW 2, 0, 0, 0, 1, 0, 0, 0, 0, 0, 0, 0, 3, 0, 1, 0, 1, 0
+static const uint8_t e6[] = {SUMMARY, FIRST, 1, 0, CHILD};
+static const uint8_t two[] = {SUMMARY, FIRST, 2, 0, CHILD, BELOW};
+static const uint8_t none[] = {SUMMARY, FIRST, 0, 0};
 static const uint8_t document[] = {3, 0, 0, 0, 1, 0, 0, 0, 2, 0, 1, 0, 3, 0};
 static const uint8_t node_2[] = {2, 0};
 static const uint8_t placement[] = {0, 0, 2, 0};
@@ -71,10 +75,10 @@ static void accepted(void) {
   fill();
   const struct cadwezin_test_answer fits = cadwezin_fits(e6, sizeof e6, document, sizeof document);
   hold(fits.refused == 0 && fits.holds == 1, "fits");
-  for (uint64_t selection = 1; selection <= 2; selection++) {
+  for (uint64_t number = 1; number <= 2; number++) {
     const struct cadwezin_test_answer result =
-        cadwezin_result(e6, sizeof e6, selection, document, sizeof document, node_2, sizeof node_2);
-    hold(result.refused == 0 && result.holds == (selection == 1), "is it a result");
+        cadwezin_result(e6, sizeof e6, number, document, sizeof document, node_2, sizeof node_2);
+    hold(result.refused == 0 && result.holds == (number == 1), "is it a result");
   }
   const struct cadwezin_paths_answer paths = cadwezin_paths(e6, sizeof e6, 1);
   hold(paths.refused == 0 && paths.masks[0] == 1 && paths.masks[1] == 6 && paths.masks[2] == 0, "masks");
@@ -91,6 +95,26 @@ static void accepted(void) {
     hold(same_record(&table[i], &laid[i]), "a node laid out");
   }
   hold(untouched(0, COUNT(laid), 7), "what a layout leaves alone");
+}
+
+/* The union of two members has what neither has alone, and each call is about the pattern that it names. */
+static void sets(void) {
+  static const uint64_t masks[] = {6, 2, 4};
+  fill();
+  const struct cadwezin_verdict_answer got = cadwezin_verdict(two, sizeof two, CADWEZIN_LIMIT_MOST, &tally, answer, sizeof answer);
+  hold(got.refused == 0 && got.kind == CADWEZIN_CONTAINED && got.tried == 2, "a verdict on a union");
+  hold(untouched(0, 0, 9), "what a verdict on a union leaves alone");
+  for (uint64_t number = 1; number <= 3; number++) {
+    const struct cadwezin_paths_answer paths = cadwezin_paths(two, sizeof two, number);
+    hold(paths.refused == 0 && paths.masks[1] == masks[number - 1], "a pattern by its number");
+    const struct cadwezin_test_answer result =
+        cadwezin_result(two, sizeof two, number, document, sizeof document, node_2, sizeof node_2);
+    hold(result.refused == 0 && result.holds == (number != 2), "a result of a member");
+  }
+  hold(cadwezin_paths(two, sizeof two, 4).refused == 12, "a number past the last member");
+  hold(cadwezin_fits(none, sizeof none, document, sizeof document).refused == 14, "a set of none");
+  hold(cadwezin_verdict(none, sizeof none, 1, &tally, answer, sizeof answer).refused == 14, "a verdict on a set of none");
+  hold(untouched(0, 0, 9), "what the calls about sets leave alone");
 }
 
 /* Each call with empty slices that have no address, then with only its last slice so. */
@@ -126,6 +150,7 @@ static void empty(void) {
 
 int main(void) {
   accepted();
+  sets();
   empty();
   printf("calls: %u answers from C as they should be\n", held);
   return 0;

@@ -116,6 +116,14 @@ static void put_pattern(unsigned label, int chained) {
   }
 }
 
+/* A set of so many members, all of that pattern. */
+static void put_set(unsigned count, unsigned label, int chained) {
+  put(&asked.given, count);
+  for (unsigned i = 0; i < count; i++) {
+    put_pattern(label, chained);
+  }
+}
+
 /* A document of 1,024 nodes, labels 1 to 64 by depth: chains from the root that are so deep. */
 static void put_document(unsigned deep) {
   asked.document.length = 0;
@@ -134,8 +142,8 @@ static void put_list(unsigned count, unsigned first, unsigned other) {
   }
 }
 
-/* 64 + 16 + 16 nodes of which all trials pass, but by turns in two ways, so that each is judged: the last node is the 901 that 903 is to
- * have, or has a strong child 901 itself. */
+/* 64 + 16 + 8 x 16 nodes of which all trials pass, but by turns in two ways, so that each is judged: the last node is the 901 that 903
+ * is to have, or has a strong child 901 itself. Only the last member asks for that; the others ask for a label that is not there. */
 static void put_alternatives(void) {
   static const unsigned last[4][3] = {{0, 903, 0}, {60, 901, 0}, {60, 902, 0}, {62, 901, 1}};
   put_line(0);
@@ -150,12 +158,15 @@ static void put_alternatives(void) {
   }
   put_node(0, 903, 0, 0);
   put_node(14, 0, 0, 0);
-  put(&asked.given, 16);
-  put_node(0, 1, 0, 1);
-  put_node(0, 0, 1, 0);
-  put_node(1, 901, 0, 0);
-  for (unsigned q = 3; q < 16; q++) {
+  put(&asked.given, CADWEZIN_MEMBERS_MOST);
+  for (unsigned i = 1; i <= CADWEZIN_MEMBERS_MOST; i++) {
+    put(&asked.given, 16);
+    put_node(0, 1, 0, 1);
     put_node(0, 0, 1, 0);
+    put_node(1, i < CADWEZIN_MEMBERS_MOST ? 999 : 901, 0, 0);
+    for (unsigned q = 3; q < 16; q++) {
+      put_node(0, 0, 1, 0);
+    }
   }
 }
 
@@ -173,7 +184,7 @@ static void shown(unsigned strong, unsigned place) {
   ask_whole();
   put_line(strong);
   put_pattern(place + 1, 0);
-  put_pattern(999, 0);
+  put_set(CADWEZIN_MEMBERS_MOST, 999, 0);
   put_list(16, 0, place);
   expect(VERDICT, 0, CADWEZIN_NOT_CONTAINED, "946 nodes shown");
   if ((answer[0] | answer[1] << 8) != SHOWN_MOST) {
@@ -189,8 +200,9 @@ static void stopped(void) {
   for (int chained = 0; chained <= 1; chained++) {
     put_line(1);
     put_pattern(0, chained);
-    put_pattern(0, chained);
+    put_set(CADWEZIN_MEMBERS_MOST, 0, chained);
     expect(VERDICT, 0, CADWEZIN_STOPPED, "skipping");
+    asked.number = 1 + CADWEZIN_MEMBERS_MOST;
     expect(PATHS, 0, chained ? 49 : 63, "of the last node");
   }
   put_alternatives();
@@ -207,8 +219,9 @@ static void documents(void) {
   for (int chained = 0; chained <= 1; chained++) {
     put_line(0);
     put_pattern(0, chained);
-    put_pattern(0, chained);
+    put_set(CADWEZIN_MEMBERS_MOST, 0, chained);
     for (size_t i = 0; i < 3; i++) {
+      asked.number = i == 0 ? 1 : 1 + CADWEZIN_MEMBERS_MOST;
       put_document(depths[i]);
       put_list(8, 0, 1);
       expect(FITS, 0, depths[i] <= 63, "1,024 nodes");
@@ -224,6 +237,7 @@ static void documents(void) {
 /* Alters what is asked so that this question is the first one answered no. */
 static void break_question(unsigned question) {
   uint8_t *second_node = asked.given.at + 2 + 2 * 6, *pattern_root = asked.given.at + 2 + 64 * 6 + 2;
+  uint8_t *last_root = asked.given.at + asked.given.length - 16 * 8;
   switch (question) {
   case 1: asked.limit = 0; break;
   case 2: asked.answer_length--, asked.table_length--; break;
@@ -231,25 +245,27 @@ static void break_question(unsigned question) {
   case 4: memset(asked.given.at, 0, asked.given.length = 6); break;
   case 5: asked.given.at[2 + 4] = 1; break;
   case 6: second_node[0] = 0, second_node[2] = 2; break;
-  case 7: pattern_root[4] = 1; break;
-  case 8: pattern_root[6] = 0; break;
+  case 7: last_root[4] = 1; break;
+  case 8: last_root[6] = 0; break;
   case 9: asked.tally = CADWEZIN_TALLY_MOST; break;
   case 10: asked.document.length--; break;
-  case 12: asked.number = 3; break;
+  case 12: asked.number = 2 + CADWEZIN_MEMBERS_MOST; break;
+  case 14: pattern_root[16 * 8]++, put_pattern(0, 0); break;
   default: asked.list.length -= 2;
   }
 }
 
 /* Each call's questions, each answered no. */
 static void refusals(void) {
-  static const unsigned questions[CALLS][10] = {{1, 2, 3, 4, 5, 6, 7, 8, 9}, {3, 4, 5, 6, 7, 8, 10},    {3, 4, 5, 6, 7, 8, 10, 12, 11},
-                                                {2, 3, 4, 5, 6, 7, 8, 10, 12}, {3, 4, 5, 6, 7, 8, 12}, {2, 3, 4, 5, 6, 7, 8, 12, 13}};
+  static const unsigned questions[CALLS][11] = {
+      {1, 2, 3, 4, 14, 5, 6, 7, 8, 9},   {3, 4, 14, 5, 6, 7, 8, 10}, {3, 4, 14, 5, 6, 7, 8, 10, 12, 11},
+      {2, 3, 4, 14, 5, 6, 7, 8, 10, 12}, {3, 4, 14, 5, 6, 7, 8, 12}, {2, 3, 4, 14, 5, 6, 7, 8, 12, 13}};
   for (enum call call = 0; call < CALLS; call++) {
     for (const unsigned *question = questions[call]; *question != 0; question++) {
       ask_whole();
       put_line(0);
       put_pattern(0, 0);
-      put_pattern(0, 0);
+      put_set(CADWEZIN_MEMBERS_MOST, 0, 0);
       put_document(63);
       put_list(call == LAYOUT ? 16 : 8, 0, 1);
       break_question(*question);

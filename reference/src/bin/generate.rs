@@ -1,15 +1,16 @@
-//! `generate boundaries`, `generate random SEED COUNT`, `generate cases SEED
-//! COUNT`, `generate layouts SEED COUNT` and `generate many SEED COUNT` write
-//! test vectors to standard output.
+//! `generate boundaries`, `generate stored`, `generate random SEED COUNT`,
+//! `generate cases SEED COUNT`, `generate layouts SEED COUNT` and `generate many
+//! SEED COUNT` write test vectors to standard output.
 
 #![forbid(unsafe_code)]
 
-use reference::generate::{boundaries, cases, layouts, many, random};
+use reference::generate::{boundaries, cases, layouts, many, random, stored};
 use reference::vectors::Vector;
 use std::io::{self, Write};
 use std::process::ExitCode;
 
 const USAGE: &str = "usage: generate boundaries
+       generate stored
        generate random SEED COUNT
        generate cases SEED COUNT
        generate layouts SEED COUNT
@@ -20,6 +21,7 @@ fn main() -> ExitCode {
     let words: Vec<&str> = words.iter().map(String::as_str).collect();
     let vectors = match words[..] {
         ["boundaries"] => Some(boundaries()),
+        ["stored"] => Some(stored()),
         ["random", seed, count] => seeded(seed, count, random),
         ["cases", seed, count] => seeded(seed, count, cases),
         ["layouts", seed, count] => seeded(seed, count, layouts),

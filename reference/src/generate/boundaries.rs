@@ -1,37 +1,22 @@
 //! Every boundary of every question, through all six calls.
 
-use super::changes::{changes, long_changes, Change};
-use super::plan::{questions, OutlineRow, Plan, SelectionRow, CALLS};
+use super::changes::{changes, lone_changes, long_changes, Change};
+use super::layouts::layouts;
+use super::plan::{put_section, questions, OutlineRow, Plan, SelectionRow, CALLS};
+use crate::records::{read_case, SET_SELECTIONS};
+use crate::trials::each_placement;
 use crate::vectors::{Vector, FITS, IS_RESULT, LAYOUT, NODES_AT};
 
 pub fn boundaries() -> Vec<Vector> {
-    let (small, long) = (changes(), long_changes());
+    let (small, lone, long) = (changes(), lone_changes(), long_changes());
     let mut out = Vec::new();
     for call in CALLS {
-        for plan in [rich(), example(), least(), most(), no_placement()] {
-            for selection in [1, 2] {
-                out.push(
-                    Plan {
-                        selection,
-                        ..plan.for_call(call)
-                    }
-                    .vector(),
-                );
-            }
+        out.extend(unbroken(call));
+        for plan in [rich(), alone(), example(), most()] {
+            out.extend(singly(call, &plan, &small));
+            out.extend(singly(call, &plan, &lone));
         }
-        for plan in [rich(), example(), most()] {
-            out.extend(
-                small
-                    .iter()
-                    .filter(|c| c.concerns(call))
-                    .map(|c| changed(&plan, call, &[c])),
-            );
-        }
-        out.extend(
-            long.iter()
-                .filter(|c| c.concerns(call))
-                .map(|c| changed(&rich(), call, &[c])),
-        );
+        out.extend(singly(call, &rich(), &long));
         out.extend(pairs(call, &small));
         out.extend(long_pairs(call, &small, &long));
         for plan in [rich(), example()] {
@@ -39,6 +24,86 @@ pub fn boundaries() -> Vec<Vector> {
         }
     }
     out
+}
+
+/// Few and short enough to be stored: what is not broken or broken singly,
+/// some pairs and cuts, and a few layouts.
+pub fn stored() -> Vec<Vector> {
+    const BYTES: usize = 900;
+    const PAIRS: usize = 63;
+    const CUTS: usize = 4;
+    let (small, lone) = (changes(), lone_changes());
+    let mut out = Vec::new();
+    for call in CALLS {
+        out.extend(unbroken(call));
+        out.extend(singly(call, &rich(), &small));
+        out.extend(singly(call, &rich(), &lone));
+        out.extend(pairs(call, &small).into_iter().step_by(PAIRS));
+        let cuts = cut_everywhere(&rich().for_call(call));
+        out.extend(cuts.into_iter().step_by(CUTS));
+    }
+    out.retain(|vector| vector.case.len() + vector.volume.len() < BYTES);
+    out.extend(layouts(1, 20));
+    out
+}
+
+/// Every plan as it is, about each of its selections and in the old form.
+fn unbroken(call: u32) -> Vec<Vector> {
+    let mut out = Vec::new();
+    for plan in [
+        rich(),
+        alone(),
+        example(),
+        least(),
+        most(),
+        no_placement(),
+        crossed(),
+        in_turn(),
+        old_and_whole(),
+    ] {
+        let plan = plan.for_call(call);
+        out.extend((1..=plan.last_selection()).map(|number| about(&plan, number)));
+        out.push(old_form(&plan));
+    }
+    out
+}
+
+/// The call about another selection, with that one's first placement if it
+/// has one.
+fn about(plan: &Plan, selection: u64) -> Vector {
+    let mut plan = Plan {
+        selection,
+        ..plan.clone()
+    };
+    if let Ok(case) = read_case(&plan.case_bytes()) {
+        let nodes = case.selection(selection).unwrap_or(&case.first);
+        each_placement(&case.outline, nodes, |places| {
+            plan.placement = places.iter().map(|&t| t as u16).collect();
+            false
+        });
+    }
+    plan.vector()
+}
+
+/// The case as it was written before there were sets: the set's only member
+/// follows the first selection with no count between.
+fn old_form(plan: &Plan) -> Vector {
+    let mut case = Vec::new();
+    put_section(&mut case, &plan.outline, 0);
+    put_section(&mut case, &plan.first, 0);
+    put_section(&mut case, &plan.set[0], 0);
+    Vector {
+        case,
+        ..plan.vector()
+    }
+}
+
+fn singly(call: u32, plan: &Plan, changes: &[Change]) -> Vec<Vector> {
+    changes
+        .iter()
+        .filter(|c| c.concerns(call))
+        .map(|c| changed(plan, call, &[c]))
+        .collect()
 }
 
 fn changed(plan: &Plan, call: u32, changes: &[&Change]) -> Vector {
@@ -79,7 +144,7 @@ fn long_pairs(call: u32, small: &[Change], long: &[Change]) -> Vec<Vector> {
             .iter()
             .find(|c| c.question == question && c.concerns(call));
         if let Some(other) = other {
-            for long in &long[..3] {
+            for long in &long[..4] {
                 out.push(changed(&rich(), call, &[other, long]));
             }
         }
@@ -130,8 +195,8 @@ fn cut_everywhere(plan: &Plan) -> Vec<Vector> {
     out
 }
 
-/// A plan with something for every question to be about: three positions,
-/// strong edges, siblings, wildcards and descendants.
+/// A plan with something for every question to be about: three positions, a
+/// set of three, strong edges, siblings, wildcards and descendants.
 pub fn rich() -> Plan {
     Plan {
         limit: 1_000,
@@ -147,13 +212,21 @@ pub fn rich() -> Plan {
             [2, 2, 0],
             [4, 2, 1],
         ],
-        selections: [
+        first: vec![
+            [0, 1, 0, 0],
+            [0, 2, 0, 1],
+            [1, 0, 1, 2],
+            [0, 0, 1, 3],
+            [1, 3, 0, 0],
+        ],
+        set: vec![
+            vec![[0, 1, 0, 0], [0, 2, 0, 1], [1, 4, 0, 2], [0, 5, 1, 3]],
             vec![
-                [0, 1, 0, 0],
-                [0, 2, 0, 1],
-                [1, 0, 1, 2],
+                [0, 0, 0, 0],
                 [0, 0, 1, 3],
-                [1, 3, 0, 0],
+                [0, 2, 0, 1],
+                [2, 0, 0, 2],
+                [2, 3, 0, 0],
             ],
             vec![[0, 1, 0, 0], [0, 0, 0, 1], [0, 0, 1, 3], [1, 0, 1, 2]],
         ],
@@ -174,6 +247,13 @@ pub fn rich() -> Plan {
     }
 }
 
+/// The same with its last member alone.
+fn alone() -> Plan {
+    let mut plan = rich();
+    plan.set.drain(..2);
+    plan
+}
+
 /// E6.
 fn example() -> Plan {
     Plan {
@@ -181,10 +261,8 @@ fn example() -> Plan {
         selection: 1,
         position: 1,
         outline: vec![[0, 1, 0], [0, 2, 0], [1, 3, 0]],
-        selections: [
-            vec![[0, 1, 0, 0], [0, 0, 1, 1]],
-            vec![[0, 1, 0, 0], [0, 0, 0, 1]],
-        ],
+        first: vec![[0, 1, 0, 0], [0, 0, 1, 1]],
+        set: vec![vec![[0, 1, 0, 0], [0, 0, 0, 1]]],
         volume: vec![[0, 1], [0, 2], [1, 3]],
         result: vec![2],
         placement: vec![0, 2],
@@ -199,7 +277,8 @@ fn least() -> Plan {
         selection: 1,
         position: 1,
         outline: vec![[0, u16::MAX, 0]],
-        selections: [vec![[0, u16::MAX, 0, 1]], vec![[0, 0, 0, 1]]],
+        first: vec![[0, u16::MAX, 0, 1]],
+        set: vec![vec![[0, 0, 0, 1]]],
         volume: vec![[0, u16::MAX]],
         result: vec![0],
         placement: vec![0],
@@ -208,13 +287,24 @@ fn least() -> Plan {
 }
 
 /// The greatest counts accepted: 64 outline nodes in a chain, 16 selection
-/// nodes that all reach its end, eight positions, 1,024 volume nodes. The
-/// placement given lays out 1 + 15 x 63 = 946 nodes.
+/// nodes that all reach its end, eight members, eight positions, 1,024 volume
+/// nodes. The placement given lays out 1 + 15 x 63 = 946 nodes.
 fn most() -> Plan {
-    let selection = |position: fn(u16) -> u16| -> Vec<SelectionRow> {
+    let selection = |position: &dyn Fn(u16) -> u16| -> Vec<SelectionRow> {
         (0..16)
             .map(|q| [0, 0, u16::from(q > 0), position(q)])
             .collect()
+    };
+    // The eight positions stand further on in each member.
+    let member = |index: usize| {
+        let from = index as u16 + 1;
+        selection(&|q| {
+            if (from..from + 8).contains(&q) {
+                from + 8 - q
+            } else {
+                0
+            }
+        })
     };
     let placement: Vec<u16> = std::iter::once(0).chain([63; 15]).collect();
     Plan {
@@ -223,10 +313,8 @@ fn most() -> Plan {
         selection: 1,
         position: 8,
         outline: chain(|t| if t == 0 { u16::MAX } else { 1 + t % 2 }),
-        selections: [
-            selection(|q| if q < 8 { q + 1 } else { 0 }),
-            selection(|q| if q >= 8 { 16 - q } else { 0 }),
-        ],
+        first: selection(&|q| if q < 8 { q + 1 } else { 0 }),
+        set: (0..SET_SELECTIONS).map(member).collect(),
         volume: (0..1_024u16)
             .map(|v| {
                 [
@@ -252,10 +340,67 @@ fn no_placement() -> Plan {
         selection: 1,
         position: 1,
         outline: chain(|_| 1),
-        selections: [first, vec![[0, 1, 0, 1], [0, 9, 1, 0]]],
+        first,
+        set: vec![vec![[0, 1, 0, 1], [0, 9, 1, 0]]],
         volume: vec![[0, 1], [0, 1], [1, 1]],
         result: vec![0],
         placement: vec![0; 16],
+        ..Plan::default()
+    }
+}
+
+/// Each position of the second trial is right in some member, and no member
+/// has both.
+fn crossed() -> Plan {
+    let pair = |one, other| vec![[0, 1, 0, 0], [0, one, 0, 1], [0, other, 0, 2]];
+    Plan {
+        limit: 1_000,
+        selection: 1,
+        position: 1,
+        outline: vec![[0, 1, 0], [0, 2, 0], [0, 3, 0]],
+        first: pair(0, 0),
+        set: vec![pair(2, 2), pair(3, 3)],
+        volume: vec![[0, 1], [0, 2], [0, 3]],
+        result: vec![1, 2],
+        placement: vec![0, 1, 2],
+        ..Plan::default()
+    }
+}
+
+/// Each of eight trials passes through a member of its own.
+fn in_turn() -> Plan {
+    const LABELS: std::ops::RangeInclusive<u16> = 2..=9;
+    let child = |label| vec![[0, 1, 0, 0], [0, label, 0, 1]];
+    let mut outline = vec![[0, 1, 0]];
+    outline.extend(LABELS.map(|label| [0, label, 0]));
+    Plan {
+        limit: 1_000,
+        selection: 1,
+        position: 1,
+        outline,
+        first: child(0),
+        // The last member is that of a trial in the middle.
+        set: LABELS.map(|label| child((label + 2) % 8 + 2)).collect(),
+        volume: vec![[0, 1], [0, 2], [0, 4]],
+        result: vec![2],
+        placement: vec![0, 3],
+        ..Plan::default()
+    }
+}
+
+/// A plan whose old form is whole when it is read with a set: four members,
+/// of 0, 3, 0 and 0 records.
+fn old_and_whole() -> Plan {
+    Plan {
+        limit: 1,
+        selection: 1,
+        position: 1,
+        outline: vec![[0, 3, 0], [0, 1, 0]],
+        first: vec![[0, 3, 0, 1]],
+        set: vec![vec![[0, 3, 0, 1], [0, 1, 0, 0], [0, 1, 0, 0], [0, 1, 0, 0]]],
+        volume: vec![[0, 3]],
+        result: vec![0],
+        placement: vec![0],
         ..Plan::default()
     }
 }
@@ -268,31 +413,52 @@ fn chain(label: fn(u16) -> u16) -> Vec<OutlineRow> {
 
 #[cfg(test)]
 mod tests {
-    use super::super::plan::questions;
     use super::*;
 
     #[test]
     fn plans_are_accepted() {
         for call in CALLS {
-            for plan in [rich(), example(), least(), most()] {
-                assert_eq!(plan.for_call(call).vector().refusal(), 0, "call {call}");
+            for plan in [
+                rich(),
+                alone(),
+                example(),
+                least(),
+                most(),
+                crossed(),
+                in_turn(),
+                old_and_whole(),
+            ] {
+                let plan = plan.for_call(call);
+                assert_eq!(plan.vector().refusal(), 0, "call {call}");
+                for selection in 1..=plan.last_selection() {
+                    assert_eq!(about(&plan, selection).refusal(), 0, "call {call}");
+                }
             }
         }
         assert_eq!(no_placement().for_call(1).vector().refusal(), 0);
     }
 
     #[test]
-    fn each_change_breaks_its_question() {
+    fn the_old_form_is_not_taken() {
         for call in CALLS {
-            for change in changes()
-                .iter()
-                .chain(&long_changes())
-                .filter(|c| c.concerns(call))
-            {
-                let refused = changed(&rich(), call, &[change]).refusal();
-                // A change meant to be accepted may leave no placement.
-                if change.question != 0 || ![IS_RESULT, LAYOUT].contains(&call) {
-                    assert_eq!(refused, change.question, "call {call}");
+            for plan in [rich(), example(), least(), most(), no_placement()] {
+                assert_eq!(old_form(&plan.for_call(call)).refusal(), 3);
+            }
+            assert_eq!(old_form(&old_and_whole().for_call(call)).refusal(), 4);
+        }
+    }
+
+    #[test]
+    fn each_change_breaks_its_question() {
+        let all = [changes(), lone_changes(), long_changes()];
+        for call in CALLS {
+            for change in all.iter().flatten().filter(|c| c.concerns(call)) {
+                for plan in [rich(), alone()] {
+                    let refused = changed(&plan, call, &[change]).refusal();
+                    // A change meant to be accepted may leave no placement.
+                    if change.question != 0 || ![IS_RESULT, LAYOUT].contains(&call) {
+                        assert_eq!(refused, change.question, "call {call}");
+                    }
                 }
             }
         }
@@ -311,6 +477,17 @@ mod tests {
                         assert_eq!(refused, a.question, "call {call} with {}", b.question);
                     }
                 }
+            }
+        }
+    }
+
+    #[test]
+    fn every_question_is_among_those_stored() {
+        let stored = stored();
+        for call in CALLS {
+            let of_call = || stored.iter().filter(|vector| vector.call == call);
+            for &question in questions(call).iter().chain(&[0]) {
+                assert!(of_call().any(|vector| vector.refusal() == question));
             }
         }
     }

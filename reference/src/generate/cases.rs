@@ -1,8 +1,9 @@
 //! Random verdict cases near the limits: 64 outline nodes, 16 selection
 //! nodes, no placement or thousands, failing first, in the middle or last.
 
-use super::plan::{OutlineRow, Plan, SelectionRow};
+use super::plan::{OutlineRow, Plan, SelectionRow, Set};
 use super::prng::Prng;
+use super::sets;
 use super::trees::{self, Freedom};
 use crate::calls::{NOT_INCLUDED, STOPPED};
 use crate::vectors::{Vector, VERDICT};
@@ -47,7 +48,7 @@ fn limit(prng: &mut Prng, plan: &Plan) -> u64 {
     }
 }
 
-/// 64 outline nodes and up to 16 nodes in each selection, the second weaker
+/// 64 outline nodes and up to 16 nodes in each selection, the members weaker
 /// or stronger than the first.
 fn large(prng: &mut Prng) -> Plan {
     let outline = trees::outline(prng, 64);
@@ -78,18 +79,18 @@ pub fn many(prng: &mut Prng) -> Plan {
     related(prng, outline, first)
 }
 
-/// Positions for the first, and a second drawn from it. A second that fails
-/// the first trial is mostly drawn again: later failures are rarer.
+/// Positions for the first, and a set drawn from it. A set that fails the
+/// first trial is mostly drawn again: later failures are rarer.
 fn related(prng: &mut Prng, outline: Vec<OutlineRow>, mut first: Vec<SelectionRow>) -> Plan {
     let k = prng.between(1, first.len().min(8));
     trees::hold_positions(prng, &mut first, k);
     let mut plan = Plan {
         outline,
-        selections: [first.clone(), first],
+        first,
         ..Plan::default()
     };
     for _ in 0..prng.between(1, 8) {
-        plan.selections[1] = second(prng, &plan);
+        plan.set = sets::set(prng, &plan.first, &plan.outline, |prng| member(prng, &plan));
         let mut answer = [0; 4_096];
         let got = crate::verdict(&plan.case_bytes(), 200, &mut 0, &mut answer);
         if got.kind == NOT_INCLUDED && got.tried > 1 {
@@ -99,8 +100,8 @@ fn related(prng: &mut Prng, outline: Vec<OutlineRow>, mut first: Vec<SelectionRo
     plan
 }
 
-fn second(prng: &mut Prng, plan: &Plan) -> Vec<SelectionRow> {
-    let (outline, first) = (&plan.outline, &plan.selections[0]);
+fn member(prng: &mut Prng, plan: &Plan) -> Vec<SelectionRow> {
+    let (outline, first) = (&plan.outline, &plan.first);
     let rows = match prng.below(4) {
         0 => trees::strengthen(prng, first, outline),
         1 => {
@@ -129,16 +130,17 @@ fn no_placement(prng: &mut Prng) -> Plan {
     }
     let parent = prng.below(first.len()) as u16;
     first.push([parent, 60_000, 1, 0]);
-    let second = vec![[0, outline[0][1], 0, 1]];
+    let set = vec![vec![[0, outline[0][1], 0, 1]]; prng.between(1, 8)];
     Plan {
         outline,
-        selections: [first, second],
+        first,
+        set,
         ..Plan::default()
     }
 }
 
 /// Exactly one failing trial. The root has children of which all but one have
-/// a strong child x; the first selection has w free children; the second asks
+/// a strong child x; the first selection has w free children; the set asks
 /// for one child with an x. So a trial fails only where all w are at the child
 /// without x, whose place among its siblings, in percent, fixes the rank.
 fn one_failure(prng: &mut Prng, place: usize) -> Plan {
@@ -163,17 +165,38 @@ fn one_failure(prng: &mut Prng, place: usize) -> Plan {
     }
     let mut first: Vec<SelectionRow> = vec![[0, 1, 0, 1]];
     first.extend(std::iter::repeat_n([0, 0, 0, 0], w));
-    let second = vec![[0, [0, 1][prng.below(2)], 0, 1], [0, 0, 0, 0], [1, X, 0, 0]];
-    // Each trial also takes the strong children of the free nodes, so the
-    // second may ask below the root as well.
-    let second = if prng.percent(50) {
-        vec![second[0], [0, X, 1, 0]]
-    } else {
-        second
-    };
+    let mut set = asking(prng, width, without, X);
+    sets::rearrange(prng, &mut set);
     Plan {
         outline,
-        selections: [first, second],
+        first,
+        set,
         ..Plan::default()
     }
+}
+
+/// A child of the root with an x, asked for by one member; or by one for each
+/// of seven such children, and one more where there are others.
+fn asking(prng: &mut Prng, width: usize, without: usize, x: u16) -> Set {
+    let root = [0, [0, 1][prng.below(2)], 0, 1];
+    // Each trial also takes the strong children of the free nodes, so a
+    // member may ask below the root as well.
+    let anywhere = if prng.percent(50) {
+        vec![root, [0, x, 1, 0]]
+    } else {
+        vec![root, [0, 0, 0, 0], [1, x, 0, 0]]
+    };
+    if prng.percent(50) {
+        return vec![anywhere];
+    }
+    let with: Vec<usize> = (0..width).filter(|&child| child != without).collect();
+    let mut set: Set = with
+        .iter()
+        .take(7)
+        .map(|&child| vec![root, [0, 10 + child as u16, 0, 0], [1, x, 0, 0]])
+        .collect();
+    if with.len() > set.len() {
+        set.push(anywhere);
+    }
+    set
 }

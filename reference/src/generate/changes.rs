@@ -2,7 +2,7 @@
 //! number to a bound where it is still accepted.
 
 use super::plan::{least_length, questions, Plan, SelectionRow};
-use crate::records::{CASE_BYTES, OUTLINE_NODES, SELECTION_NODES, VOLUME_NODES};
+use crate::records::{CASE_BYTES, OUTLINE_NODES, SELECTION_NODES, SET_SELECTIONS, VOLUME_NODES};
 use crate::vectors::{IS_RESULT, LAYOUT, NODES_AT};
 
 const TALLY_MOST: u64 = 1_000_000_000_000;
@@ -40,19 +40,54 @@ fn change_of(call: u32, question: u64, apply: impl Fn(&mut Plan) + 'static) -> C
     }
 }
 
-/// Every change there is, small ones only: each vector stays short.
+/// The first selection; any other number is that member's.
+const FIRST: usize = 0;
+/// The last member, or the last record, so that a check that ends early is
+/// caught.
+const LAST: usize = usize::MAX;
+
+/// The first selection or a member; a set that is too short for it is filled up.
+fn selection_mut(plan: &mut Plan, which: usize) -> &mut Vec<SelectionRow> {
+    if which == FIRST {
+        return &mut plan.first;
+    }
+    let number = if which == LAST {
+        plan.set.len().max(1)
+    } else {
+        which
+    };
+    if plan.set.len() < number {
+        plan.resize_set(number);
+    }
+    &mut plan.set[number - 1]
+}
+
+/// The changes that are also made in pairs, small ones only: each vector stays
+/// short.
 pub fn changes() -> Vec<Change> {
     let mut all = numbers();
     all.extend(case_bytes());
     all.extend(counts());
+    all.extend(sets());
     all.extend(outline_records());
-    for which in 0..2 {
+    for which in [FIRST, LAST] {
+        all.extend(selection_counts(which));
         all.extend(selection_records(which));
         all.extend(positions(which));
     }
     all.extend(common_positions());
     all.extend(volumes());
     all.extend(lists());
+    all
+}
+
+/// Small changes that are made singly only: they are much like others.
+pub fn lone_changes() -> Vec<Change> {
+    const MIDDLE: usize = 2;
+    let mut all = more_sets();
+    all.extend(selection_counts(MIDDLE));
+    all.extend(selection_records(MIDDLE));
+    all.extend(positions(MIDDLE));
     all
 }
 
@@ -85,9 +120,12 @@ fn numbers() -> Vec<Change> {
             plan.tally = TALLY_MOST.saturating_sub(plan.limit + under)
         }));
     }
-    for selection in [0, 3, 257, 65_537, (1 << 32) + 1, u64::MAX] {
+    for selection in [0, 257, 65_537, (1 << 32) + 1, u64::MAX] {
         all.push(change(12, move |plan| plan.selection = selection));
     }
+    all.push(change(12, |plan| {
+        plan.selection = plan.last_selection() + 1
+    }));
     for position in [0, 9, 257, 65_537, (1 << 32) + 1, u64::MAX] {
         all.push(change_of(NODES_AT, 12, move |plan| {
             plan.position = position
@@ -103,6 +141,7 @@ fn numbers() -> Vec<Change> {
     for selection in [1, 2] {
         all.push(change(0, move |plan| plan.selection = selection));
     }
+    all.push(change(0, |plan| plan.selection = plan.last_selection()));
     all
 }
 
@@ -116,14 +155,21 @@ fn case_bytes() -> Vec<Change> {
         change(3, |plan| plan.case_ending.after = vec![0]),
         change(3, |plan| plan.case_ending.after = vec![0, 0]),
         change(3, |plan| plan.case_ending.after = vec![1; 8]),
-        change(3, |plan| plan.announced_more[2] = 1),
-        change(3, |plan| plan.announced_more[2] = u16::MAX),
-        change(3, |plan| plan.announced_more[0] = 40_000),
-        change(3, |plan| plan.announced_more[1] = 40_000),
+        change(3, |plan| announce_last(plan, 1)),
+        change(3, |plan| announce_last(plan, u16::MAX)),
+        change(3, |plan| plan.excess.outline = 40_000),
+        change(3, |plan| plan.excess.first = 40_000),
+        change(3, |plan| plan.excess.set = 1),
     ]
 }
 
-/// Question 3 and 4 at 65,536 bytes: long vectors, so kept apart.
+/// Another count at the last member, where one is put if there is none.
+fn announce_last(plan: &mut Plan, more: u16) {
+    selection_mut(plan, LAST);
+    plan.excess.last_member = more;
+}
+
+/// Questions 3, 4 and 14 at 65,536 bytes: long vectors, so kept apart.
 pub fn long_changes() -> Vec<Change> {
     vec![
         // Whole and not too long: 6 + 3 x 6 + 8,189 x 8 = 65,536.
@@ -134,15 +180,34 @@ pub fn long_changes() -> Vec<Change> {
         }),
         // Whole but two bytes too long.
         change(3, |plan| long_case(plan, 2, 8_190)),
+        // As many empty members as there is room for.
+        change(4, |plan| fill_set(plan, 2, &[])),
+        change(3, |plan| {
+            fill_set(plan, 2, &[]);
+            plan.set.push(vec![]);
+        }),
+        change(3, |plan| {
+            fill_set(plan, 2, &[]);
+            plan.excess.set = 1;
+        }),
+        // As many members of one node; a low byte of 1 is not a set of one.
+        change(14, |plan| fill_set(plan, 10, &[[0, 0, 0, 1]])),
+        change(14, |plan| plan.set = vec![vec![[0, 0, 0, 1]]; 257]),
         change(3, |plan| fill_case(plan, CASE_BYTES)),
         change(3, |plan| fill_case(plan, CASE_BYTES + 1)),
     ]
 }
 
+/// Members all alike, of so many bytes each, as far as 65,536 bytes go.
+fn fill_set(plan: &mut Plan, bytes: usize, member: &[SelectionRow]) {
+    let room = CASE_BYTES - 6 - 6 * plan.outline.len() - 8 * plan.first.len();
+    plan.set = vec![member.to_vec(); room / bytes];
+}
+
 fn long_case(plan: &mut Plan, outline: usize, first: usize) {
     plan.outline.resize(outline, [0, 77, 0]);
-    plan.selections[0].resize(first, [0, 0, 0, 0]);
-    plan.selections[1].clear();
+    plan.first.resize(first, [0, 0, 0, 0]);
+    plan.set.clear();
 }
 
 /// The case as it is, with zeros after it up to a length.
@@ -152,26 +217,97 @@ fn fill_case(plan: &mut Plan, length: usize) {
     plan.case_ending.after = vec![0; more];
 }
 
-/// Question 4, and the greatest counts accepted.
+/// Question 4 about the outline and about all sections.
 fn counts() -> Vec<Change> {
-    let mut all = vec![
+    vec![
         change(4, |plan| plan.outline.clear()),
         change(4, |plan| grow_outline(plan, OUTLINE_NODES + 1)),
         change(4, |plan| {
             plan.outline.clear();
-            plan.selections = Default::default();
+            plan.first.clear();
+            plan.set.clear();
         }),
         change(0, |plan| grow_outline(plan, OUTLINE_NODES)),
-    ];
-    for which in 0..2 {
-        all.push(change(4, move |plan| plan.selections[which].clear()));
-        all.push(change(4, move |plan| {
+    ]
+}
+
+/// Question 4 about one selection.
+fn selection_counts(which: usize) -> Vec<Change> {
+    vec![
+        change(4, move |plan| selection_mut(plan, which).clear()),
+        change(4, move |plan| {
             grow_selection(plan, which, SELECTION_NODES + 1)
-        }));
-        all.push(change(0, move |plan| {
-            grow_selection(plan, which, SELECTION_NODES)
-        }));
+        }),
+        change(0, move |plan| grow_selection(plan, which, SELECTION_NODES)),
+    ]
+}
+
+/// Question 14, and the questions 3 and 4 that come before it.
+fn sets() -> Vec<Change> {
+    vec![
+        change(14, |plan| plan.set.clear()),
+        change(14, |plan| plan.resize_set(SET_SELECTIONS + 1)),
+        change(4, |plan| {
+            plan.resize_set(SET_SELECTIONS);
+            plan.set.push(vec![]);
+        }),
+        change(4, |plan| {
+            plan.set.clear();
+            grow_outline(plan, OUTLINE_NODES + 1);
+        }),
+        // Nine announced and eight whole; eight announced and nine whole.
+        change(3, |plan| {
+            plan.resize_set(SET_SELECTIONS);
+            plan.excess.set = 1;
+        }),
+        change(3, |plan| {
+            plan.resize_set(SET_SELECTIONS + 1);
+            plan.excess.set = u16::MAX;
+        }),
+        change(0, |plan| plan.resize_set(SET_SELECTIONS)),
+    ]
+}
+
+/// The same with other counts, and sets that are accepted.
+fn more_sets() -> Vec<Change> {
+    let mut all = vec![
+        change(14, |plan| plan.resize_set(2 * SET_SELECTIONS)),
+        change(4, |plan| {
+            plan.set.clear();
+            plan.first.clear();
+        }),
+        change(4, |plan| {
+            plan.resize_set(SET_SELECTIONS + 1);
+            plan.set[0].clear();
+        }),
+        change(4, |plan| {
+            plan.resize_set(SET_SELECTIONS + 1);
+            grow_selection(plan, LAST, SELECTION_NODES + 1);
+        }),
+        change(4, |plan| {
+            plan.resize_set(SET_SELECTIONS);
+            grow_selection(plan, LAST, SELECTION_NODES + 1);
+        }),
+        // None is announced, and all are there.
+        change(3, |plan| {
+            plan.excess.set = (plan.set.len() as u16).wrapping_neg()
+        }),
+        change(3, |plan| plan.excess.set = 40_000),
+        change(3, |plan| plan.excess.set = 256),
+        change(0, |plan| plan.set.reverse()),
+    ];
+    for count in [1, 2, SET_SELECTIONS - 1] {
+        all.push(change(0, move |plan| plan.resize_set(count)));
     }
+    // The numbers on both sides of a set's greatest end.
+    all.push(change(0, |plan| {
+        plan.resize_set(SET_SELECTIONS);
+        plan.selection = plan.last_selection();
+    }));
+    all.push(change(12, |plan| {
+        plan.resize_set(SET_SELECTIONS);
+        plan.selection = plan.last_selection() + 1;
+    }));
     all
 }
 
@@ -185,9 +321,15 @@ fn grow_outline(plan: &mut Plan, size: usize) {
 /// More nodes that fit wherever the root does, so that a placement of the
 /// selection goes on, all of them at the first child of the outline's root.
 fn grow_selection(plan: &mut Plan, which: usize, size: usize) {
-    let more = size.saturating_sub(plan.selections[which].len());
-    plan.selections[which].extend(std::iter::repeat_n::<SelectionRow>([0, 0, 0, 0], more));
-    if plan.selection == which as u64 + 1 {
+    let rows = selection_mut(plan, which);
+    let more = size.saturating_sub(rows.len());
+    rows.extend(std::iter::repeat_n::<SelectionRow>([0, 0, 0, 0], more));
+    let number = if which == LAST {
+        plan.last_selection()
+    } else {
+        which as u64 + 1
+    };
+    if plan.selection == number {
         let child = (1..plan.outline.len())
             .find(|&t| plan.outline[t][0] == 0)
             .unwrap_or(0);
@@ -195,9 +337,6 @@ fn grow_selection(plan: &mut Plan, which: usize, size: usize) {
             .extend(std::iter::repeat_n(child as u16, more));
     }
 }
-
-/// The last record, so that a check that ends early is caught.
-const LAST: usize = usize::MAX;
 
 /// One field of one record gets another value, for each (record, field,
 /// value).
@@ -265,7 +404,7 @@ fn outline_records() -> Vec<Change> {
     all
 }
 
-/// Question 7, in one selection. Labels there are free.
+/// Question 7 in one selection. Labels there are free.
 fn selection_records(which: usize) -> Vec<Change> {
     let broken = [
         (0, 0, 1),
@@ -286,7 +425,7 @@ fn selection_records(which: usize) -> Vec<Change> {
     let all = [(7, &broken[..]), (0, &[(0, 1, 0)]), (7, &last)];
     all.into_iter()
         .flat_map(|(question, values)| {
-            fields(question, move |plan| &mut plan.selections[which], values)
+            fields(question, move |plan| selection_mut(plan, which), values)
         })
         .collect()
 }
@@ -295,7 +434,7 @@ fn selection_records(which: usize) -> Vec<Change> {
 fn positions(which: usize) -> Vec<Change> {
     let each = |question, renumber: fn(u16) -> u16| {
         change(question, move |plan: &mut Plan| {
-            for row in &mut plan.selections[which] {
+            for row in selection_mut(plan, which) {
                 row[3] = renumber(row[3]);
             }
         })
@@ -316,39 +455,35 @@ fn positions(which: usize) -> Vec<Change> {
             }
         }),
     ];
-    // One more, or one fewer, than the other selection has.
+    // One more, or one fewer, than the other selections have.
     all.push(change(8, move |plan| {
-        let most = plan.selections[which]
-            .iter()
-            .map(|row| row[3])
-            .max()
-            .unwrap_or(0);
-        match plan.selections[which].iter_mut().find(|row| row[3] == 0) {
+        let rows = selection_mut(plan, which);
+        let most = most_position(rows);
+        match rows.iter_mut().find(|row| row[3] == 0) {
             Some(row) if most < 8 => row[3] = most + 1,
-            _ => plan.selections[which].iter_mut().for_each(|row| row[3] = 0),
+            _ => rows.iter_mut().for_each(|row| row[3] = 0),
         }
     }));
     all.push(change(8, move |plan| {
-        let most = plan.selections[which]
-            .iter()
-            .map(|row| row[3])
-            .max()
-            .unwrap_or(0);
-        for row in plan.selections[which]
-            .iter_mut()
-            .filter(|row| row[3] == most)
-        {
+        let rows = selection_mut(plan, which);
+        let most = most_position(rows);
+        for row in rows.iter_mut().filter(|row| row[3] == most) {
             row[3] = 0;
         }
     }));
     all
 }
 
-/// Question 8, broken alike in both selections.
+fn most_position(rows: &[SelectionRow]) -> u16 {
+    rows.iter().map(|row| row[3]).max().unwrap_or(0)
+}
+
+/// Question 8, broken alike in all selections.
 fn common_positions() -> Vec<Change> {
     let each = |renumber: fn(u16) -> u16| {
         change(8, move |plan: &mut Plan| {
-            for row in plan.selections.iter_mut().flatten() {
+            let members = plan.set.iter_mut().flatten();
+            for row in plan.first.iter_mut().chain(members) {
                 row[3] = renumber(row[3]);
             }
         })
@@ -376,8 +511,8 @@ fn volumes() -> Vec<Change> {
         change(10, |plan| plan.volume_ending.after = vec![0]),
         change(10, |plan| plan.volume_ending.after = vec![0, 0]),
         change(10, |plan| plan.volume_ending.after = vec![1; 4]),
-        change(10, |plan| plan.announced_more[3] = 1),
-        change(10, |plan| plan.announced_more[3] = u16::MAX),
+        change(10, |plan| plan.excess.volume = 1),
+        change(10, |plan| plan.excess.volume = u16::MAX),
         change(10, |plan| plan.volume.clear()),
         change(10, |plan| plan.volume.resize(VOLUME_NODES + 1, [0, 2])),
         change(0, |plan| plan.volume.resize(VOLUME_NODES, [0, 2])),

@@ -1,10 +1,10 @@
 //! Random layouts near the limits, all accepted: trials of hundreds of nodes,
 //! every fourth as large as a trial can be.
 
-use super::plan::{least_length, OutlineRow, Plan, SelectionRow};
+use super::plan::{least_length, OutlineRow, Plan, SelectionRow, Set};
 use super::prng::Prng;
 use super::trees;
-use crate::records::{OUTLINE_NODES, SELECTION_NODES};
+use crate::records::{OUTLINE_NODES, SELECTION_NODES, SET_SELECTIONS};
 use crate::vectors::{Vector, LAYOUT};
 
 pub fn layouts(seed: u64, count: usize) -> Vec<Vector> {
@@ -12,7 +12,7 @@ pub fn layouts(seed: u64, count: usize) -> Vec<Vector> {
     (0..count).map(|index| one(&mut prng, index)).collect()
 }
 
-/// The selection laid out is the first or the second; the other asks less.
+/// The selection laid out is the first or a member; the others ask less.
 fn one(prng: &mut Prng, index: usize) -> Vector {
     let Placed {
         outline,
@@ -24,18 +24,21 @@ fn one(prng: &mut Prng, index: usize) -> Vector {
     };
     let k = prng.between(1, rows.len().min(8));
     trees::hold_positions(prng, &mut rows, k);
-    let other = trees::weaken(prng, &rows);
-    let (selection, selections) = if prng.percent(50) {
-        (1, [rows, other])
-    } else {
-        (2, [other, rows])
-    };
+    let count = [1, 1, 2, SET_SELECTIONS][prng.below(4)];
+    let mut first = trees::weaken(prng, &rows);
+    let mut set: Set = (0..count).map(|_| trees::weaken(prng, &rows)).collect();
+    let selection = [1, prng.between(2, 1 + count)][prng.below(2)];
+    match selection {
+        1 => first = rows,
+        _ => set[selection - 2] = rows,
+    }
     Plan {
         call: LAYOUT,
-        selection,
+        selection: selection as u64,
         length: least_length(LAYOUT) + [0, 0, 1, 904][prng.below(4)],
         outline,
-        selections,
+        first,
+        set,
         placement: places.iter().map(|&t| t as u16).collect(),
         ..Plan::default()
     }

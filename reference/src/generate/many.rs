@@ -1,12 +1,14 @@
 //! Verdicts over very many placements, each trial of few nodes: up to the
 //! limit, exactly at it and one past it; one failing placement far down, and
-//! many behind a long run that passes; all passing, at different places by
-//! turns.
+//! many behind a long run that passes; all passing, at different places or
+//! through different members by turns.
 
 use super::cases;
 use super::plan::{least_length, OutlineRow, Plan, SelectionRow};
 use super::prng::Prng;
+use super::sets;
 use super::trees;
+use crate::records::SET_SELECTIONS;
 use crate::vectors::{Vector, VERDICT};
 
 const LIMIT: u64 = 1_000_000;
@@ -35,6 +37,10 @@ pub fn many(seed: u64, count: usize) -> Vec<Vector> {
         (one_without(31, 4, 17), LIMIT),
         (two_blocks(9, 8, 6), LIMIT),
         (two_blocks(3, 40, 12), LIMIT),
+        // The first that passes through none of eight members is the 888,889th;
+        // all of 800,000 pass, through eight members by turns.
+        (member_each(10, 6), LIMIT),
+        (alternating(9, 5), LIMIT),
     ];
     let fixed = fixed.into_iter().map(|(plan, limit)| verdict(plan, limit));
     let random = (0..count).map(|_| drawn(&mut prng));
@@ -58,12 +64,14 @@ fn drawn(prng: &mut Prng) -> Vector {
     let (most, nodes) = [(31, 3), (31, 4), (15, 5), (10, 6), (5, 8)][prng.below(5)];
     let width = prng.between(most * 2 / 3, most);
     let soon = 1 + prng.draw() % 30_000;
-    let plan = match prng.below(8) {
+    let plan = match prng.below(10) {
         0 | 1 => one_without(width, nodes, prng.below(width)),
         2 | 3 => two_blocks(width, prng.between(1, 4), nodes),
         4 => star(width, nodes),
         5 => return verdict(vast(prng), soon),
         6 => return verdict(by_turns(prng), soon),
+        7 => member_each(width, nodes),
+        8 => return verdict(alternating(width, nodes), soon),
         _ => return verdict(cases::many(prng), soon),
     };
     let all = (width as u64).pow(nodes as u32);
@@ -71,10 +79,12 @@ fn drawn(prng: &mut Prng) -> Vector {
     verdict(plan, limit.clamp(1, LIMIT))
 }
 
-fn plan(outline: Vec<OutlineRow>, first: Vec<SelectionRow>, second: Vec<SelectionRow>) -> Plan {
+/// A set of one.
+fn plan(outline: Vec<OutlineRow>, first: Vec<SelectionRow>, member: Vec<SelectionRow>) -> Plan {
     Plan {
         outline,
-        selections: [first, second],
+        first,
+        set: vec![member],
         ..Plan::default()
     }
 }
@@ -88,17 +98,55 @@ fn star(width: usize, free: usize) -> Plan {
     plan(outline, first, vec![[0, ANY, CHILD, 1], [0, ANY, CHILD, 0]])
 }
 
-/// All children but one have a strong child x, and the second selection asks
-/// for one: only where all free nodes are at the child without does it fail.
+/// A star with a member for each child, as far as eight go: a trial fails only
+/// where all free nodes are at children without one.
+fn member_each(width: usize, free: usize) -> Plan {
+    let mut made = star(width, free);
+    let asking = |child| vec![[0, ROOT, CHILD, 1], [0, 10 + child as u16, CHILD, 0]];
+    made.set = (0..width.min(SET_SELECTIONS)).map(asking).collect();
+    made
+}
+
+/// A star with one more child, x, and a last node at one of eight children of
+/// x. Each member asks for another of these, so all trials pass, each through
+/// another member than the one before.
+fn alternating(width: usize, free: usize) -> Plan {
+    let mut made = star(width, free);
+    let (at, last) = (made.outline.len() as u16, made.first.len() as u16);
+    let below = |child: usize| 600 + child as u16;
+    made.outline.push([0, X, 0]);
+    made.outline
+        .extend((0..SET_SELECTIONS).map(|child| [at, below(child), 0]));
+    made.first.extend([[0, X, CHILD, 0], [last, ANY, CHILD, 0]]);
+    for node in &mut made.first[1..] {
+        node[2] = CHILD;
+    }
+    let asking = |child| {
+        vec![
+            [0, ROOT, CHILD, 1],
+            [0, X, CHILD, 0],
+            [1, below(child), CHILD, 0],
+        ]
+    };
+    made.set = (0..SET_SELECTIONS).map(asking).collect();
+    made
+}
+
+/// All children but one have a strong child x, and the set's member asks for
+/// one: only where all free nodes are at the child without does it fail.
 fn one_without(width: usize, free: usize, without: usize) -> Plan {
     let mut made = star(width, free);
     let with = (0..width).filter(|&child| child != without);
     made.outline
         .extend(with.map(|child| [1 + child as u16, X, 1]));
-    for node in &mut made.selections[0][1..] {
+    for node in &mut made.first[1..] {
         node[2] = CHILD;
     }
-    made.selections[1] = vec![[0, ROOT, CHILD, 1], [0, ANY, CHILD, 0], [1, X, CHILD, 0]];
+    made.set = vec![vec![
+        [0, ROOT, CHILD, 1],
+        [0, ANY, CHILD, 0],
+        [1, X, CHILD, 0],
+    ]];
     made
 }
 
@@ -119,8 +167,8 @@ fn two_blocks(passing: usize, failing: usize, free: usize) -> Plan {
     )
 }
 
-/// A first selection of 15 nodes that may stand anywhere, and a second
-/// that asks no more: up to 63^15 placements, all of which pass.
+/// A first selection of 15 nodes that may stand anywhere, and members that
+/// ask no more: up to 63^15 placements, all of which pass.
 fn vast(prng: &mut Prng) -> Plan {
     let mut outline: Vec<OutlineRow> = vec![[0, 1, 0]];
     while outline.len() < 64 {
@@ -137,11 +185,13 @@ fn vast(prng: &mut Prng) -> Plan {
         };
         first.push([parent, 0, 1, 0]);
     }
-    let second = trees::weaken(prng, &first);
-    plan(outline, first, second)
+    let weak = trees::weaken(prng, &first);
+    let mut made = plan(outline, first, weak);
+    sets::rearrange(prng, &mut made.set);
+    made
 }
 
-/// The second asks for a b with a child c. The first has a b, then free nodes,
+/// The member asks for a b with a child c. The first has a b, then free nodes,
 /// and last a c below the b, at one of the places where now this b has it as
 /// its child and now a b further down. So all trials pass, but no node's
 /// places have an offer in common until the c is placed; now and then the
@@ -174,9 +224,9 @@ fn by_turns(prng: &mut Prng) -> Plan {
         first.push([prng.below(2) as u16, 0, 1, 0]);
     }
     first.push([1, 3, 1, 0]);
-    let mut second: Vec<SelectionRow> = vec![[0, 1, 0, 1], [0, 2, 1, 0], [1, 3, 0, 0]];
+    let mut member: Vec<SelectionRow> = vec![[0, 1, 0, 1], [0, 2, 1, 0], [1, 3, 0, 0]];
     if prng.percent(30) {
-        second.push([0, 0, 1, 0]);
+        member.push([0, 0, 1, 0]);
     }
-    plan(outline, first, second)
+    plan(outline, first, member)
 }

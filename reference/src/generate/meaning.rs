@@ -1,11 +1,14 @@
 //! What the answers mean, tried on random plans: a verdict's answer against
 //! fitting volumes, and the calls against each other.
 
-use super::plan::{put_fields, put_section, Plan};
+use super::plan::{put_fields, put_section, Plan, Set};
 use super::prng::Prng;
 use super::random::{around_embedding, result, selections};
+use super::sets::rearrange;
 use super::trees;
-use crate::calls::{INCLUDED, NOT_INCLUDED};
+use crate::calls::{INCLUDED, NOT_INCLUDED, STOPPED};
+use crate::records::{holder, read_case};
+use crate::trials::{each_placement, lay_out};
 use crate::*;
 
 fn volume_bytes(rows: &[[u16; 2]]) -> Vec<u8> {
@@ -27,19 +30,28 @@ fn shown(answer: &[u8]) -> (&[u8], &[u8]) {
     (&answer[..end], &answer[end + 2..end + 2 + 2 * field(end)])
 }
 
+/// Whether the list is a result of at least one member.
+fn in_union(plan: &Plan, volume: &[u8], list: &[u8]) -> bool {
+    (2..=plan.last_selection()).any(|member| {
+        let got = is_result(&plan.case_bytes(), member, volume, list);
+        assert_eq!(got.refused, 0);
+        got.holds
+    })
+}
+
 #[test]
 fn a_shown_volume_fits_and_tells_the_selections_apart() {
     let mut prng = Prng::new(11);
     let mut seen = 0;
     for _ in 0..600 {
-        let case = selections(&mut prng).case_bytes();
+        let plan = selections(&mut prng);
+        let case = plan.case_bytes();
         let mut answer = [0; 4_096];
         if verdict(&case, 500, &mut 0, &mut answer).kind == NOT_INCLUDED {
             let (volume, list) = shown(&answer);
             assert!(fits(&case, volume).holds);
             assert!(is_result(&case, 1, volume, list).holds);
-            let other = is_result(&case, 2, volume, list);
-            assert_eq!((other.refused, other.holds), (0, false));
+            assert!(!in_union(&plan, volume, list));
             seen += 1;
         }
     }
@@ -64,12 +76,67 @@ fn included_holds_in_fitting_volumes() {
             let volume = volume_bytes(&plan.volume);
             let list = list_bytes(&result(&mut prng, &plan));
             if fits(&case, &volume).holds && is_result(&case, 1, &volume, &list).holds {
-                assert!(is_result(&case, 2, &volume, &list).holds);
+                assert!(in_union(&plan, &volume, &list));
                 seen += 1;
             }
         }
     }
     assert!(seen > 500);
+}
+
+/// Kind and tried worked out from each trial and each member by itself.
+fn worked_out(plan: &Plan, limit: u64) -> (u64, u64) {
+    let case = read_case(&plan.case_bytes()).expect("the plan is accepted");
+    let holders = (1..=case.positions).filter_map(|position| holder(&case.first, position));
+    let holders: Vec<usize> = holders.collect();
+    let (mut kind, mut tried) = (INCLUDED, 0);
+    each_placement(&case.outline, &case.first, |placement| {
+        if tried == limit {
+            kind = STOPPED;
+            return false;
+        }
+        tried += 1;
+        let trial = lay_out(&case.outline, &case.first, placement);
+        let rows: Vec<[u16; 2]> = trial
+            .nodes
+            .iter()
+            .map(|node| [node.parent as u16, case.outline[node.outline].label])
+            .collect();
+        let list: Vec<u16> = holders.iter().map(|&q| trial.own[q] as u16).collect();
+        let passes = in_union(plan, &volume_bytes(&rows), &list_bytes(&list));
+        if !passes {
+            kind = NOT_INCLUDED;
+        }
+        passes
+    });
+    (kind, tried)
+}
+
+#[test]
+fn a_trial_passes_through_any_member() {
+    let mut prng = Prng::new(15);
+    let mut together = 0;
+    for _ in 0..800 {
+        let plan = selections(&mut prng);
+        let judged = |set: Set| {
+            let plan = Plan {
+                set,
+                ..plan.clone()
+            };
+            let mut answer = [0xAA; 4_096];
+            let got = verdict(&plan.case_bytes(), 100, &mut 0, &mut answer);
+            ((got.kind, got.tried), answer)
+        };
+        let whole = judged(plan.set.clone());
+        assert_eq!(whole.0, worked_out(&plan, 100));
+        let mut set = plan.set.clone();
+        set.reverse();
+        rearrange(&mut prng, &mut set);
+        assert_eq!(judged(set), whole);
+        let alone = |member: &Vec<_>| judged(vec![member.clone()]).0 .0 == INCLUDED;
+        together += u32::from(whole.0 .0 == INCLUDED && !plan.set.iter().any(alone));
+    }
+    assert!(together > 20, "{together} included through the union alone");
 }
 
 #[test]
@@ -79,7 +146,7 @@ fn layouts_fit() {
     for _ in 0..600 {
         let plan = selections(&mut prng);
         let tree: Vec<[u16; 2]> = plan.outline.iter().map(|row| [row[0], row[1]]).collect();
-        let Some(places) = trees::embedding(&mut prng, &plan.selections[0], &tree) else {
+        let Some(places) = trees::embedding(&mut prng, &plan.first, &tree) else {
             continue;
         };
         let places: Vec<u16> = places.iter().map(|&t| t as u16).collect();

@@ -1,8 +1,8 @@
 //! Test vectors, drawn from a seed or at every boundary of every question.
 //! `changes` has every way to break a question, `boundaries` applies them
-//! singly and in pairs, `trees` draws outlines, selections and volumes, and
-//! `random`, `cases` and `layouts` put them together; `many` has verdicts over
-//! very many placements.
+//! singly and in pairs, `trees` draws outlines, selections and volumes, `sets`
+//! draws sets, and `random`, `cases` and `layouts` put them together; `many` has
+//! verdicts over very many placements.
 
 mod boundaries;
 mod cases;
@@ -14,9 +14,10 @@ mod meaning;
 mod plan;
 mod prng;
 mod random;
+mod sets;
 mod trees;
 
-pub use boundaries::boundaries;
+pub use boundaries::{boundaries, stored};
 pub use cases::cases;
 pub use layouts::layouts;
 pub use many::many;

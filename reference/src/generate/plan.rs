@@ -7,17 +7,18 @@ pub const CALLS: [u32; 6] = [VERDICT, FITS, IS_RESULT, NODES_AT, PATHS, LAYOUT];
 
 pub type OutlineRow = [u16; 3];
 pub type SelectionRow = [u16; 4];
+pub type Set = Vec<Vec<SelectionRow>>;
 pub type VolumeRow = [u16; 2];
 
 /// The questions of a call, in its order.
 pub fn questions(call: u32) -> &'static [u64] {
     match call {
-        VERDICT => &[1, 2, 3, 4, 5, 6, 7, 8, 9],
-        FITS => &[3, 4, 5, 6, 7, 8, 10],
-        IS_RESULT => &[3, 4, 5, 6, 7, 8, 10, 12, 11],
-        NODES_AT => &[2, 3, 4, 5, 6, 7, 8, 10, 12],
-        PATHS => &[3, 4, 5, 6, 7, 8, 12],
-        _ => &[2, 3, 4, 5, 6, 7, 8, 12, 13],
+        VERDICT => &[1, 2, 3, 4, 14, 5, 6, 7, 8, 9],
+        FITS => &[3, 4, 14, 5, 6, 7, 8, 10],
+        IS_RESULT => &[3, 4, 14, 5, 6, 7, 8, 10, 12, 11],
+        NODES_AT => &[2, 3, 4, 14, 5, 6, 7, 8, 10, 12],
+        PATHS => &[3, 4, 14, 5, 6, 7, 8, 12],
+        _ => &[2, 3, 4, 14, 5, 6, 7, 8, 12, 13],
     }
 }
 
@@ -46,6 +47,17 @@ impl Ending {
     }
 }
 
+/// How many records each count announces too many; the set's count, members.
+/// One too few is `u16::MAX`.
+#[derive(Clone, Debug, Default)]
+pub struct Excess {
+    pub outline: u16,
+    pub first: u16,
+    pub set: u16,
+    pub last_member: u16,
+    pub volume: u16,
+}
+
 /// The result list and the placement list are kept apart, so that one plan
 /// serves every call.
 #[derive(Clone, Debug, Default)]
@@ -57,12 +69,12 @@ pub struct Plan {
     pub position: u64,
     pub length: u64,
     pub outline: Vec<OutlineRow>,
-    pub selections: [Vec<SelectionRow>; 2],
+    pub first: Vec<SelectionRow>,
+    pub set: Set,
     pub volume: Vec<VolumeRow>,
     pub result: Vec<u16>,
     pub placement: Vec<u16>,
-    /// How many records the three counts and the volume's announce too many.
-    pub announced_more: [u16; 4],
+    pub excess: Excess,
     pub case_ending: Ending,
     pub volume_ending: Ending,
     pub list_ending: Ending,
@@ -71,15 +83,21 @@ pub struct Plan {
 impl Plan {
     pub fn case_bytes(&self) -> Vec<u8> {
         let mut out = Vec::new();
-        put_section(&mut out, &self.outline, self.announced_more[0]);
-        put_section(&mut out, &self.selections[0], self.announced_more[1]);
-        put_section(&mut out, &self.selections[1], self.announced_more[2]);
+        put_section(&mut out, &self.outline, self.excess.outline);
+        put_section(&mut out, &self.first, self.excess.first);
+        put_count(&mut out, self.set.len(), self.excess.set);
+        if let Some((last, others)) = self.set.split_last() {
+            for member in others {
+                put_section(&mut out, member, 0);
+            }
+            put_section(&mut out, last, self.excess.last_member);
+        }
         self.case_ending.apply(out)
     }
 
     pub fn volume_bytes(&self) -> Vec<u8> {
         let mut out = Vec::new();
-        put_section(&mut out, &self.volume, self.announced_more[3]);
+        put_section(&mut out, &self.volume, self.excess.volume);
         self.volume_ending.apply(out)
     }
 
@@ -104,7 +122,30 @@ impl Plan {
 
     /// k, as far as the first selection goes.
     pub fn positions(&self) -> u64 {
-        self.selections[0].iter().filter(|row| row[3] != 0).count() as u64
+        self.first.iter().filter(|row| row[3] != 0).count() as u64
+    }
+
+    /// The number of the last member.
+    pub fn last_selection(&self) -> u64 {
+        1 + self.set.len() as u64
+    }
+
+    /// The selection that the call is about; the first where there is none of
+    /// that number.
+    pub fn chosen(&self) -> &[SelectionRow] {
+        let member = self.selection.checked_sub(2).map(|index| index as usize);
+        member
+            .and_then(|index| self.set.get(index))
+            .unwrap_or(&self.first)
+    }
+
+    /// As many members, those there are by turns; the first selection where
+    /// there are none.
+    pub fn resize_set(&mut self, count: usize) {
+        if self.set.is_empty() {
+            self.set.push(self.first.clone());
+        }
+        self.set = self.set.iter().cycle().take(count).cloned().collect();
     }
 
     /// The vector, with only what the call takes.
@@ -139,8 +180,12 @@ pub fn put_fields(out: &mut Vec<u8>, fields: &[u16]) {
     out.extend(fields.iter().flat_map(|field| field.to_le_bytes()));
 }
 
+fn put_count(out: &mut Vec<u8>, count: usize, announced_more: u16) {
+    put_fields(out, &[(count as u16).wrapping_add(announced_more)]);
+}
+
 pub fn put_section<const N: usize>(out: &mut Vec<u8>, rows: &[[u16; N]], announced_more: u16) {
-    put_fields(out, &[(rows.len() as u16).wrapping_add(announced_more)]);
+    put_count(out, rows.len(), announced_more);
     for row in rows {
         put_fields(out, row);
     }

@@ -1,8 +1,9 @@
 //! Random calls, accepted and nearly accepted.
 
 use super::changes::{changes, Change};
-use super::plan::{least_length, Plan, SelectionRow, VolumeRow, CALLS};
+use super::plan::{least_length, OutlineRow, Plan, SelectionRow, VolumeRow, CALLS};
 use super::prng::Prng;
+use super::sets;
 use super::trees::{self, Freedom};
 use crate::vectors::{Vector, LAYOUT, VERDICT};
 
@@ -21,7 +22,7 @@ fn one(prng: &mut Prng, changes: &[Change]) -> Vector {
     let mut plan = selections(prng);
     plan.call = call;
     plan.length = least_length(call) + [0, 0, 1, 904][prng.below(4)];
-    plan.selection = prng.between(1, 2) as u64;
+    plan.selection = prng.between(1, plan.last_selection() as usize) as u64;
     plan.position = prng.between(1, plan.positions() as usize) as u64;
     plan.volume = volume(prng, &plan);
     plan.result = result(prng, &plan);
@@ -48,8 +49,7 @@ fn one(prng: &mut Prng, changes: &[Change]) -> Vector {
     vector
 }
 
-/// An outline and two selections with positions, the second drawn in one of
-/// several ways from the first.
+/// An outline, a first selection and a set, all with the same positions.
 pub fn selections(prng: &mut Prng) -> Plan {
     let size = match prng.below(5) {
         0 => prng.between(1, 3),
@@ -63,35 +63,47 @@ pub fn selections(prng: &mut Prng) -> Plan {
     let mut first = trees::selection(prng, &outline, size, freedom);
     let k = prng.between(1, first.len().min(8));
     trees::hold_positions(prng, &mut first, k);
-    let second = match prng.below(5) {
+    let mut set = sets::set(prng, &first, &outline, |prng| {
+        member(prng, &first, &outline, k)
+    });
+    if prng.percent(15) {
+        let member = prng.below(set.len());
+        std::mem::swap(&mut first, &mut set[member]);
+    }
+    Plan {
+        outline,
+        first,
+        set,
+        ..Plan::default()
+    }
+}
+
+/// A selection drawn in one of several ways, most of them from the first.
+fn member(
+    prng: &mut Prng,
+    first: &[SelectionRow],
+    outline: &[OutlineRow],
+    k: usize,
+) -> Vec<SelectionRow> {
+    let rows = match prng.below(5) {
         0 => {
             let size = selection_size(prng).max(k);
             let freedom = Freedom::random(prng);
-            let mut rows = trees::selection(prng, &outline, size, freedom);
+            let mut rows = trees::selection(prng, outline, size, freedom);
             trees::hold_positions(prng, &mut rows, k);
             rows
         }
-        1 => trees::strengthen(prng, &first, &outline),
+        1 => trees::strengthen(prng, first, outline),
         2 => {
-            let weak = trees::weaken(prng, &first);
-            trees::strengthen(prng, &weak, &outline)
+            let weak = trees::weaken(prng, first);
+            trees::strengthen(prng, &weak, outline)
         }
-        _ => trees::weaken(prng, &first),
+        _ => trees::weaken(prng, first),
     };
-    let second = if prng.percent(50) {
-        trees::reorder(prng, &second)
+    if prng.percent(50) {
+        trees::reorder(prng, &rows)
     } else {
-        second
-    };
-    let selections = if prng.percent(15) {
-        [second, first]
-    } else {
-        [first, second]
-    };
-    Plan {
-        outline,
-        selections,
-        ..Plan::default()
+        rows
     }
 }
 
@@ -101,17 +113,6 @@ fn selection_size(prng: &mut Prng) -> usize {
         1 | 2 => prng.between(2, 8),
         _ => prng.between(9, 16),
     }
-}
-
-fn chosen(plan: &Plan) -> &[SelectionRow] {
-    &plan.selections[if plan.selection == 2 { 1 } else { 0 }]
-}
-
-fn outline_volume(plan: &Plan) -> Vec<VolumeRow> {
-    plan.outline
-        .iter()
-        .map(|&[parent, label, _]| [parent, label])
-        .collect()
 }
 
 fn volume(prng: &mut Prng, plan: &Plan) -> Vec<VolumeRow> {
@@ -137,8 +138,8 @@ fn volume(prng: &mut Prng, plan: &Plan) -> Vec<VolumeRow> {
 /// A fitting volume in which the chosen selection has results, if it has a
 /// placement: a chain of new nodes per selection node, then more.
 pub fn around_embedding(prng: &mut Prng, plan: &Plan, size: usize) -> Vec<VolumeRow> {
-    let selection = chosen(plan);
-    let Some(places) = trees::embedding(prng, selection, &outline_volume(plan)) else {
+    let selection = plan.chosen();
+    let Some(places) = trees::embedding(prng, selection, &trees::as_volume(&plan.outline)) else {
         return trees::volume(prng, &plan.outline, size);
     };
     let mut nodes = vec![(0, 0)];
@@ -165,19 +166,24 @@ pub fn around_embedding(prng: &mut Prng, plan: &Plan, size: usize) -> Vec<Volume
 pub fn result(prng: &mut Prng, plan: &Plan) -> Vec<u16> {
     let k = plan.positions() as usize;
     let any = |prng: &mut Prng| prng.below(plan.volume.len()) as u16;
-    let images = trees::embedding(prng, chosen(plan), &plan.volume);
+    let images = trees::embedding(prng, plan.chosen(), &plan.volume);
     let mut list: Vec<u16> = match images.filter(|_| prng.percent(85)) {
         Some(images) => (1..=k)
-            .filter_map(|p| chosen(plan).iter().position(|row| usize::from(row[3]) == p))
+            .filter_map(|p| {
+                plan.chosen()
+                    .iter()
+                    .position(|row| usize::from(row[3]) == p)
+            })
             .map(|q| images[q] as u16)
             .collect(),
         None => (0..k).map(|_| any(prng)).collect(),
     };
     if prng.percent(40) {
         // Another result's node at one position is the subtler change.
-        let other = trees::embedding(prng, chosen(plan), &plan.volume);
+        let other = trees::embedding(prng, plan.chosen(), &plan.volume);
         let p = prng.below(list.len());
-        let holder = chosen(plan)
+        let holder = plan
+            .chosen()
             .iter()
             .position(|row| usize::from(row[3]) == p + 1);
         list[p] = match (other, holder) {
@@ -191,10 +197,10 @@ pub fn result(prng: &mut Prng, plan: &Plan) -> Vec<u16> {
 /// Mostly a placement, sometimes one with a number changed.
 fn placement(prng: &mut Prng, plan: &Plan) -> Vec<u16> {
     let any = |prng: &mut Prng| prng.below(plan.outline.len()) as u16;
-    let found = trees::embedding(prng, chosen(plan), &outline_volume(plan));
+    let found = trees::embedding(prng, plan.chosen(), &trees::as_volume(&plan.outline));
     let mut list: Vec<u16> = match found {
         Some(places) => places.iter().map(|&t| t as u16).collect(),
-        None => chosen(plan).iter().map(|_| any(prng)).collect(),
+        None => plan.chosen().iter().map(|_| any(prng)).collect(),
     };
     if prng.percent(15) {
         let q = prng.below(list.len());

@@ -3,7 +3,7 @@
 use super::plan::{OutlineRow, SelectionRow, VolumeRow};
 use super::prng::Prng;
 use crate::embedding::{has, Shape};
-use crate::records::{SelectionNode, VolumeNode, SELECTION_NODES, VOLUME_NODES};
+use crate::records::{selection_nodes, VolumeNode, SELECTION_NODES, VOLUME_NODES};
 
 /// An outline of some size, from a chain to a bush. Few labels make equal
 /// ones on a path common.
@@ -286,28 +286,31 @@ pub fn wild_volume(prng: &mut Prng, outline: &[OutlineRow], size: usize) -> Vec<
         .collect()
 }
 
+/// "the outline read as a volume"
+pub fn as_volume(outline: &[OutlineRow]) -> Vec<VolumeRow> {
+    outline
+        .iter()
+        .map(|&[parent, label, _]| [parent, label])
+        .collect()
+}
+
+pub fn volume_nodes(rows: &[VolumeRow]) -> Vec<VolumeNode> {
+    rows.iter()
+        .map(|&[parent, label]| VolumeNode {
+            parent: parent.into(),
+            label,
+        })
+        .collect()
+}
+
 /// An embedding drawn at random, `None` where there is none.
 pub fn embedding(
     prng: &mut Prng,
     selection: &[SelectionRow],
     volume: &[VolumeRow],
 ) -> Option<Vec<usize>> {
-    let nodes: Vec<SelectionNode> = selection
-        .iter()
-        .map(|&[parent, label, edge, position]| SelectionNode {
-            parent: parent.into(),
-            label,
-            descendant: edge == 1,
-            position: position.into(),
-        })
-        .collect();
-    let tree: Vec<VolumeNode> = volume
-        .iter()
-        .map(|&[parent, label]| VolumeNode {
-            parent: parent.into(),
-            label,
-        })
-        .collect();
+    let nodes = selection_nodes(selection);
+    let tree = volume_nodes(volume);
     let at = Shape::new(&nodes).parts(&tree, |_, _| true);
     let mut images = vec![0; nodes.len()];
     if !has(at[0], 0) {

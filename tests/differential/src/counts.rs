@@ -13,11 +13,13 @@ const NAMES: [(u32, &str); 6] = [
     (LAYOUT, "lay out a trial"),
 ];
 
+const QUESTIONS: usize = 14;
+
 /// One row of the table.
 #[derive(Clone, Copy, Debug, Default)]
 struct Row {
     /// By number; accepted ones at 0.
-    refused: [u64; 14],
+    refused: [u64; QUESTIONS + 1],
     /// Accepted ones by kind, or by whether the test holds.
     values: [u64; 4],
     /// The most trials, nodes or paths of one.
@@ -82,9 +84,9 @@ impl Row {
 
 impl fmt::Display for Counts {
     fn fmt(&self, out: &mut fmt::Formatter) -> fmt::Result {
-        let numbers: Vec<String> = (1..=13).map(|n| format!("refused {n}")).collect();
+        let numbers: Vec<String> = (1..=QUESTIONS).map(|n| format!("refused {n}")).collect();
         writeln!(out, "| call | calls | accepted | {} |", numbers.join(" | "))?;
-        writeln!(out, "|---{}|", "|---:".repeat(15))?;
+        writeln!(out, "|---{}|", "|---:".repeat(QUESTIONS + 2))?;
         for (call, name) in NAMES {
             let row = &self.rows[call as usize];
             let numbers: Vec<String> = row.refused.iter().map(u64::to_string).collect();

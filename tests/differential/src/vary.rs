@@ -1,5 +1,5 @@
 //! Many calls made of few drawn vectors: another call on the same case, numbers at their bounds,
-//! damaged bytes, lengths of all kinds. Drawing a vector takes far longer than altering one.
+//! damaged bytes and sets, lengths of all kinds. Drawing a vector takes far longer than altering one.
 
 use crate::lent::LENT_MOST;
 use reference::calls::STOPPED;
@@ -48,7 +48,7 @@ fn for_call(prng: &mut Prng, drawn: &[Vector], vector: Vector) -> Vector {
     let least = if call == LAYOUT { 1_024 } else { 4_096 };
     let mut vector = Vector {
         call,
-        selection: prng.between(1, 2) as u64,
+        selection: 1,
         position: prng.between(1, 2) as u64,
         tally: prng.draw() % TALLY_MOST,
         length: least + [0, 0, 1, 904][prng.below(4)],
@@ -57,6 +57,7 @@ fn for_call(prng: &mut Prng, drawn: &[Vector], vector: Vector) -> Vector {
     let Ok(case) = read_case(&vector.case) else {
         return vector;
     };
+    vector.selection = any_pattern(prng, &case);
     vector.position = prng.between(1, case.positions) as u64;
     let takes = |calls: &[u32]| calls.contains(&call);
     if takes(&[FITS, IS_RESULT, NODES_AT]) && (vector.volume.is_empty() || prng.percent(30)) {
@@ -70,18 +71,24 @@ fn for_call(prng: &mut Prng, drawn: &[Vector], vector: Vector) -> Vector {
     vector
 }
 
-/// A document of a drawn vector, or the canonical document of a placement of either pattern.
+/// The number of the first pattern, or as often that of a member.
+fn any_pattern(prng: &mut Prng, case: &Case) -> u64 {
+    let member = prng.between(2, 1 + case.set.len()) as u64;
+    [1, member][prng.below(2)]
+}
+
+/// A document of a drawn vector, or the canonical document of a placement of any pattern.
 fn document(prng: &mut Prng, drawn: &[Vector], case: &Case) -> Vec<u8> {
     let other = &drawn[prng.below(drawn.len())].volume;
     if !other.is_empty() && prng.percent(40) {
         return other.clone();
     }
-    let selection = prng.between(1, 2) as u64;
-    let places = placement(prng, case, selection);
+    let number = any_pattern(prng, case);
+    let places = placement(prng, case, number);
     if places.is_empty() {
         return other.clone();
     }
-    let pattern = &case.selections[selection as usize - 1];
+    let pattern = case.selection(number).unwrap_or(&case.first);
     let nodes = lay_out(&case.outline, pattern, &places).nodes;
     let mut numbers = vec![nodes.len()];
     for node in &nodes {
@@ -91,8 +98,8 @@ fn document(prng: &mut Prng, drawn: &[Vector], case: &Case) -> Vec<u8> {
 }
 
 /// One of the first placements, or nothing where there is none.
-fn placement(prng: &mut Prng, case: &Case, selection: u64) -> Vec<usize> {
-    let pattern = &case.selections[selection as usize - 1];
+fn placement(prng: &mut Prng, case: &Case, number: u64) -> Vec<usize> {
+    let pattern = case.selection(number).unwrap_or(&case.first);
     let most = [1, 4, 40][prng.below(3)];
     let mut left = prng.below(most);
     let mut found = Vec::new();
@@ -109,7 +116,7 @@ fn result(prng: &mut Prng, case: &Case, vector: &Vector) -> Vec<u8> {
     let Ok(document) = read_volume(&vector.volume) else {
         return vector.list.clone();
     };
-    let pattern = &case.selections[vector.selection as usize - 1];
+    let pattern = case.selection(vector.selection).unwrap_or(&case.first);
     let images = Shape::new(pattern).images(&document);
     let mut list = Vec::new();
     for position in 1..=case.positions {
@@ -149,7 +156,11 @@ fn number(prng: &mut Prng, vector: &mut Vector) {
             let wide = [u64::MAX - vector.limit, u64::MAX, any];
             vector.tally = one_of(prng, &[&bounds[..], &wide[..]].concat());
         }
-        2 => vector.selection = one_of(prng, &[0, 1, 2, 3, 65_537, past, u64::MAX, any]),
+        2 => {
+            let last = read_case(&vector.case).map_or(1, |case| 1 + case.set.len() as u64);
+            let bounds = [0, 1, 2, last, last + 1, 9, 10, 65_537, past, u64::MAX, any];
+            vector.selection = one_of(prng, &bounds);
+        }
         3 => vector.position = one_of(prng, &[0, 1, 2, 3, 8, 9, 65_537, past, u64::MAX, any]),
         _ => vector.length = length(prng),
     }
@@ -172,14 +183,59 @@ fn damage(prng: &mut Prng, vector: &mut Vector) {
         LAYOUT => (false, true),
         _ => (false, false),
     };
-    let bytes = match prng.below(3) {
+    let bytes = match prng.below(4) {
         0 if volume => &mut vector.volume,
         1 if list => &mut vector.list,
+        2 => return damage_set(prng, &mut vector.case),
         _ => &mut vector.case,
     };
     for _ in 0..prng.between(1, 4) {
         stroke(prng, bytes);
     }
+}
+
+/// A member fewer, more, empty or damaged, eight or nine of them, or none. Mostly the count tells how
+/// many there are, so that the case stays whole.
+fn damage_set(prng: &mut Prng, case: &mut Vec<u8>) {
+    let Some((at, mut members)) = set_of(case) else {
+        return stroke(prng, case);
+    };
+    let before = members.len();
+    let chosen = prng.below(before);
+    match prng.below(6) {
+        0 => drop(members.remove(chosen)),
+        1 => members.insert(chosen, members[prng.below(before)].clone()),
+        2 => members[chosen] = vec![0, 0],
+        3 => stroke(prng, &mut members[chosen]),
+        4 => {
+            let count = prng.between(8, 9);
+            members = members.iter().cycle().take(count).cloned().collect();
+        }
+        _ => members.clear(),
+    }
+    let others = [0, before, members.len() + 1, 9, 257, 65_535];
+    let count = if prng.percent(75) {
+        members.len()
+    } else {
+        others[prng.below(others.len())]
+    };
+    case.truncate(at);
+    case.extend(fields(&[count]));
+    case.extend(members.concat());
+}
+
+/// Where the set of an accepted case begins, and the sections of its members.
+pub fn set_of(case: &[u8]) -> Option<(usize, Vec<Vec<u8>>)> {
+    let read = read_case(case).ok()?;
+    let at = 4 + 6 * read.outline.len() + 8 * read.first.len();
+    let mut rest = &case[at + 2..];
+    let mut sections = Vec::new();
+    for member in &read.set {
+        let (section, after) = rest.split_at(2 + 8 * member.len());
+        sections.push(section.to_vec());
+        rest = after;
+    }
+    Some((at, sections))
 }
 
 fn stroke(prng: &mut Prng, bytes: &mut Vec<u8>) {
@@ -221,10 +277,13 @@ fn noise(prng: &mut Prng, vector: &mut Vector) {
     }
 }
 
-/// One byte string made long: the same again, or zeros, behind it. A document may announce all of it.
+/// One byte string made long: the same again, or zeros, behind it. A document may announce all of it, and
+/// a case's set, to which zeros are empty members.
 fn lengthen(prng: &mut Prng, vector: &mut Vector) {
     let most = [65_535, 65_536, 65_537, 100_000, 262_142][prng.below(5)];
     let again = prng.percent(50);
+    let case = vector.case.len();
+    let set = set_of(&vector.case).filter(|_| !again && prng.percent(50));
     let bytes = match prng.below(3) {
         0 => &mut vector.case,
         1 => &mut vector.volume,
@@ -238,6 +297,10 @@ fn lengthen(prng: &mut Prng, vector: &mut Vector) {
     if prng.percent(50) && vector.volume.len() == most {
         let count = (most - 2) / 4;
         vector.volume[..2].copy_from_slice(&(count as u16).to_le_bytes());
+    }
+    if let Some((at, members)) = set.filter(|_| vector.case.len() == most) {
+        let count = members.len() + (most - case) / 2;
+        vector.case[at..at + 2].copy_from_slice(&(count as u16).to_le_bytes());
     }
 }
 

@@ -1,12 +1,14 @@
 //! `bench [ROUNDS]`: the library and the reference, timed on the same calls in the same run; prints a
 //! table in Markdown. Each time is the least of ROUNDS (default 15), the two taking turns; a round
-//! repeats the call for 4 ms at least.
+//! repeats the call for 4 ms at least. Sets have one member; where a row has the same with a set of
+//! eight, the next one has it, and how much longer the library takes.
 
 #![forbid(unsafe_code)]
 
 use cadwezin::{ffi, NodeRecord, Tally};
 use differential::compare::compare;
 use differential::lent::Loans;
+use differential::vary::set_of;
 use reference::generate::{cases, layouts, random};
 use reference::vectors::{Vector, FITS, IS_RESULT, LAYOUT, NODES_AT, PATHS, VERDICT};
 use std::hint::black_box;
@@ -22,25 +24,32 @@ fn main() -> ExitCode {
         eprintln!("usage: bench [ROUNDS]");
         return ExitCode::from(2);
     };
-    println!("| call | input | library | reference | ratio |");
-    println!("|---|---|---:|---:|---:|");
+    println!("| call | input | library | reference | ratio | eight to one |");
+    println!("|---|---|---:|---:|---:|---:|");
+    let mut one = f64::NAN;
     for row in rows() {
         if let Err(difference) = row.compared() {
             eprintln!("bench: {}: {difference}", row.input);
             return ExitCode::FAILURE;
         }
         let (ours, theirs) = row.timed(rounds);
+        let to_one = if row.eight {
+            format!("{:.1}", ours / one)
+        } else {
+            String::new()
+        };
         println!(
-            "| {} | {} | {} | {} | {:.1} |",
+            "| {} | {} | {} | {} | {:.1} | {to_one} |",
             row.call,
             row.input,
             written(ours),
             written(theirs),
             theirs / ours
         );
+        one = ours;
     }
     println!();
-    println!("Each time is one call's mean in the best of {rounds} rounds, library and reference taking turns. Buffers and tables are allocated once and lent again as the last call left them; nothing is cleared beforehand, no cache either.");
+    println!("Each time is one call's mean in the best of {rounds} rounds, library and reference taking turns. Buffers and tables are allocated once and lent again as the last call left them; nothing is cleared beforehand, no cache either. Eight to one is the library's time beside that of the row above, whose set has one member. Unless another thing is said, seven of eight members end in a label that is nowhere, and the last is the one of the row above.");
     ExitCode::SUCCESS
 }
 
@@ -57,8 +66,10 @@ fn written(seconds: f64) -> String {
 /// One row of the table: calls that are timed together, their mean taken.
 struct Row {
     call: &'static str,
-    input: &'static str,
+    input: String,
     vectors: Vec<Vector>,
+    /// Whether it is the row before with a set of eight.
+    eight: bool,
 }
 
 impl Row {
@@ -178,17 +189,78 @@ fn rows() -> Vec<Row> {
         .collect()
 }
 
-fn row(call: &'static str, input: &'static str, vectors: Vec<Vector>) -> Row {
+fn row(call: &'static str, input: &str, vectors: Vec<Vector>) -> Row {
     Row {
         call,
-        input,
+        input: input.to_string(),
         vectors,
+        eight: false,
     }
+}
+
+fn eight_row(call: &'static str, input: &str, vectors: Vec<Vector>) -> Row {
+    Row {
+        eight: true,
+        ..row(call, input, vectors)
+    }
+}
+
+/// A row with sets of one, and the same with sets of eight.
+fn both(call: &'static str, input: &str, vectors: Vec<Vector>) -> [Row; 2] {
+    let eight = vectors.iter().map(with_eight).collect();
+    let input_of_eight = format!("{input}, a set of eight");
+    [
+        row(call, input, vectors),
+        eight_row(call, &input_of_eight, eight),
+    ]
+}
+
+/// The same call with seven members before the only one. They are as large, and their last node, a
+/// leaf, has a label that is nowhere: so each is tried to its end, and no answer changes.
+fn with_eight(vector: &Vector) -> Vector {
+    with_set(vector, |member| {
+        let mut set: Vec<Vec<u8>> = (0..7u16).map(|i| ending_in(member, NOWHERE + i)).collect();
+        set.push(member.to_vec());
+        set
+    })
+}
+
+const NOWHERE: u16 = 61_000;
+
+/// A pattern's section whose last record has another label.
+fn ending_in(section: &[u8], label: u16) -> Vec<u8> {
+    let mut section = section.to_vec();
+    let at = section.len() - 6;
+    section[at..at + 2].copy_from_slice(&label.to_le_bytes());
+    section
+}
+
+/// The same call with a set of one: the member that it is about, or the last. A refused one stays.
+fn alone(vector: &Vector) -> Vector {
+    with_set(vector, |member| vec![member.to_vec()])
+}
+
+/// The same call with a set made of one member, of which that member is the last.
+fn with_set(vector: &Vector, make: impl Fn(&[u8]) -> Vec<Vec<u8>>) -> Vector {
+    let mut made = vector.clone();
+    let Some((at, members)) = set_of(&vector.case) else {
+        return made;
+    };
+    let about = vector.selection.checked_sub(2).map(|index| index as usize);
+    let member = about.and_then(|index| members.get(index));
+    let set = make(member.unwrap_or(&members[members.len() - 1]));
+    made.case.truncate(at);
+    made.case.extend(fields(&[set.len() as u16]));
+    made.case.extend(set.concat());
+    if member.is_some() {
+        made.selection = 1 + set.len() as u64;
+    }
+    made
 }
 
 /// What the questions cost: refusals by the first and by the last, and reading the largest case.
 fn questions() -> Vec<Row> {
-    let largest = case(&line(1), &star(15, 8), &star(15, 8));
+    let largest = in_itself(&line(1), star(15, 8));
     let mut spoilt = document(&line_document());
     let end = spoilt.len() - 2;
     spoilt[end..].fill(0);
@@ -196,25 +268,39 @@ fn questions() -> Vec<Row> {
         tally: u64::MAX,
         ..verdict(largest.clone(), 1)
     };
-    vec![
+    let nine = case(&line(1), &star(15, 8), &vec![star(15, 8); 9]);
+    let empty = case(&line(1), &star(15, 8), &vec![vec![]; 32_509]);
+    let one_node = document(&[[0, 1]]);
+    let mut rows = vec![
         row("verdict", "limit 0: refused 1", vec![verdict(vec![], 0)]),
         row("verdict", "no bytes: refused 3", vec![verdict(vec![], 1)]),
         row(
-            "verdict",
-            "64 + 16 + 16 nodes, tally too great: refused 9",
-            vec![full],
+            "fits",
+            "65,536 bytes, 32,509 empty members: refused 4",
+            vec![of_document(FITS, &empty, one_node.clone(), &[])],
         ),
         row(
             "fits",
-            "1,024 nodes, the last of label 0: refused 10",
-            vec![of_document(FITS, &largest, spoilt, &[])],
+            "64 + 16 nodes, nine members of 16: refused 14",
+            vec![of_document(FITS, &nine, one_node.clone(), &[])],
         ),
-        row(
-            "fits",
-            "64 + 16 + 16 nodes, a document of 1: accepted",
-            vec![of_document(FITS, &largest, document(&[[0, 1]]), &[])],
-        ),
-    ]
+    ];
+    rows.extend(both(
+        "verdict",
+        "64 + 16 + 16 nodes, tally too great: refused 9",
+        vec![full],
+    ));
+    rows.push(row(
+        "fits",
+        "1,024 nodes, the last of label 0: refused 10",
+        vec![of_document(FITS, &largest, spoilt, &[])],
+    ));
+    rows.extend(both(
+        "fits",
+        "64 + 16 + 16 nodes, a document of 1: accepted",
+        vec![of_document(FITS, &largest, one_node, &[])],
+    ));
+    rows
 }
 
 /// Verdicts, of one trial and of 1,000.
@@ -222,45 +308,66 @@ fn verdicts() -> Vec<Row> {
     let e6 = case(
         &[[0, 1, 0], [0, 2, 0], [1, 3, 0]],
         &[[0, 1, 0, 0], [0, 0, 1, 1]],
-        &[[0, 1, 0, 0], [0, 0, 0, 1]],
+        &[vec![[0, 1, 0, 0], [0, 0, 0, 1]]],
     );
     let mut nowhere = star(14, 1);
     nowhere.push([0, 60_000, 1, 0]);
-    let free = star(15, 1);
-    let below = chain(15);
-    vec![
-        row(
+    let none = vec![verdict(case(&line(0), &nowhere, &[star(0, 1)]), 1_000)];
+    [
+        both(
             "verdict",
             "E6: 2 trials of 3 nodes",
             vec![verdict(e6, 1_000_000)],
         ),
-        row(
+        both(
             "verdict",
             "1,000 trials of 946 nodes",
-            vec![verdict(case(&line(1), &free, &free), 1_000)],
+            vec![verdict(in_itself(&line(1), star(15, 1)), 1_000)],
         ),
-        row(
+        both(
             "verdict",
             "1,000 trials of few nodes, one below another",
-            vec![verdict(case(&line(0), &below, &below), 1_000)],
+            vec![verdict(in_itself(&line(0), chain(15)), 1_000)],
         ),
-        row(
+        by_turns(),
+        both("verdict", "63^14 partial placements, none whole", none),
+    ]
+    .into_iter()
+    .flatten()
+    .collect()
+}
+
+/// 1,000 trials of 6 nodes, the last at one of eight children of x. One member asks for any child of x;
+/// of eight each asks for another, so that trial by trial another one passes.
+fn by_turns() -> [Row; 2] {
+    const X: u16 = 9;
+    let mut summary = vec![[0, 1, 0], [0, X, 0]];
+    summary.extend((0..8).map(|child| [0, 20 + child, 0]));
+    summary.extend((0..8).map(|child| [1, 10 + child, 0]));
+    let mut first = vec![[0, 1, 0, 1]];
+    first.extend([[0, 0, 0, 0]; 3]);
+    first.extend([[0, X, 0, 0], [4, 0, 0, 0]]);
+    let asking = |label: u16| vec![[0, 1, 0, 1], [0, X, 0, 0], [1, label, 0, 0]];
+    let each: Vec<Vec<[u16; 4]>> = (0..8).map(|child| asking(10 + child)).collect();
+    let over = |set: &[Vec<[u16; 4]>]| vec![verdict(case(&summary, &first, set), 1_000)];
+    [
+        row("verdict", "1,000 trials of 6 nodes", over(&[asking(0)])),
+        eight_row(
             "verdict",
-            "63^14 partial placements, none whole",
-            vec![verdict(case(&line(0), &nowhere, &star(0, 1)), 1_000)],
+            "1,000 trials of 6 nodes, through eight members by turns",
+            over(&each),
         ),
     ]
 }
 
 /// Calls on documents of 1,024 nodes, with patterns of 16 nodes.
 fn documents() -> Vec<Row> {
-    let pattern = chain(15);
-    let case = case(&line(0), &pattern, &pattern);
+    let case = in_itself(&line(0), chain(15));
     let bush = bush_document();
     let with = |call, document: &[[u16; 2]], list: &[u16]| {
         vec![of_document(call, &case, self::document(document), list)]
     };
-    vec![
+    let mut rows = vec![
         row("fits", "1,024 nodes, yes", with(FITS, &bush, &[])),
         row(
             "fits",
@@ -277,21 +384,20 @@ fn documents() -> Vec<Row> {
             "1,024 nodes, no",
             with(IS_RESULT, &line_document(), &[1]),
         ),
-        row(
-            "nodes at a position",
-            "1,024 nodes",
-            with(NODES_AT, &line_document(), &[]),
-        ),
-    ]
+    ];
+    rows.extend(both(
+        "nodes at a position",
+        "1,024 nodes",
+        with(NODES_AT, &line_document(), &[]),
+    ));
+    rows
 }
 
 fn others() -> Vec<Row> {
-    let free = star(15, 8);
-    let case = case(&line(1), &free, &free);
     let paths = Vector {
         call: PATHS,
         selection: 1,
-        case: case.clone(),
+        case: in_itself(&line(1), star(15, 8)),
         ..Vector::default()
     };
     let placement: Vec<u16> = (0..16).map(|q| if q == 0 { 0 } else { 63 }).collect();
@@ -307,13 +413,22 @@ fn others() -> Vec<Row> {
     ]
 }
 
-/// Calls as the generators draw them, their mean.
+/// Calls as the generators draw them, but for their sets; their mean.
 fn drawn() -> Vec<Row> {
-    vec![
-        row("lay out a trial", "200 near the limits", layouts(1, 200)),
-        row("verdict", "80 near the limits", cases(1, 80)),
-        row("all six", "1,000 random", random(1, 1_000)),
-    ]
+    let alone = |vectors: Vec<Vector>| vectors.iter().map(alone).collect();
+    let mut rows = vec![row(
+        "lay out a trial",
+        "200 near the limits",
+        alone(layouts(1, 200)),
+    )];
+    rows.extend(both("verdict", "80 near the limits", alone(cases(1, 80))));
+    rows.extend(both("all six", "1,000 random", alone(random(1, 1_000))));
+    rows.push(row(
+        "all six",
+        "1,000 random, sets as they are drawn",
+        random(1, 1_000),
+    ));
+    rows
 }
 
 fn fields(numbers: &[u16]) -> Vec<u8> {
@@ -329,8 +444,18 @@ fn section<const N: usize>(records: &[[u16; N]]) -> Vec<u8> {
     bytes
 }
 
-fn case(summary: &[[u16; 3]], first: &[[u16; 4]], second: &[[u16; 4]]) -> Vec<u8> {
-    [section(summary), section(first), section(second)].concat()
+fn case(summary: &[[u16; 3]], first: &[[u16; 4]], set: &[Vec<[u16; 4]>]) -> Vec<u8> {
+    let mut bytes = [section(summary), section(first)].concat();
+    bytes.extend(fields(&[set.len() as u16]));
+    for member in set {
+        bytes.extend(section(member));
+    }
+    bytes
+}
+
+/// A pattern, and a set of that one alone.
+fn in_itself(summary: &[[u16; 3]], pattern: Vec<[u16; 4]>) -> Vec<u8> {
+    case(summary, &pattern.clone(), &[pattern])
 }
 
 fn document(records: &[[u16; 2]]) -> Vec<u8> {

@@ -68,29 +68,34 @@ fn put(out: &mut Vec<u8>, fields: &[u16]) {
     out.extend(fields.iter().flat_map(|field| field.to_le_bytes()));
 }
 
-pub fn case(outline: &str, first: &str, second: &str) -> Vec<u8> {
-    let mut out = Vec::new();
-    let outline = rows(outline);
-    put(&mut out, &[outline.len() as u16]);
-    for row in outline {
-        put(&mut out, &row[..3]);
+/// A count and as many records, of each the first so many fields.
+fn put_section(out: &mut Vec<u8>, text: &str, fields: usize) {
+    let rows = rows(text);
+    put(out, &[rows.len() as u16]);
+    for row in rows {
+        put(out, &row[..fields]);
     }
-    for selection in [rows(first), rows(second)] {
-        put(&mut out, &[selection.len() as u16]);
-        for row in selection {
-            put(&mut out, &row);
-        }
+}
+
+/// A case with a set of one.
+pub fn case(outline: &str, first: &str, member: &str) -> Vec<u8> {
+    set_case(outline, first, &[member])
+}
+
+pub fn set_case(outline: &str, first: &str, set: &[&str]) -> Vec<u8> {
+    let mut out = Vec::new();
+    put_section(&mut out, outline, 3);
+    put_section(&mut out, first, 4);
+    put(&mut out, &[set.len() as u16]);
+    for member in set {
+        put_section(&mut out, member, 4);
     }
     out
 }
 
 pub fn volume(text: &str) -> Vec<u8> {
     let mut out = Vec::new();
-    let rows = rows(text);
-    put(&mut out, &[rows.len() as u16]);
-    for row in rows {
-        put(&mut out, &row[..2]);
-    }
+    put_section(&mut out, text, 2);
     out
 }
 
