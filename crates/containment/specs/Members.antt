@@ -6,9 +6,9 @@ use mathlib.Core.List.{List, []}
 use lib.ListN.{length, getD}
 use Rattle.model.specs.Lists.{upFrom, anyOf}
 use Rattle.model.specs.Pattern.{Pattern}
-use Rattle.containment.specs.Blocks.{lastIn, setsIn}
+use Rattle.containment.specs.Blocks.{lastIn, capIn, setsIn, candidatesIn}
 use Rattle.containment.specs.Judging.{rootBy, judgeBy}
-use Rattle.containment.specs.Skipping.{surelyBy}
+use Rattle.containment.specs.Skipping.{surelyBy, MaySkip}
 use Rattle.containment.specs.Settling.{foldedRow, Settled}
 
 -- so says the test for at least one of the members
@@ -34,3 +34,7 @@ pub record RowsSettled (ts : List (List ℕ)) (m : List ℕ) (P : Pattern) (q : 
 -- what ends with node q is folded into each
 pub record RowsFolded (ts : List (List ℕ)) (m : List ℕ) (P : Pattern) (q : ℕ) (es : List ℕ) (before after : List (List ℕ)) : Type 0 where
   pub each : (i : ℕ) → i < length ts → getD after i [] ≡ foldedRow (setsIn (getD ts i [])) P (lastIn m) q es (getD before i [])
+
+-- the run over all completions of a partial embedding may be skipped where some member says that they surely pass; m counts them
+abbrev pub MembersSkip : List (List ℕ) → List ℕ → Pattern → Type 0
+MembersSkip ts m P = MaySkip (judgedBySome ts P) (surelyBySome ts P) P (candidatesIn m) m (capIn m)

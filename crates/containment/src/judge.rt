@@ -195,7 +195,8 @@ fn given(
 ) -> u16
     requires { ⌜ Judgeable (now t) (now p) at (now images) ⌝ }
     ensures { λ r. ⌜ r
-        ≡ getD (openRow (setsIn (now (t .entry))) (patternAt (now (p .entry)) at) (now (t .entry)) (lastIn (now (m .entry))) (q .0) (now (images .entry)) row) 0 0 ⌝ }
+        ≡ getD (openRow (setsIn (now (t .entry))) (patternAt (now (p .entry)) at) (now (t .entry)) (lastIn (now (m .entry)))
+        (q .0) (now (images .entry)) row) 0 0 ⌝ }
 {
     let mut hangs = row;
     let mut c = pattern_count(p, at);

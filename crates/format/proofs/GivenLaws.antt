@@ -62,7 +62,7 @@ given-set {b} A =
       whole = A .whole .members;
       few = A .facts .fewMembers;
       members = λ i h. (let m : MemberFacts (caseOf b .first) (patternAt b (memberAt b (setAt b) i)) = member-facts A i h in
-      record { whole = A .whole .members .sections i (set-below b (setAt b) i h); tree = m .pattern .tree; few = m .size });
+          record { whole = A .whole .members .sections i (set-below b (setAt b) i h); tree = m .pattern .tree; few = m .size });
     }
 
 pub whole-document : (w : List ℕ) → isWholeDocument w ≡ true → WholeSection documentWidth w 0
