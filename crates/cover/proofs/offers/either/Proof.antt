@@ -1,0 +1,29 @@
+-- `cover::offers::either` meets its contract: before turn i the masks of the members before i are united. The measure is what is left of
+-- 8. Assumes nothing.
+use Prim.Native.Nat.{_-_}
+use mathlib.Core.Path.{refl}
+use lib.Bits.{bitOr}
+use borrow.Author.Needs.{needs}
+use Rattle.cover.proofs.CoverLaws.{MadeTo, made-start, made-step, either-end}
+use Rattle.cover.proofs.offers.either.Statement.{statement}
+use Rattle.cover.proofs.offers.either.Tie as tie
+
+abbrev Inv-loop : tie.InvT-loop
+Inv-loop a b r₀ i₀ r i = MadeTo bitOr a b r i
+
+abbrev μ-loop : tie.MeasureT-loop
+μ-loop a b r₀ i₀ r i = 8 - i
+
+loop-holds : tie.Need-loop-holds Inv-loop μ-loop
+loop-holds c = made-start refl
+
+loop-again : tie.Need-loop-again Inv-loop μ-loop
+loop-again c = made-step (c .before .before .before .loop .inv) (c .before .before .loop-test .taken)
+
+returns : tie.Need-returns Inv-loop μ-loop
+returns c = either-end (c .before .loop .inv) (c .loop-test .left)
+
+pub either-spec : {M : Type 1} → statement M
+either-spec =
+    tie.close (tie.spec Inv-loop μ-loop loop-holds (λ c. search needs) (λ c. search needs) (λ c. search needs) (λ c. search needs) (λ c. search needs)
+    (λ c. search needs) (λ c. search needs) (λ c. search needs) loop-again returns)
