@@ -68,12 +68,12 @@ hang-snoc S Q n g (x ∷ xs) b =
 
 -- ---- climbing
 
-pub climb-stop : (k : ℕ) (T : Sets) (a x h : ℕ) → x ≤ a → climbBy k T a x h ≡ h
+climb-stop : (k : ℕ) (T : Sets) (a x h : ℕ) → x ≤ a → climbBy k T a x h ≡ h
 unfolding climbBy
 climb-stop zero T a x h l = refl
 climb-stop (suc k) T a x h l = rw (le-ltb a x l, climbBy)
 
-pub climb-step : (k : ℕ) (T : Sets) (a x h : ℕ) → a < x → climbBy (suc k) T a x h ≡ climbBy k T a (T .up x) (nodeBy T x 0 h)
+climb-step : (k : ℕ) (T : Sets) (a x h : ℕ) → a < x → climbBy (suc k) T a x h ≡ climbBy k T a (T .up x) (nodeBy T x 0 h)
 unfolding climbBy
 climb-step k T a x h l = rw (lt-ltb a x l, climbBy)
 

@@ -5,12 +5,17 @@ pub mod Judging
 pub mod KeepLaws
 pub mod MaskMembers
 pub mod Pruning
-pub mod ClimbLaws
 pub mod RowLaws
 pub mod WaysRow
 pub mod SkipTables
 pub mod Deciding
 pub mod Skipping
+pub mod OfferLaws
+pub mod Offered
+pub mod JoinLaws
+pub mod FillLaws
+pub mod TableLaws
+pub mod OpenLaws
 pub mod StepLoop
 pub mod TableLoops
 pub mod CountLaws
@@ -22,7 +27,7 @@ pub mod TableSets
 pub mod BlockSets
 pub mod RoomLaws
 pub mod BlockLaws
-pub mod ClimbLoop
+pub mod WaysLoop
 pub mod EachLoop
 pub mod SkipLoop
 pub mod SettleLaws

@@ -1,6 +1,6 @@
 -- Gathering may be parted: what the nodes of a set that has every child of its members pass on is gathered first, and what the others pass
--- on after it. For a node of the others passes on to one of the others, so the turns commute. So a row is settled node by node, and what is
--- asked of a partial embedding begins from its row. Assumes nothing.
+-- on after it. For a node of the others passes on to one of the others, so the turns commute. So a row is settled node by node. Assumes
+-- nothing.
 use Prim.Native.Nat.{ℕ, zero, suc, _+_, _-_, _*_, _/_, _%_, _≤_, _<_, max}
 use mathlib.Core.Path.{_≡_, refl, sym, ap, ap₂, _∙_, subst}
 use mathlib.Core.Bool.{Bool, true, false, not, true≢false}
@@ -14,10 +14,8 @@ use lib.Seq.{getD-set-same, getD-set-other, getD-take, take-set-le, set-set, set
 use borrow.Author.Tests.{eqb-true, eqb-false, ne-eqb, ltb-true, ltb-false, lt-ltb, le-ltb}
 use Rattle.model.specs.Pattern.{Pattern, IsPatternTree, patternParent, position}
 use Rattle.containment.specs.Judging.{joinUp, gather, Sets, hangBy, passBy, givenBy, rootBy, judgeBy}
-use Rattle.containment.specs.Skipping.{sureBy, sureGiven, surelyBy}
-use Rattle.containment.specs.Settling.{Lasts, unlessOver, settledBy, settledRow, foldedBy, foldedRow, openBy, openRow, Settled}
+use Rattle.containment.specs.Settling.{Lasts, unlessOver, settledBy, settledRow, foldedBy, foldedRow, Settled}
 use Rattle.containment.specs.Blocks.{lastIn, setsIn}
-use Rattle.containment.proofs.SkipLoop.{gather-agree, sure-placed}
 
 -- ---- unions
 
@@ -162,6 +160,14 @@ module _ (n : ℕ) (parent : ℕ → ℕ) (earlier : (c : ℕ) → 0 < c → c <
           ∙ ap (gather parent off k) (past (suc k) k t (omega arith) h m a ∙ sym (off-no (suc k) (gather parent on k t) a)
           ∙ ap (λ (u : List ℕ). joinUp parent off (suc k) (gather parent on k u)) (sym (on-no (suc k) t a)))
 
+-- where what is passed on agrees, so does what is gathered
+gather-agree : (parent : ℕ → ℕ) (F G : ℕ → ℕ → ℕ) (n : ℕ) (t : List ℕ) → ((c e : ℕ) → c ≤ n → F c e ≡ G c e) → gather parent F n t ≡ gather parent G n t
+unfolding gather
+gather-agree parent F G zero t h = refl
+gather-agree parent F G (suc n) t h =
+    gather-agree parent F G n (joinUp parent F (suc n) t) (λ c e l. h c e (omega arith))
+    ∙ ap (gather parent G n) (turn-agree parent F G (suc n) t (h (suc n) (getD t (suc n) 0) (omega arith)))
+
 -- nothing is passed on
 gather-nothing : (parent : ℕ → ℕ) (F : ℕ → ℕ → ℕ) (k : ℕ) (t : List ℕ) → ((c e : ℕ) → 0 < c → c ≤ k → F c e ≡ 0) → gather parent F k t ≡ t
 unfolding gather
@@ -181,10 +187,6 @@ module _ (T : Sets) (P : Pattern) (last : ℕ → ℕ) (q : ℕ) (es : List ℕ)
       turned : (x : Bool) (v : ℕ) → unlessOver (not x) v ≡ (elim x as (λ _. ℕ) [ true ↦ v | false ↦ 0 ])
       turned true v = refl
       turned false v = refl
-
-  pub over-open : (lows : List ℕ) (b : Bool) → b ≡ ltb (last c) q → unlessOver b (sureBy T P lows q es c e) ≡ openBy T P lows last q es c e
-  unfolding openBy
-  over-open lows b p = ap (λ (x : Bool). unlessOver x (sureBy T P lows q es c e)) p
 
 -- a turn that is not
 pub over-no : {b : Bool} (v : ℕ) → b ≡ false → v ≡ unlessOver b v
@@ -214,14 +216,11 @@ module _ (T : Sets) (P : Pattern) (tree : IsPatternTree P) (last : ℕ → ℕ) 
       ap (choose (passBy T P es c e) 0) (le-ltb (last c) 1 (omega arith)))
 
   -- the images of the nodes that are placed settle it
-  pub settled-images : (q : ℕ) (es fs : List ℕ) → q ≤ length P → take q es ≡ take q fs → settledRow T P last q es ≡ settledRow T P last q fs
+  pub settled-same : (q : ℕ) (es fs : List ℕ) → q ≤ length P → ((c : ℕ) → c < q → getD es c 0 ≡ getD fs c 0) → settledRow T P last q es ≡ settledRow T P last q fs
   unfolding settledRow settledBy passBy
-  settled-images q es fs h e =
+  settled-same q es fs h same =
       gather-agree (patternParent P) (settledBy T P last q es) (settledBy T P last q fs) (length P - 1) (replicate 16 0) (λ c g l. go c g l (ltb (last c) q) refl)
     where
-      same : (c : ℕ) → c < q → getD es c 0 ≡ getD fs c 0
-      same c k = sym (getD-take q es c 0 k) ∙ ap (λ (l : List ℕ). getD l c 0) e ∙ getD-take q fs c 0 k
-
       under : (c : ℕ) → c < q → patternParent P c < q
       under zero k = subst (λ (x : ℕ). x < q) (sym (tree .root)) k
       under (suc c) k = let p = tree .earlier (suc c) (omega arith) (omega arith) in omega arith
@@ -235,6 +234,9 @@ module _ (T : Sets) (P : Pattern) (tree : IsPatternTree P) (last : ℕ → ℕ) 
           let above = same (patternParent P c) (under c (omega arith)) in
           ap (λ (x : ℕ). choose x 0 (ltb (last c) q)) (λ j. hangBy T (above j) (here j) (position P c) g)
       go c g l false a = ap (choose (passBy T P es c g) 0) a ∙ sym (ap (choose (passBy T P fs c g) 0) a)
+
+  pub settled-images : (q : ℕ) (es fs : List ℕ) → q ≤ length P → take q es ≡ take q fs → settledRow T P last q es ≡ settledRow T P last q fs
+  settled-images q es fs h e = settled-same q es fs h (λ c k. sym (getD-take q es c 0 k) ∙ ap (λ (l : List ℕ). getD l c 0) e ∙ getD-take q fs c 0 k)
 
   -- with node q placed, the parts that end with it are folded in
   pub settled-step : {q : ℕ} {row : List ℕ} (es : List ℕ) → q < length P → length P ≤ 16 → row ≡ settledRow T P last q es → foldedRow T P last q es row ≡ settledRow T P last (q + 1) es
@@ -283,30 +285,6 @@ module _ (T : Sets) (P : Pattern) (tree : IsPatternTree P) (last : ℕ → ℕ) 
       let k : last c < length P = L .inside c (omega arith) in
       sym (ap (choose (passBy T P es c g) 0) (lt-ltb (last c) q (omega arith)))))
 
-  -- what is asked of a partial embedding begins from its row
-  pub settled-asked : {q : ℕ} {row : List ℕ} (lows es : List ℕ) → q ≤ length P → length P ≤ 16 → row ≡ settledRow T P last q es
-      → surelyBy T P lows q es ≡ rootBy T P (getD (openRow T P lows last q es row) 0 0)
-  unfolding surelyBy sureGiven openRow openBy settledRow settledBy
-  settled-asked {q} {row} lows es h few e =
-      ap (λ (t : List ℕ). rootBy T P (getD t 0 0))
-      (parted (length P) (patternParent P) (tree .earlier) whole (complete q) sure (length P - 1) (replicate 16 0) (let i = tree .inhabited in omega arith) (zeros few)
-      ∙ ap (gather (patternParent P) (openBy T P lows last q es) (length P - 1))
-      (gather-agree (patternParent P) (on (length P) (patternParent P) (tree .earlier) whole (complete q) sure) (settledBy T P last q es) (length P - 1) (replicate 16 0) (λ c g l. same c g l (whole c) refl) ∙ sym e))
-    where
-      whole : ℕ → Bool
-      whole c = ltb (last c) q
-
-      sure : ℕ → ℕ → ℕ
-      sure = sureBy T P lows q es
-
-      same : (c g : ℕ) → c ≤ length P - 1 → (b : Bool) → whole c ≡ b → choose (sure c g) 0 (whole c) ≡ settledBy T P last q es c g
-      same c g l true a =
-          let i = tree .inhabited in
-          let k : last c < q = ltb-true (last c) q a in
-          let m : c ≤ last c = L .own c (omega arith) in
-          ap (choose (sure c g) 0) a ∙ sym (sure-placed T P lows q es c g (omega arith)) ∙ sym (ap (choose (passBy T P es c g) 0) a)
-      same c g l false a = ap (choose (sure c g) 0) a ∙ sym (ap (choose (passBy T P es c g) 0) a)
-
 -- ---- the row that stepping carries
 
 module _ {t m : List ℕ} (P : Pattern) (tree : IsPatternTree P) where
@@ -315,6 +293,9 @@ module _ {t m : List ℕ} (P : Pattern) (tree : IsPatternTree P) where
   row-whole {q} {es} s e = settled-whole (setsIn t) P tree (lastIn m) (s .lasts) es e ∙ ap (λ (r : List ℕ). rootBy (setsIn t) P (getD r 0 0)) (sym (s .same))
 
   -- other images of the nodes that are not placed do as well
+  pub row-same : {q : ℕ} {es row : List ℕ} (fs : List ℕ) → q ≤ length P → ((c : ℕ) → c < q → getD fs c 0 ≡ getD es c 0) → Settled t m P q es row → Settled t m P q fs row
+  row-same {q} {es} fs h e s = record { lasts = s .lasts; same = s .same ∙ settled-same (setsIn t) P tree (lastIn m) (s .lasts) q es fs h (λ c k. sym (e c k)) }
+
   pub row-kept : {q : ℕ} {es row : List ℕ} (fs : List ℕ) → q ≤ length P → take q fs ≡ take q es → Settled t m P q es row → Settled t m P q fs row
   row-kept {q} {es} fs h e s = record { lasts = s .lasts; same = s .same ∙ settled-images (setsIn t) P tree (lastIn m) (s .lasts) q es fs h (sym e) }
 
@@ -327,8 +308,3 @@ module _ {t m : List ℕ} (P : Pattern) (tree : IsPatternTree P) where
   -- with the root placed nothing is settled
   pub row-start : (es : List ℕ) → Lasts (length P) (patternParent P) (lastIn m) → Settled t m P 1 es (replicate 16 0)
   row-start es L = record { lasts = L; same = sym (settled-start (setsIn t) P tree (lastIn m) L es) }
-
-  -- what is asked of a partial embedding
-  pub row-asked : {q : ℕ} {es row : List ℕ} (lows : List ℕ) → q ≤ length P → length P ≤ 16 → Settled t m P q es row
-      → surelyBy (setsIn t) P lows q es ≡ rootBy (setsIn t) P (getD (openRow (setsIn t) P lows (lastIn m) q es row) 0 0)
-  row-asked {q} {es} lows h few s = settled-asked (setsIn t) P tree (lastIn m) (s .lasts) lows es h few (s .same)

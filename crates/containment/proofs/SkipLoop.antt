@@ -1,73 +1,24 @@
--- What a node passes on at least, and what stepping keeps so that it may skip: the images placed so far stand at places of theirs.
--- Assumes nothing.
-use Prim.Native.Nat.{ℕ, zero, suc, _+_, _≤_, _<_}
+-- What stepping keeps so that it may skip: the images placed so far stand at places of theirs. Assumes nothing.
+use Prim.Native.Nat.{ℕ, _+_, _-_, _≤_, _<_}
 use mathlib.Core.Path.{_≡_, refl, sym, ap, _∙_, subst}
-use mathlib.Core.Bool.{Bool, true, false, _&&_, not}
+use mathlib.Core.Bool.{Bool, true, false}
 use mathlib.Core.List.{List, List·Memᴰ}
 use native.Mathlib.Omega.{arith}
-use lib.Bits.{bitOr}
 use lib.Count.{trailingZeros}
 use lib.Dec.{ltb}
 use lib.ListN.{length, getD, set, take}
 use lib.Seq.{getD-take, getD-set-same, getD-set-other}
-use borrow.Author.Tests.{ltb-true, ltb-false, lt-ltb, le-ltb, not-true, not-false}
+use borrow.Author.Tests.{ltb-true, ltb-false}
 use Rattle.model.specs.Lists.{has}
 use Rattle.model.specs.Pattern.{Pattern, IsPatternTree, patternParent}
 use Rattle.model.specs.Skipping.{skip}
-use Rattle.model.proofs.ListLaws.{and-right}
-use Rattle.containment.specs.Blocks.{cell}
-use Rattle.containment.specs.Judging.{joinUp, gather, Sets, passBy}
-use Rattle.containment.specs.Stepping.{Candidates, members, placesBy}
+use Rattle.containment.specs.Stepping.{Candidates, members, stepFrom, placesBy, sitesBy}
 use Rattle.containment.specs.Steps.{progressOf, Stepped}
-use Rattle.containment.specs.Skipping.{sureBy, leftBy, PlacedBy, MaySkip}
+use Rattle.containment.specs.Skipping.{leftBy, PlacedBy, Counts}
 use Rattle.containment.specs.declared.Budget.{Budget}
 use Rattle.containment.specs.declared.Run.{Run}
+use Rattle.containment.proofs.Skipping.{covered-skips}
 use Rattle.containment.proofs.StepLoop.{sites-take, StepInv, first-among}
-
--- ---- what a node passes on at least
-
-module _ (T : Sets) (P : Pattern) (lows : List ℕ) (q : ℕ) (es : List ℕ) (c e : ℕ) where
-  abbrev by-parent : Bool → ℕ
-  by-parent b = elim b as (λ _. ℕ) [ true ↦ getD lows (cell c (getD es (patternParent P c) 0)) 0 | false ↦ 0 ]
-
-  abbrev by-place : Bool → ℕ
-  by-place b = elim b as (λ _. ℕ) [ true ↦ passBy T P es c e | false ↦ by-parent (ltb (patternParent P c) q) ]
-
-  -- it is placed
-  pub sure-placed : c < q → passBy T P es c e ≡ sureBy T P lows q es c e
-  unfolding sureBy
-  sure-placed h = sym (ap by-place (lt-ltb c q h))
-
-  -- its parent is
-  pub sure-least : {j x r : ℕ} → q ≤ c → j ≡ patternParent P c → j < q → x ≡ getD es j 0 → r ≡ getD lows (cell c x) 0 → r ≡ sureBy T P lows q es c e
-  unfolding sureBy
-  sure-least {j} {x} {r} h p l i n =
-      n ∙ ap (λ (v : ℕ). getD lows (cell c v) 0) (i ∙ ap (λ (v : ℕ). getD es v 0) p)
-      ∙ sym (ap by-place (le-ltb c q h) ∙ ap by-parent (lt-ltb (patternParent P c) q (omega arith)))
-
-  -- neither is
-  pub sure-none : {j : ℕ} → q ≤ c → j ≡ patternParent P c → q ≤ j → 0 ≡ sureBy T P lows q es c e
-  unfolding sureBy
-  sure-none {j} h p l = sym (ap by-place (le-ltb c q h) ∙ ap by-parent (le-ltb (patternParent P c) q (omega arith)))
-
-pub gather-agree : (parent : ℕ → ℕ) (F G : ℕ → ℕ → ℕ) (n : ℕ) (t : List ℕ) → ((c e : ℕ) → c ≤ n → F c e ≡ G c e) → gather parent F n t ≡ gather parent G n t
-unfolding gather joinUp
-gather-agree parent F G zero t h = refl
-gather-agree parent F G (suc n) t h =
-    gather-agree parent F G n (joinUp parent F (suc n) t) (λ c e l. h c e (omega arith))
-    ∙ ap (λ (v : ℕ). gather parent G n (set t (parent (suc n)) (bitOr (getD t (parent (suc n)) 0) v))) (h (suc n) (getD t (suc n) 0) (omega arith))
-
--- ---- asked or not
-
-pub asked-no : (ask b : Bool) → not ask ≡ true → false ≡ (ask && b)
-asked-no ask b e = sym (ap (λ (a : Bool). a && b) (not-true ask e))
-
-pub asked-yes : (ask b : Bool) {r : Bool} → not ask ≡ false → r ≡ b → r ≡ (ask && b)
-asked-yes ask b e p = p ∙ sym (ap (λ (a : Bool). a && b) (not-false ask e))
-
--- asked, and the answer is yes
-pub asked-said : (ask b : Bool) {r : Bool} → r ≡ (ask && b) → r ≡ true → b ≡ true
-asked-said ask b p e = and-right ask b (sym p ∙ e)
 
 -- ---- the images so far
 
@@ -137,13 +88,14 @@ placed-step {P = P} {M} {q} {entry = entry} {images} {v = v} t e I G z h ne p s 
     (placed-next t q v images z h (omega arith) (placed-kept t q entry images z (omega arith) (I .kept) G)
     (subst (λ (x : ℕ). List·Memᴰ v (members (placesBy P M q x))) same (subst (λ (m : ℕ). List·Memᴰ v (members m)) (sites-take P M entry q (omega arith) l) (first-among I ne p))))
 
--- all extensions are skipped
-pub step-skip : {test : List ℕ → Bool} {sure : ℕ → List ℕ → Bool} {P : Pattern} {M : Candidates} {counts : List ℕ} {K q : ℕ} {n : Budget} {c : ℕ} {entry : List ℕ} {r : Run} → MaySkip test sure P M counts K → PlacedBy P M q entry
-    → 0 < q → q ≤ length P → n .left < K → length entry ≡ length P → ((c : ℕ) → c < length P → getD entry c 0 < 64) → sure q entry ≡ true → c ≡ leftBy K P counts q entry
+-- all extensions pass, and are skipped
+pub step-skip : {test : List ℕ → Bool} {P : Pattern} {M : Candidates} {counts : List ℕ} {K q : ℕ} {n : Budget} {c : ℕ} {entry : List ℕ} {r : Run} → Counts P M counts K → PlacedBy P M q entry
+    → 0 < q → q ≤ length P → n .left < K → length entry ≡ length P → ((c : ℕ) → c < length P → getD entry c 0 < 64)
+    → ((fs : List ℕ) → List·Memᴰ fs (stepFrom (sitesBy P M) (length P - q) (take q entry)) → test fs ≡ true) → c ≡ leftBy K P counts q entry
     → ((es : List ℕ) → progressOf es r ≡ skip (n .left) (n .tried) c) → Stepped test P M q n entry entry r
-step-skip {q = q} {n = n} {entry = entry} M G z h l p i e k s =
+step-skip {q = q} {n = n} {entry = entry} N G z h l p i all k s =
     record {
       kept = refl;
       inside = i;
-      same = s entry ∙ ap (skip (n .left) (n .tried)) k ∙ sym (M .skipped q (n .left) (n .tried) entry z h (omega arith) l G e);
+      same = s entry ∙ ap (skip (n .left) (n .tried)) k ∙ sym (covered-skips q (n .left) (n .tried) entry N z h (omega arith) l G all);
     }

@@ -1,57 +1,30 @@
--- The tables that skipping reads hold what the model says: rows are filled from the last node to the first, so the rows of a node's
--- children are right when its own is filled, by a climb from each of its paths. Assumes nothing.
-use Prim.Native.Nat.{ℕ, zero, suc, _+_, _-_, _*_, _^_, _≤_, _<_, min}
+-- The table of counts holds what the model says: rows are filled from the last node to the first, so the rows of a node's children are
+-- right when its own is filled, by what the summary nodes hand up. Assumes nothing.
+use Prim.Native.Nat.{ℕ, zero, suc, _+_, _-_, _*_, _≤_, _<_, min}
 use mathlib.Core.Path.{_≡_, refl, sym, ap, _∙_, subst}
-use mathlib.Core.Bool.{Bool, true, false, _&&_, _||_}
+use mathlib.Core.Bool.{Bool, true, false, _&&_}
 use mathlib.Core.List.{List, List·Memᴰ}
 use native.Mathlib.Omega.{arith}
 use native.Mathlib.Nat.{one-mul}
-use lib.Bits.{bitOr, bitAnd}
 use lib.Dec.{eqb, ltb}
 use lib.ListN.{length, getD, set, length-set}
 use lib.Seq.{getD-set-same, getD-set-other}
-use lib.Pow.{suc-ones}
-use borrow.Author.Tests.{eqb-true, eqb-false, ltb-true, ltb-false, lt-ltb}
-use Rattle.model.specs.Lists.{upFrom, keep, anyOf, allOf, maskBelow, has}
-use Rattle.model.specs.Limits.{maxPosition}
-use Rattle.model.specs.Tree.{Document, IsTree, parentOf, Below}
-use Rattle.model.specs.Summary.{Summary, asDocument}
-use Rattle.model.specs.Pattern.{Pattern, IsPatternTree, patternParent, descends, position}
+use borrow.Author.Tests.{eqb-true, eqb-false, lt-ltb}
+use Rattle.model.specs.Lists.{upFrom, keep, has}
+use Rattle.model.specs.Tree.{Document, IsTree, parentOf}
+use Rattle.model.specs.Pattern.{Pattern, IsPatternTree, patternParent, descends}
 use Rattle.model.specs.Embeddings.{edgeTest}
-use Rattle.model.specs.Canonical.{chain}
-use Rattle.model.specs.Quick.{hangsFrom, hang}
-use Rattle.model.specs.Skipping.{productOf, sumOf, childrenOf, ways, low}
+use Rattle.model.specs.Skipping.{productOf, sumOf, childrenOf, ways}
 use Rattle.model.proofs.ListLaws.{mem-upFrom, upFrom-mem, keep-intro}
-use Rattle.model.proofs.Masks.{mask-none}
 use Rattle.model.proofs.WaysLaws.{sum-agree, children-later, children-after, ways-equation}
-use Rattle.model.proofs.Skipping.{low-equation}
-use Rattle.bits.proofs.MaskLaws.{mask-agree, has-none}
-use Rattle.containment.specs.Judging.{Sets, nodeBy, climbBy, hangBy}
-use Rattle.containment.specs.Prepared.{ChainSets}
+use Rattle.bits.proofs.MaskLaws.{has-none}
 use Rattle.containment.specs.Blocks.{cell}
 use Rattle.containment.specs.Stepping.{members, Candidates, placesBy}
-use Rattle.containment.specs.Skipping.{loop, joinAt, fillRows, childTurn, childLoop, underBy, offerBy, lowRow, lowTable, timesBy, ownWays, belowWays, topOf, waysTurn, waysRow, waysTable}
+use Rattle.containment.specs.Skipping.{loop, joinAt, fillRows, childTurn, childLoop, timesBy, ownWays, belowWays, topOf, waysTurn, waysRow, waysTable}
 use Rattle.containment.proofs.KeepLaws.{keep-agree, keep-keep}
-use Rattle.containment.proofs.ChainLaws.{climb-stop, climb-step, hang-mask}
-use Rattle.containment.proofs.GatherLaws.{any-keep}
-use Rattle.containment.proofs.RowLaws.{rows-entries, row-length, row-other, row-entry, loop-keep, loop-or, loop-and, loop-product}
-use Rattle.containment.proofs.ClimbLoop.{top-range}
+use Rattle.containment.proofs.RowLaws.{rows-entries, loop-keep, loop-product}
+use Rattle.containment.proofs.WaysLoop.{top-range}
 use Rattle.containment.proofs.WaysRow.{unless, sum-keep, total, total-start, total-out, total-in, total-end}
-
--- a climb with more room gives the same
-climb-fuel : (T : Sets) (n : ℕ) → ((x : ℕ) → 0 < x → x < n → T .up x < x) → (k l a x h : ℕ) → x ≤ k → x ≤ l → x < n → climbBy k T a x h ≡ climbBy l T a x h
-climb-fuel T n falls zero l a x h p q i = climb-stop zero T a x h (omega arith) ∙ sym (climb-stop l T a x h (omega arith))
-climb-fuel T n falls (suc k) zero a x h p q i = climb-stop (suc k) T a x h (omega arith) ∙ sym (climb-stop zero T a x h (omega arith))
-climb-fuel T n falls (suc k) (suc l) a x h p q i = go (ltb a x) refl (λ p q z. climb-fuel T n falls k l a (T .up x) (nodeBy T x 0 h) p q z)
-  where
-    go : (b : Bool) → ltb a x ≡ b
-        → (T .up x ≤ k → T .up x ≤ l → T .up x < n → climbBy k T a (T .up x) (nodeBy T x 0 h) ≡ climbBy l T a (T .up x) (nodeBy T x 0 h))
-        → climbBy (suc k) T a x h ≡ climbBy (suc l) T a x h
-    go false e rest = let z : x ≤ a = ltb-false a x e in climb-stop (suc k) T a x h z ∙ sym (climb-stop (suc l) T a x h z)
-    go true e rest =
-        let z : a < x = ltb-true a x e in
-        let f : T .up x < x = falls x (omega arith) i in
-        climb-step k T a x h z ∙ rest (omega arith) (omega arith) (omega arith) ∙ sym (climb-step l T a x h z)
 
 module _ (P : Pattern) (T : IsPatternTree P) where
   -- a loop over the nodes after c that takes the children of c
@@ -75,11 +48,6 @@ module _ (W : Document) (tree : IsTree W) (narrow : length W ≤ 64) (up : ℕ �
 
   up-falls : (b : ℕ) → 0 < b → b < length W → up b < b
   up-falls b z h = subst (λ (a : ℕ). a < b) (sym (ups b h)) (tree .earlier b z h)
-
-  long : (c : ℕ) (t : List ℕ) → c < length P → 64 * length P ≤ length t → 64 * suc c ≤ length t
-  long c t h l = omega arith
-
-  -- ---- in how many ways
 
   module _ (K : ℕ) (some : 0 < K) where
     abbrev count : ℕ → ℕ → ℕ
@@ -228,96 +196,6 @@ module _ (W : Document) (tree : IsTree W) (narrow : length W ≤ 64) (up : ℕ �
         → getD (waysTable K up P M (length W) t) (cell c x) 0 ≡ min K (ways (length P) (patternParent P) (λ c x. members (placesBy P M c x)) c x)
     unfolding waysRow
     ways-table t long-t begins c x z h l =
-        rows-entries (length P) (length W) 0 (waysRow K up P M (length W)) (λ c x. min K (count c x)) (λ c t h. row-long c (topOf (M .parts c) (length W) - 1) t)
+        rows-entries (length P) (length W) (waysRow K up P M (length W)) (λ c x. min K (count c x)) (λ c t h. row-long c (topOf (M .parts c) (length W) - 1) t)
         (λ c d y t h l ne. rows-other c (topOf (M .parts c) (length W) - 1) t d y (let r = top-range (M .parts c) (length W) (tree .inhabited) in omega arith) l ne)
         (λ c x t z h l e right zeros. row-right c h t e right zeros .entries x l ∙ ap (min K) (come-count c h t e right x l)) t c x long-t begins z h l
-
--- ---- what is offered at least
-
--- all of n
-all-mask : (n : ℕ) → 2 ^ n - 1 ≡ maskBelow (λ _. true) n
-unfolding maskBelow
-all-mask zero = refl
-all-mask (suc n) =
-    let e : 2 ^ n - 1 ≡ maskBelow (λ _. true) n = all-mask n in
-    let s : suc (2 ^ n - 1) ≡ 2 ^ n = suc-ones n in
-    let d : 2 ^ suc n ≡ 2 ^ n + 2 ^ n = omega arith in
-    omega arith
-
-module _ (S : Summary) (P Q : Pattern) (T : Sets) (M : Candidates) (C : ChainSets S Q T) (t : IsTree (asDocument S)) (p : IsPatternTree P)
-    (range : (c : ℕ) → c < length P → position P c ≤ maxPosition) (narrow : length (asDocument S) ≤ 64) (ups : (b : ℕ) → b < length (asDocument S) → T .up b ≡ parentOf (asDocument S) b)
-    (inside : (c y : ℕ) → c < length P → List·Memᴰ y (members (M .parts c)) → y < length (asDocument S))
-    (reach : (c x : ℕ) → c < length P → x < length (asDocument S) → keep (edgeTest (descends P c) (asDocument S) x) (members (M .parts c)) ≡ members (placesBy P M c x))
-    (reached : (c x y : ℕ) → 0 < c → c < length P → x < length (asDocument S) → List·Memᴰ y (members (placesBy P M c x)) → Below (asDocument S) x y) where
-  abbrev W : Document
-  W = asDocument S
-
-  abbrev placed : ℕ → ℕ → List ℕ
-  placed c x = members (placesBy P M c x)
-
-  -- what is offered at least, by the model
-  abbrev least : ℕ → ℕ → ℕ → Bool
-  least = low S P Q placed
-
-  abbrev under : ℕ → ℕ → ℕ → Bool
-  under c y r = anyOf (λ d. hangsFrom P c d && least d y r) (upFrom 0 (length P))
-
-  -- the rows after c are right
-  abbrev Offered : List ℕ → ℕ → Type 0
-  Offered u c = (d y : ℕ) → c < d → d < length P → y < length W → getD u (cell d y) 0 ≡ maskBelow (least d y) (length Q)
-
-  under-right : (c : ℕ) → c < length P → (u : List ℕ) (y : ℕ) → y < length W → Offered u c → underBy P u c y ≡ maskBelow (under c y) (length Q)
-  unfolding underBy childrenOf hangsFrom
-  under-right c h u y l right =
-      child-loop P p placed bitOr 0 u c y h
-      ∙ ap (λ (a : ℕ). loop (λ acc d. bitOr acc (getD u (cell d y) 0)) a kids) (sym (mask-none (λ _. false) (length Q) (λ r k. refl)))
-      ∙ loop-or (length Q) (λ d. getD u (cell d y) 0) (λ d. least d y) (λ _. false) kids (λ d k. (let r = children-later (length P) (patternParent P) placed p c d k in right d y (r .0) (r .1) l))
-      ∙ mask-agree (λ r. false || anyOf (λ d. least d y r) kids) (under c y) (length Q) (λ r k. any-keep (λ d. least d y r) (λ d. ltb 0 d && eqb (patternParent P d) c) (upFrom 0 (length P)))
-    where
-      kids : List ℕ
-      kids = childrenOf (length P) (patternParent P) c
-
-  -- what c itself offers at y
-  abbrev own : ℕ → ℕ → ℕ
-  own c y = nodeBy T y (position P c) (maskBelow (under c y) (length Q))
-
-  offer-right : (c : ℕ) → c < length P → (u : List ℕ) (y : ℕ) → y < length W → Offered u c → offerBy T P u c y ≡ own c y
-  unfolding offerBy
-  offer-right c h u y l right = ap (nodeBy T y (position P c)) (under-right c h u y l right)
-
-  -- what becomes of h on its way from b up to x
-  abbrev hung : ℕ → ℕ → ℕ → ℕ
-  hung b h x = climbBy b T x (T .up b) h
-
-  hung-above : (b h x : ℕ) → 0 < b → b < length W → x < T .up b → hung b h x ≡ hung (T .up b) (nodeBy T (T .up b) 0 h) x
-  hung-above zero h x z i l = absurd (omega arith)
-  hung-above (suc b) h x z i l =
-      let f : T .up (suc b) < suc b = up-falls W t narrow (T .up) P M p ups inside reach (suc b) z i in
-      let g : T .up (T .up (suc b)) < T .up (suc b) = up-falls W t narrow (T .up) P M p ups inside reach (T .up (suc b)) (omega arith) (omega arith) in
-      climb-step b T x (T .up (suc b)) h l
-      ∙ climb-fuel T (length W) (up-falls W t narrow (T .up) P M p ups inside reach) b (T .up (suc b)) x (T .up (T .up (suc b))) (nodeBy T (T .up (suc b)) 0 h) (omega arith) (omega arith) (omega arith)
-
-  hung-mask : (c x y : ℕ) → 0 < c → c < length P → x < length W → List·Memᴰ y (placed c x) → hung y (own c y) x ≡ maskBelow (hang S Q (position P c) (under c y) (chain S x y)) (length Q)
-  unfolding hangBy
-  hung-mask c x y z h l m = hang-mask S Q T C t x y (position P c) (under c y) (reached c x y z h l m) (range c h)
-
-  low-right : (c x : ℕ) (u : List ℕ) → 0 < c → c < length P → x < length W → 64 * length P ≤ length u → Offered u c → getD u (cell c x) 0 ≡ 2 ^ length Q - 1
-      → getD (lowRow T P M c u) (cell c x) 0 ≡ maskBelow (least c x) (length Q)
-  unfolding lowRow
-  low-right c x u z h l e right first =
-      row-entry W t (T .up) ups narrow bitAnd (λ x h. nodeBy T x 0 h) (offerBy T P) (descends P c) c hung (λ b h z i. climb-stop b T (T .up b) (T .up b) h (omega arith)) hung-above (length P) (λ d y. maskBelow (least d y) (length Q)) (own c) (offer-right c h)
-      (members (M .parts c)) u x (λ y k. inside c y h k) (omega arith) right l
-      ∙ ap (λ (a : ℕ). loop (λ acc y. bitAnd acc (hung y (own c y) x)) a (keep (edgeTest (descends P c) W x) (members (M .parts c)))) (first ∙ all-mask (length Q))
-      ∙ ap (loop (λ acc y. bitAnd acc (hung y (own c y) x)) (maskBelow (λ _. true) (length Q))) (reach c x h l)
-      ∙ loop-and (length Q) (λ y. hung y (own c y) x) (λ y. hang S Q (position P c) (under c y) (chain S x y)) (λ _. true) (placed c x) (λ y k. hung-mask c x y z h l k)
-      ∙ mask-agree (λ q. true && allOf (λ y. hang S Q (position P c) (under c y) (chain S x y) q) (placed c x)) (least c x) (length Q) (λ q k. sym (low-equation S P Q placed p c x q h))
-
-  -- the table of least offers
-  pub low-table : (u : List ℕ) → 64 * length P ≤ length u → ((d y : ℕ) → d < length P → y < length (asDocument S) → getD u (cell d y) 0 ≡ 2 ^ length Q - 1) → (c x : ℕ) → 0 < c → c < length P
-      → x < length (asDocument S) → getD (lowTable T P M u) (cell c x) 0 ≡ maskBelow (low S P Q (λ c x. members (placesBy P M c x)) c x) (length Q)
-  unfolding lowRow
-  low-table u long-u begins c x z h l =
-      rows-entries (length P) (length W) (2 ^ length Q - 1) (lowRow T P M) (λ c x. maskBelow (least c x) (length Q))
-      (λ c u h. row-length W t (T .up) ups narrow bitAnd (λ x h. nodeBy T x 0 h) (offerBy T P) (descends P c) c (members (M .parts c)) u (λ y k. inside c y h k))
-      (λ c d y u h l ne. row-other W t (T .up) ups narrow bitAnd (λ x h. nodeBy T x 0 h) (offerBy T P) (descends P c) c (members (M .parts c)) u d y (λ y k. inside c y h k) l ne)
-      (λ c x u z h l e right first. low-right c x u z h l e right (first x l)) u c x long-u begins z h l

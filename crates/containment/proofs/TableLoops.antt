@@ -1,21 +1,16 @@
--- The loops that fill and read the tables for skipping: over a range, over a mask's members, up a tree, over rows from the last on.
--- Assumes nothing.
-use Prim.Native.Nat.{ℕ, zero, suc, _+_, _-_, _*_, _^_, _≤_, _<_, min}
+-- The loops that fill and read the table of counts: over a range, over rows from the last on. Assumes nothing.
+use Prim.Native.Nat.{ℕ, suc, _+_, _-_, _*_, _≤_, _<_, min}
 use mathlib.Core.Path.{_≡_, refl, sym, ap, ap₂, _∙_, subst}
 use mathlib.Core.Bool.{Bool, true, false}
 use mathlib.Core.List.{List}
 use native.Mathlib.Omega.{arith}
 use native.Mathlib.Numerals.{add-one}
-use lib.Count.{trailingZeros}
 use lib.ListN.{length, getD}
 use borrow.Author.Tests.{eq-eqb, ne-eqb, lt-ltb, le-ltb}
 use Rattle.model.specs.Lists.{upFrom}
 use Rattle.model.specs.Pattern.{Pattern, patternParent}
 use Rattle.containment.specs.Blocks.{cell}
-use Rattle.containment.specs.Stepping.{members}
-use Rattle.containment.specs.Skipping.{loop, joinAt, climbRow, fillRows, childTurn, childLoop, leftTurn, leftBy}
-use Rattle.containment.proofs.MaskMembers.{members-none, first-left}
-use Rattle.containment.proofs.ClimbLaws.{climb-none, climb-far, climb-near}
+use Rattle.containment.specs.Skipping.{loop, fillRows, childTurn, childLoop, leftTurn, leftBy}
 
 -- ---- over a range
 
@@ -54,69 +49,6 @@ child-start join start P t c y e h = subst (λ (n : ℕ). Ranging (childTurn joi
 pub left-start : (K : ℕ) (P : Pattern) (counts : List ℕ) (q : ℕ) (es : List ℕ) {m : ℕ} → m ≡ length P → q ≤ length P → Ranging (leftTurn K P counts q es) (leftBy K P counts q es) m 1 q
 unfolding leftBy
 left-start K P counts q es e h = subst (λ (n : ℕ). Ranging (leftTurn K P counts q es) (leftBy K P counts q es) n 1 q) (sym e) (ranging-start refl h)
-
--- ---- over a mask's members
-
--- the members that are left, rest, go on from acc to the whole
-pub record Visiting (turn : List ℕ → ℕ → List ℕ) (whole acc : List ℕ) (rest : ℕ) : Type 0 where
-  pub same : loop turn acc (members rest) ≡ whole
-
-module _ {turn : List ℕ → ℕ → List ℕ} {whole : List ℕ} where
-  pub visiting-step : {acc acc′ : List ℕ} {rest v rest′ : ℕ} → Visiting turn whole acc rest → rest < 2 ^ 64 → (rest ≡ 0 → ⊥) → v ≡ trailingZeros 64 rest → rest′ ≡ rest - 2 ^ v → acc′ ≡ turn acc v
-      → Visiting turn whole acc′ rest′
-  unfolding loop
-  visiting-step {acc} {acc′} {rest} {v} {rest′} g w ne p p′ e =
-      record { same = ap (λ (t : List ℕ). loop turn t (members rest′)) e ∙ sym (ap (loop turn acc) (first-left w ne p p′)) ∙ g .same }
-
-  pub visiting-end : {acc : List ℕ} {rest : ℕ} → Visiting turn whole acc rest → rest ≡ 0 → acc ≡ whole
-  unfolding loop
-  visiting-end {acc} {rest} g e = sym (ap (loop turn acc) (ap members e ∙ members-none)) ∙ g .same
-
--- ---- up a tree
-
--- going on from b with h and t gives the whole
-pub record Rising (join pass : ℕ → ℕ → ℕ) (up : ℕ → ℕ) (far : Bool) (c : ℕ) (whole : List ℕ) (b h : ℕ) (t : List ℕ) : Type 0 where
-  pub room : ℕ
-  pub enough : b ≤ room
-  pub same : climbRow join pass up far c room b h t ≡ whole
-
-module _ (join pass : ℕ → ℕ → ℕ) (up : ℕ → ℕ) (c : ℕ) where
-  pub rising-start : {far : Bool} {y h : ℕ} {t : List ℕ} → Rising join pass up far c (climbRow join pass up far c y y h t) y h t
-  rising-start {far} {y} = record { room = y; enough = omega arith; same = refl }
-
-  joined : (b h a i : ℕ) (t t′ : List ℕ) → a ≡ up b → i ≡ cell c a → t′ ≡ joinAt join i h t → joinAt join (cell c (up b)) h t ≡ t′
-  joined b h a i t t′ p q e = sym (e ∙ ap (λ (n : ℕ). joinAt join n h t) (q ∙ ap (cell c) p))
-
-  -- past a descendant edge
-  pub rising-far : {far : Bool} {whole : List ℕ} {b h a i : ℕ} {t t′ : List ℕ} {h′ : ℕ} → Rising join pass up far c whole b h t → far ≡ true → 0 < b → a ≡ up b → a < b → i ≡ cell c a → t′ ≡ joinAt join i h t → h′ ≡ pass a h
-      → Rising join pass up far c whole a h′ t′
-  rising-far {far} {whole} {b} {h} {a} {i} {t} {t′} {h′} v f z p l q e k = go (v .room) (v .enough) (v .same)
-    where
-      go : (r : ℕ) → b ≤ r → climbRow join pass up far c r b h t ≡ whole → Rising join pass up far c whole a h′ t′
-      go zero n s = absurd (omega arith)
-      go (suc r) n s =
-          record {
-            room = r;
-            enough = omega arith;
-            same =
-                ap (λ (x : Bool). climbRow join pass up x c r a h′ t′) f
-                ∙ sym (ap (λ (x : Bool). climbRow join pass up x c (suc r) b h t) f
-                ∙ climb-far join pass up c r b h t z
-                ∙ ap (climbRow join pass up true c r (up b) (pass (up b) h)) (joined b h a i t t′ p q e)
-                ∙ ap (λ (x : ℕ). climbRow join pass up true c r x (pass x h) t′) (sym p)
-                ∙ ap (λ (x : ℕ). climbRow join pass up true c r a x t′) (sym k)) ∙ s;
-          }
-
-  -- or no further
-  pub rising-near : {far : Bool} {whole : List ℕ} {b h a i : ℕ} {t t′ : List ℕ} → Rising join pass up far c whole b h t → far ≡ false → 0 < b → a ≡ up b → i ≡ cell c a → t′ ≡ joinAt join i h t → t′ ≡ whole
-  rising-near {far} {whole} {b} {h} {a} {i} {t} {t′} v f z p q e = go (v .room) (v .enough) (v .same)
-    where
-      go : (r : ℕ) → b ≤ r → climbRow join pass up far c r b h t ≡ whole → t′ ≡ whole
-      go zero n s = absurd (omega arith)
-      go (suc r) n s = sym (ap (λ (x : Bool). climbRow join pass up x c (suc r) b h t) f ∙ climb-near join pass up c r b h t z ∙ joined b h a i t t′ p q e) ∙ s
-
-  pub rising-end : {far : Bool} {whole : List ℕ} {b h : ℕ} {t : List ℕ} → Rising join pass up far c whole b h t → b ≡ 0 → t ≡ whole
-  rising-end {far} {whole} {b} {h} {t} v e = sym (climb-none join pass up c far (v .room) b h t e) ∙ v .same
 
 -- ---- over rows
 

@@ -16,32 +16,32 @@ cell c x = 64 * c + x
 abbrev pub parentIn : List ℕ → ℕ → ℕ
 parentIn parents x = getD parents x 0
 
--- ---- `Member`, 1,760 numbers, of the summary and a member of the set. From 0, by cell: what a node and all below it offer at least
+-- ---- `Member`, 736 numbers, of the summary and a member of the set
 
 -- by summary node: its parent, the pattern nodes whose labels fit it, what its filled-up children offer
 abbrev pub upIn : List ℕ → ℕ → ℕ
-upIn t x = getD t (1024 + x) 0
+upIn t x = getD t x 0
 
 abbrev pub fittingIn : List ℕ → ℕ → ℕ
-fittingIn t x = getD t (1088 + x) 0
+fittingIn t x = getD t (64 + x) 0
 
 abbrev pub closedSetIn : List ℕ → ℕ → ℕ
-closedSetIn t x = getD t (1152 + x) 0
+closedSetIn t x = getD t (128 + x) 0
 
 -- by position: the pattern nodes with it or none
 abbrev pub allowedIn : List ℕ → ℕ → ℕ
-allowedIn t n = getD t (1216 + n) 0
+allowedIn t n = getD t (192 + n) 0
 
 -- the pattern nodes that hang by a descendant edge
 abbrev pub deepSetIn : List ℕ → ℕ
-deepSetIn t = getD t 1232 0
+deepSetIn t = getD t 208 0
 
 -- by byte: the pattern nodes all of whose children among the first eight nodes, or the other eight, are in it
 abbrev pub lowHalfIn : List ℕ → ℕ → ℕ
-lowHalfIn t b = getD t (1248 + b) 0
+lowHalfIn t b = getD t (224 + b) 0
 
 abbrev pub highHalfIn : List ℕ → ℕ → ℕ
-highHalfIn t b = getD t (1504 + b) 0
+highHalfIn t b = getD t (480 + b) 0
 
 abbrev pub setsIn : List ℕ → Sets
 setsIn t =

@@ -9,3 +9,5 @@ pub mod Skipping
 pub mod Stepping
 pub mod Steps
 pub mod Members
+pub mod Alternatives
+pub mod Open

@@ -6,9 +6,8 @@ use mathlib.Core.List.{List, []}
 use lib.ListN.{length, getD}
 use Rattle.model.specs.Lists.{upFrom, anyOf}
 use Rattle.model.specs.Pattern.{Pattern}
-use Rattle.containment.specs.Blocks.{lastIn, capIn, setsIn, candidatesIn}
+use Rattle.containment.specs.Blocks.{lastIn, setsIn}
 use Rattle.containment.specs.Judging.{rootBy, judgeBy}
-use Rattle.containment.specs.Skipping.{surelyBy, MaySkip}
 use Rattle.containment.specs.Settling.{foldedRow, Settled}
 
 -- so says the test for at least one of the members
@@ -19,14 +18,6 @@ bySome test ts = anyOf (λ i. test (getD ts i []) i) (upFrom 0 (length ts))
 unfoldable pub judgedBySome : List (List ℕ) → Pattern → List ℕ → Bool
 judgedBySome ts P es = bySome (λ t i. judgeBy (setsIn t) P es) ts
 
--- the same by what hangs from the root in each row
-unfoldable pub rootOfSome : List (List ℕ) → Pattern → List (List ℕ) → Bool
-rootOfSome ts P rows = bySome (λ t i. rootBy (setsIn t) P (getD (getD rows i []) 0 0)) ts
-
--- every completion of a partial one surely passes
-unfoldable pub surelyBySome : List (List ℕ) → Pattern → ℕ → List ℕ → Bool
-surelyBySome ts P q es = bySome (λ t i. surelyBy (setsIn t) P t q es) ts
-
 -- each member's row is settled
 pub record RowsSettled (ts : List (List ℕ)) (m : List ℕ) (P : Pattern) (q : ℕ) (es : List ℕ) (rows : List (List ℕ)) : Type 0 where
   pub each : (i : ℕ) → i < length ts → Settled (getD ts i []) m P q es (getD rows i [])
@@ -35,6 +26,6 @@ pub record RowsSettled (ts : List (List ℕ)) (m : List ℕ) (P : Pattern) (q : 
 pub record RowsFolded (ts : List (List ℕ)) (m : List ℕ) (P : Pattern) (q : ℕ) (es : List ℕ) (before after : List (List ℕ)) : Type 0 where
   pub each : (i : ℕ) → i < length ts → getD after i [] ≡ foldedRow (setsIn (getD ts i [])) P (lastIn m) q es (getD before i [])
 
--- the run over all completions of a partial embedding may be skipped where some member says that they surely pass; m counts them
-abbrev pub MembersSkip : List (List ℕ) → List ℕ → Pattern → Type 0
-MembersSkip ts m P = MaySkip (judgedBySome ts P) (surelyBySome ts P) P (candidatesIn m) m (capIn m)
+-- a whole embedding passes by a member exactly when the member's root meets by what hangs from it in its row
+pub record RowsWhole (ts : List (List ℕ)) (P : Pattern) (es : List ℕ) (rows : List (List ℕ)) : Type 0 where
+  pub each : (i : ℕ) → i < length ts → judgeBy (setsIn (getD ts i [])) P es ≡ rootBy (setsIn (getD ts i [])) P (getD (getD rows i []) 0 0)

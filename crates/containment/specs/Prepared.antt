@@ -1,5 +1,5 @@
 -- What the blocks hold when they are those of a summary, a first pattern and the members of a set.
-use Prim.Native.Nat.{ℕ, _-_, _^_, _≤_, _<_}
+use Prim.Native.Nat.{ℕ, _≤_, _<_}
 use mathlib.Core.Path.{_≡_}
 use mathlib.Core.Bool.{Bool}
 use mathlib.Core.List.{List, []}
@@ -8,7 +8,8 @@ use Rattle.model.specs.Limits.{maxPosition}
 use Rattle.model.specs.Lists.{maskBelow}
 use Rattle.model.specs.Tree.{Rooted}
 use Rattle.model.specs.Summary.{Summary, asDocument, summaryLabel, summaryParent}
-use Rattle.model.specs.Pattern.{Pattern, patternLabel, descends, labelFits}
+use Rattle.model.specs.Pattern.{Pattern, IsPatternTree, patternLabel, descends, position, labelFits}
+use Rattle.model.specs.Facts.{SummaryFacts}
 use Rattle.model.specs.Embeddings.{childTest, belowTest, isPath}
 use Rattle.model.specs.Quick.{closed}
 use Rattle.matching.specs.Matching.{childrenIn}
@@ -38,19 +39,16 @@ pub record StepSets (S : Summary) (P : Pattern) (M : Candidates) : Type 0 where
 
 -- ---- blocks that are made
 
--- the block of a summary and a member holds what one node takes, and the summary's parents, with zeros after them; what is
--- offered at least is not known yet, so all nodes stand in the cells
+-- the block of a summary and a member holds what one node takes, and the summary's parents, with zeros after them
 pub record SetsMade (S : Summary) (Q : Pattern) (t : List ℕ) : Type 0 where
   pub tree : Rooted 64 (upIn t)
   pub ups : (x : ℕ) → x < length S → upIn t x ≡ summaryParent S x
   pub node : NodeSets S Q (setsIn t)
-  pub cells : (i : ℕ) → i < 1024 → getD t i 0 ≡ 2 ^ length Q - 1
 
 -- and what a chain takes
 pub record MemberMade (S : Summary) (Q : Pattern) (t : List ℕ) : Type 0 where
   pub tree : Rooted 64 (upIn t)
   pub sets : ChainSets S Q (setsIn t)
-  pub cells : (i : ℕ) → i < 1024 → getD t i 0 ≡ 2 ^ length Q - 1
 
 -- one for each member, in the set's order
 pub record MembersMade (S : Summary) (Qs : List Pattern) (ts : List (List ℕ)) : Type 0 where
@@ -63,3 +61,18 @@ pub record MasksMade (S : Summary) (parts lasts : List ℕ) (cap : ℕ) (m : Lis
   pub ends : (c : ℕ) → c < 16 → lastIn m c ≡ getD lasts c 0
   pub most : capIn m ≡ cap
   pub cells : (i : ℕ) → i < 1024 → getD m i 0 ≡ 0
+
+-- ---- what skipping takes
+
+-- the blocks are those of a summary, of the members of a set and of the first pattern P
+pub record Made (ts : List (List ℕ)) (m : List ℕ) (P : Pattern) : Type 0 where
+  pub summary : Summary
+  pub members : List Pattern
+  pub facts : SummaryFacts summary
+  pub narrow : length summary ≤ 64
+  pub chains : (i : ℕ) → i < length ts → ChainSets summary (getD members i []) (setsIn (getD ts i []))
+  pub some : (i : ℕ) → i < length ts → 0 < length (getD members i [])
+  pub steps : StepSets summary P (candidatesIn m)
+  pub tree : IsPatternTree P
+  pub small : length P ≤ 16
+  pub range : (c : ℕ) → c < length P → position P c ≤ maxPosition

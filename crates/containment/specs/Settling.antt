@@ -8,7 +8,6 @@ use lib.Dec.{eqb, ltb}
 use lib.ListN.{length, replicate}
 use Rattle.model.specs.Pattern.{Pattern, patternParent}
 use Rattle.containment.specs.Judging.{gather, Sets, passBy}
-use Rattle.containment.specs.Skipping.{sureBy}
 use Rattle.containment.specs.Blocks.{lastIn, setsIn}
 
 -- of n nodes: a part ends with its root or later, with one of the nodes, and with the part that it stands in or before
@@ -35,13 +34,6 @@ foldedBy T P last q es c e = elim (eqb (last c) q) [ true ↦ passBy T P es c e 
 
 unfoldable pub foldedRow : Sets → Pattern → (ℕ → ℕ) → ℕ → List ℕ → List ℕ → List ℕ
 foldedRow T P last q es row = gather (patternParent P) (foldedBy T P last q es) (length P - 1) row
-
--- what is added to a row where it is asked whether all completions pass: what the other parts offer at least
-unfoldable pub openBy : Sets → Pattern → List ℕ → (ℕ → ℕ) → ℕ → List ℕ → ℕ → ℕ → ℕ
-openBy T P lows last q es c e = elim (ltb (last c) q) [ true ↦ 0 | false ↦ sureBy T P lows q es c e ]
-
-unfoldable pub openRow : Sets → Pattern → List ℕ → (ℕ → ℕ) → ℕ → List ℕ → List ℕ → List ℕ
-openRow T P lows last q es row = gather (patternParent P) (openBy T P lows last q es) (length P - 1) row
 
 -- the blocks t and m have the last nodes of parts, and the row is settled
 pub record Settled (t m : List ℕ) (P : Pattern) (q : ℕ) (es row : List ℕ) : Type 0 where

@@ -4,9 +4,15 @@ use mathlib.Core.Path.{_≡_}
 use mathlib.Core.Bool.{Bool}
 use mathlib.Core.List.{List}
 use lib.ListN.{length, getD, take}
-use Rattle.model.specs.Pattern.{Pattern}
+use Rattle.model.specs.Pattern.{Pattern, patternParent}
 use Rattle.model.specs.Verdict.{Progress, going, failed, halted, run}
-use Rattle.containment.specs.Stepping.{Candidates, stepFrom, sitesBy}
+use Rattle.containment.specs.Blocks.{candidatesIn, capIn, lastIn}
+use Rattle.containment.specs.Members.{judgedBySome}
+use Rattle.containment.specs.Prepared.{Made}
+use Rattle.containment.specs.Room.{Capped}
+use Rattle.containment.specs.Settling.{Lasts}
+use Rattle.containment.specs.Skipping.{Counts}
+use Rattle.containment.specs.Stepping.{Candidates, stepFrom, sitesBy, allBy}
 use Rattle.containment.specs.declared.Budget.{Budget}
 use Rattle.containment.specs.declared.Run.{Run}
 use Rattle.containment.specs.declared.Run.the-variants.{Going, Failed, Stopped}
@@ -27,3 +33,15 @@ pub record Stepped (test : List ℕ → Bool) (P : Pattern) (M : Candidates) (q 
   pub kept : take q exit ≡ take q entry
   pub inside : (c : ℕ) → c < length P → getD exit c 0 < 64
   pub same : progressOf exit r ≡ run test (goingBy n) (stepFrom (sitesBy P M) (length P - q) (take q entry))
+
+-- what stepping takes: the blocks are made, with where parts end and in how many ways nodes can be placed
+pub record Runnable (ts : List (List ℕ)) (m : List ℕ) (P : Pattern) : Type 0 where
+  pub capped : Capped m
+  pub lasts : Lasts (length P) (patternParent P) (lastIn m)
+  pub made : Made ts m P
+  pub counts : Counts P (candidatesIn m) m (capIn m)
+
+-- all embeddings: all images are summary nodes, and the run is the fold over the embeddings
+pub record SteppedAll (ts : List (List ℕ)) (m : List ℕ) (P : Pattern) (limit : ℕ) (exit : List ℕ) (r : Run) : Type 0 where
+  pub inside : (c : ℕ) → c < length P → getD exit c 0 < 64
+  pub same : progressOf exit r ≡ run (judgedBySome ts P) (going limit 0) (allBy P (candidatesIn m))

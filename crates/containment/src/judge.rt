@@ -8,7 +8,6 @@ use crate::member::closed;
 use crate::member::deep;
 use crate::member::fitting;
 use crate::member::high;
-use crate::member::least_at;
 use crate::member::low;
 use crate::member::up;
 use bits::has16;
@@ -20,7 +19,7 @@ use format::pattern::pattern_count;
 use format::pattern::pattern_parent;
 use format::pattern::pattern_position;
 ghost use mathlib.Core.Path.{_≡_};
-ghost use Prim.Native.Nat.{_≤_, _<_};
+ghost use Prim.Native.Nat.{_<_};
 ghost use lib.Bits.{bitOr};
 ghost use lib.ListN.{length, getD, set as setAt};
 ghost use Rattle.model.specs.Tree.{Rooted};
@@ -28,11 +27,13 @@ ghost use Rattle.format.specs.Given.{patternAt};
 ghost use Rattle.containment.specs.Blocks.{upIn, lastIn, setsIn};
 ghost use Rattle.containment.specs.Judging.{fullBy, meetsBy, offersBy, nodeBy, hangBy, passBy, rootBy};
 ghost use Rattle.containment.specs.Room.{Climbable, Judgeable};
-ghost use Rattle.containment.specs.Skipping.{sureBy, surelyBy};
-ghost use Rattle.containment.specs.Settling.{unlessOver, foldedRow, openRow, Settled};
+ghost use Rattle.containment.specs.Settling.{unlessOver, foldedRow};
 
 // By node of the first pattern, what the complete parts that hang from it offer.
 pub type Row = [u16; 16];
+
+// By member of the set, its row.
+pub type Rows = [Row; 8];
 
 // The pattern nodes all of whose children are in acc.
 fn full(t: &Member, acc: u16) -> u16
@@ -80,7 +81,7 @@ fn hang(t: &Member, a: SummaryNode, b: SummaryNode, n: usize, g: u16) -> u16
 }
 
 // What node c of the first pattern, (p, at), passes on to its parent, where e hangs from it.
-fn pass(t: &Member, p: &[u8], at: usize, images: &[u16], c: PatternNode, e: u16) -> u16
+pub fn pass(t: &Member, p: &[u8], at: usize, images: &[u16], c: PatternNode, e: u16) -> u16
     requires { ⌜ Judgeable (now t) (now p) at (now images) ⌝ }
     requires { ⌜ (0 < c .0) × (c .0 < length (patternAt (now p) at)) ⌝ }
     ensures { λ r. ⌜ r ≡ passBy (setsIn (now (t .entry))) (patternAt (now (p .entry)) at) (now (images .entry)) (c .0) e ⌝ }
@@ -95,31 +96,6 @@ pub fn join(t: &mut [u16], j: usize, set: u16)
     ensures { λ _. ⌜ now (t .exit) ≡ setAt (now (t .entry)) j (bitOr (getD (now (t .entry)) j 0) set) ⌝ }
 {
     t[j] = t[j] | set;
-}
-
-// What node c passes on to its parent at least, where e hangs from it and the nodes before q are placed: the least that it offers
-// where it is not placed and its parent is.
-fn handed(
-    t: &Member,
-    p: &[u8],
-    at: usize,
-    images: &[u16],
-    q: PatternNode,
-    c: PatternNode,
-    e: u16,
-) -> u16
-    requires { ⌜ Judgeable (now t) (now p) at (now images) ⌝ }
-    requires { ⌜ (0 < c .0) × (c .0 < length (patternAt (now p) at)) ⌝ }
-    ensures { λ r. ⌜ r ≡ sureBy (setsIn (now (t .entry))) (patternAt (now (p .entry)) at) (now (t .entry)) (q .0) (now (images .entry)) (c .0) e ⌝ }
-{
-    if c.0 < q.0 {
-        return pass(t, p, at, images, c, e);
-    }
-    let j = pattern_parent(p, at, c);
-    if j.0 < q.0 {
-        return least_at(t, c, image_of(images, j));
-    }
-    0
 }
 
 // A node whose turn it is: what hangs from it so far, and whether its turn is passed over.
@@ -139,19 +115,6 @@ fn folded(t: &Member, p: &[u8], at: usize, images: &[u16], s: Share) -> u16
         return 0;
     }
     pass(t, p, at, images, s.node, s.set)
-}
-
-// What a node passes on at least, where its part is not settled.
-fn opened(t: &Member, p: &[u8], at: usize, images: &[u16], q: PatternNode, s: Share) -> u16
-    requires { ⌜ Judgeable (now t) (now p) at (now images) ⌝ }
-    requires { ⌜ (0 < s .node .0) × (s .node .0 < length (patternAt (now p) at)) ⌝ }
-    ensures { λ r. ⌜ r ≡ unlessOver (s .over)
-        (sureBy (setsIn (now (t .entry))) (patternAt (now (p .entry)) at) (now (t .entry)) (q .0) (now (images .entry)) (s .node .0) (s .set)) ⌝ }
-{
-    if s.over {
-        return 0;
-    }
-    handed(t, p, at, images, q, s.node, s.set)
 }
 
 // The row with what the parts that end with node q offer, which is placed.
@@ -183,37 +146,6 @@ pub fn settle(
     hangs
 }
 
-// What hangs at least from the first pattern's root: what is settled, and each other node, from the last on, passes on to its parent.
-fn given(
-    t: &Member,
-    m: &Masks,
-    p: &[u8],
-    at: usize,
-    images: &[u16],
-    q: PatternNode,
-    row: Row,
-) -> u16
-    requires { ⌜ Judgeable (now t) (now p) at (now images) ⌝ }
-    ensures { λ r. ⌜ r
-        ≡ getD (openRow (setsIn (now (t .entry))) (patternAt (now (p .entry)) at) (now (t .entry)) (lastIn (now (m .entry)))
-        (q .0) (now (images .entry)) row) 0 0 ⌝ }
-{
-    let mut hangs = row;
-    let mut c = pattern_count(p, at);
-    while 1 < c {
-        c -= 1;
-        let over = last(m, PatternNode(c)) < wide64(q.0);
-        let share = Share {
-            node: PatternNode(c),
-            set: hangs[c],
-            over,
-        };
-        let set = opened(t, p, at, images, q, share);
-        join(&mut hangs, pattern_parent(p, at, PatternNode(c)).0, set);
-    }
-    hangs[0]
-}
-
 // The member's root meets at the root, where g hangs from it.
 pub fn root(t: &Member, p: &[u8], at: usize, g: u16) -> bool
     requires { ⌜ Climbable (now t) (now p) at ⌝ }
@@ -222,21 +154,4 @@ pub fn root(t: &Member, p: &[u8], at: usize, g: u16) -> bool
     let n = pattern_position(p, at, PatternNode(0));
     let top = SummaryNode(0);
     has16(met(t, top, n, closed(t, top) | g), 0)
-}
-
-// Every completion of the images of the nodes before q surely passes, by the row that is settled and what is offered at least besides.
-pub fn judge(
-    t: &Member,
-    m: &Masks,
-    p: &[u8],
-    at: usize,
-    images: &[u16],
-    q: PatternNode,
-    row: Row,
-) -> bool
-    requires { ⌜ Judgeable (now t) (now p) at (now images) × (q .0 ≤ length (patternAt (now p) at)) ⌝ }
-    requires { ⌜ Settled (now t) (now m) (patternAt (now p) at) (q .0) (now images) row ⌝ }
-    ensures { λ r. ⌜ r ≡ surelyBy (setsIn (now (t .entry))) (patternAt (now (p .entry)) at) (now (t .entry)) (q .0) (now (images .entry)) ⌝ }
-{
-    root(t, p, at, given(t, m, p, at, images, q, row))
 }

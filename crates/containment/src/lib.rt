@@ -1,8 +1,11 @@
 // Embeddings of the first pattern into the summary (document 01: placements), stepped and judged by masks, nothing laid out.
 
+mod alternatives;
+mod join;
 mod judge;
 mod masks;
 mod member;
+mod open;
 mod parents;
 mod sets;
 mod skip;

@@ -238,6 +238,15 @@ module _ (test : List ℕ → Bool) (L : ℕ) (xs : List (List ℕ)) where
       go (inr (inl c)) = absurd (not-or-stopped (judge test L xs) (has-not (c .0) (c .1)) (n, e))
       go (inr (inr c)) = (cc (e, stopped-judge test L xs c), c)
 
+-- a trial that fails with a limit fails with any larger one
+pub run-longer : (test : List ℕ → Bool) (L M : ℕ) (xs : List (List ℕ)) (n : ℕ) (es : List ℕ) → L ≤ M → run test (going L 0) xs ≡ failed n es → run test (going M 0) xs ≡ failed n es
+unfolding judge conclude
+run-longer test L M xs n es h e =
+    let c = judge-not-included test L xs n es (ap conclude e) in
+    ap (run test (going M 0)) (c .0 .split)
+    ∙ run-fail test M 0 (c .0 .before) (c .0 .after) es (c .0 .pass) (c .0 .fails) (omega (arith, c .0 .within))
+    ∙ ap (λ (m : ℕ). failed (suc m) es) (zero-add (length (c .0 .before))) ∙ ap (λ (m : ℕ). failed m es) (sym (c .1))
+
 -- ---- which verdict it is
 
 -- an element with fewer than L before it is one of the first L

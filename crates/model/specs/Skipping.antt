@@ -1,18 +1,15 @@
--- Skipping: of a partial placement, what each of its completions offers at least, how many there are, and a test under which all
--- of them surely pass. proofs/Skipping.antt shows that the run over them then only advances the counters: code is promised against
--- these, and no outcome of a call and no demand is stated with them. `places c x` lists the places of first-pattern node c where its
--- parent stands at x.
+-- Skipping: the completions of a partial placement, how many there are, and the run over them where all pass. proofs/Skipping.antt
+-- shows that this run only advances the counters: code is promised against these, and no outcome of a call and no demand is stated with
+-- them. `places c x` lists the places of first-pattern node c where its parent stands at x.
 use Prim.Native.Nat.{ℕ, zero, suc, _+_, _-_, _*_}
-use mathlib.Core.Bool.{Bool, true, false, _&&_}
+use mathlib.Core.Bool.{true, false, _&&_}
 use mathlib.Core.List.{List, [], _∷_, _++_, flatMap}
 use lib.Dec.{eqb, ltb}
 use lib.ListN.{length}
-use Rattle.model.specs.Lists.{upFrom, keep, anyOf, allOf}
+use Rattle.model.specs.Lists.{upFrom, keep}
 use Rattle.model.specs.Summary.{Summary, asDocument}
-use Rattle.model.specs.Pattern.{Pattern, descends, position}
+use Rattle.model.specs.Pattern.{Pattern, descends}
 use Rattle.model.specs.Embeddings.{edgeTest, imageIn, isPath}
-use Rattle.model.specs.Canonical.{chain}
-use Rattle.model.specs.Quick.{hangsFrom, meets, base, union, hang}
 use Rattle.model.specs.Verdict.{Progress, going, halted}
 
 -- the places of node c from x: the paths of c that its edge reaches
@@ -55,33 +52,3 @@ waysLeft m parent places q es = productOf (λ c. ways m parent places c (imageIn
 -- the run over n trials that all pass: they are counted, or the limit is met among them
 unfoldable pub skip : ℕ → ℕ → ℕ → Progress
 skip left tried n = elim (ltb left n) [ true ↦ halted (tried + left) | false ↦ going (left - n) (tried + n) ]
-
--- ---- what they offer at least
-
--- what node c and all below it offer to the node on x, wherever they are placed below it, at most n levels deep; where c has no
--- place this is everything, but there is no completion then
-unfoldable pub lowIn : ℕ → Summary → Pattern → Pattern → (ℕ → ℕ → List ℕ) → ℕ → ℕ → ℕ → Bool
-lowIn zero S P Q places c x p = false
-lowIn (suc n) S P Q places c x p =
-    allOf (λ y. hang S Q (position P c) (λ r. anyOf (λ d. hangsFrom P c d && lowIn n S P Q places d y r) (upFrom 0 (length P))) (chain S x y) p) (places c x)
-
-unfoldable pub low : Summary → Pattern → Pattern → (ℕ → ℕ → List ℕ) → ℕ → ℕ → ℕ → Bool
-low S P Q = lowIn (length P) S P Q
-
--- what hangs at least from node j, after the images es of the first q nodes: the chains of its placed children, and of the others
--- what they offer wherever they are placed, at most n levels deep
-unfoldable pub sureIn : ℕ → Summary → Pattern → Pattern → (ℕ → ℕ → List ℕ) → ℕ → List ℕ → ℕ → ℕ → Bool
-sureIn zero S P Q places q es j p = false
-sureIn (suc n) S P Q places q es j p =
-    anyOf (λ c. hangsFrom P j c
-    && (elim (ltb c q) [
-      | true ↦ hang S Q (position P c) (sureIn n S P Q places q es c) (chain S (imageIn es j) (imageIn es c)) p
-      | false ↦ ltb j q && low S P Q places c (imageIn es j) p
-    ])) (upFrom 0 (length P))
-
-unfoldable pub sure : Summary → Pattern → Pattern → (ℕ → ℕ → List ℕ) → ℕ → List ℕ → ℕ → ℕ → Bool
-sure S P Q = sureIn (length P) S P Q
-
--- every completion surely passes: the member's root meets at the root by what hangs from it at least
-unfoldable pub surely : Summary → Pattern → Pattern → (ℕ → ℕ → List ℕ) → ℕ → List ℕ → Bool
-surely S P Q places q es = meets S Q 0 (position P 0) (union (base S Q) (sure S P Q places q es 0)) 0
