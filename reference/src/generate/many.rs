@@ -1,13 +1,15 @@
 //! Verdicts over very many placements, each trial of few nodes: up to the
 //! limit, exactly at it and one past it; one failing placement far down, and
 //! many behind a long run that passes; all passing, at different places or
-//! through different members by turns.
+//! through different members by turns; passing by turns up to a failure at the
+//! first rank, in the middle, at the limit and one past it.
 
 use super::cases;
 use super::plan::{least_length, OutlineRow, Plan, SelectionRow};
 use super::prng::Prng;
 use super::sets;
 use super::trees;
+use super::turns::{turns, Rank};
 use crate::records::SET_SELECTIONS;
 use crate::vectors::{Vector, VERDICT};
 
@@ -18,7 +20,8 @@ const ANY: u16 = 0;
 const CHILD: u16 = 0;
 const DESCENDANT: u16 = 1;
 
-/// The cases that are always the same, and `count` random ones.
+/// The cases that are always the same, six by turns for each size of a set, and
+/// `count` random ones.
 pub fn many(seed: u64, count: usize) -> Vec<Vector> {
     let mut prng = Prng::new(seed);
     let fixed = [
@@ -43,8 +46,49 @@ pub fn many(seed: u64, count: usize) -> Vec<Vector> {
         (alternating(9, 5), LIMIT),
     ];
     let fixed = fixed.into_iter().map(|(plan, limit)| verdict(plan, limit));
-    let random = (0..count).map(|_| drawn(&mut prng));
-    fixed.chain(random).collect()
+    let sizes = (1..=SET_SELECTIONS).flat_map(|members| at_ranks(&mut prng, members));
+    let mut all: Vec<Vector> = fixed.chain(sizes).collect();
+    all.extend((0..count).map(|_| drawn(&mut prng)));
+    all
+}
+
+/// With the greatest limit: failing at the first rank, in the middle, at the
+/// limit, and past it, which is stopped; all passing, as many as the limit
+/// allows, and more.
+fn at_ranks(prng: &mut Prng, members: usize) -> Vec<Vector> {
+    let ranks = [
+        Rank::One(LIMIT),
+        Rank::Middle(LIMIT),
+        Rank::Limit,
+        Rank::PastLimit,
+    ];
+    let mut plans: Vec<Plan> = ranks.map(|rank| turns(prng, members, rank).plan()).into();
+    for rank in [Rank::Middle(300_000), Rank::PastLimit] {
+        plans.push(turns(prng, members, rank).passing().plan());
+    }
+    plans.into_iter().map(|plan| verdict(plan, LIMIT)).collect()
+}
+
+/// By turns, with any number of members, over some thousand placements; a
+/// limit at the failing rank or the number of placements, next to it, or any.
+fn drawn_turns(prng: &mut Prng) -> Vector {
+    let members = prng.between(1, SET_SELECTIONS);
+    let most = [2_000, 20_000, 100_000][prng.below(3)];
+    let made = turns(prng, members, Rank::Middle(most));
+    let made = if prng.percent(30) {
+        made.passing()
+    } else {
+        made
+    };
+    let decisive = made.rank().unwrap_or(made.total());
+    let limit = [
+        decisive - 1,
+        decisive,
+        decisive + 1,
+        1 + prng.draw() % most,
+        LIMIT,
+    ];
+    verdict(made.plan(), limit[prng.below(5)])
 }
 
 fn verdict(plan: Plan, limit: u64) -> Vector {
@@ -59,12 +103,12 @@ fn verdict(plan: Plan, limit: u64) -> Vector {
 
 /// Some 3,000 to 1,000,000 placements in blocks or with one that fails, and a
 /// limit near their number or far above it; or other cases up to a limit that
-/// the reference reaches soon.
+/// the reference reaches soon; every other one by turns.
 fn drawn(prng: &mut Prng) -> Vector {
     let (most, nodes) = [(31, 3), (31, 4), (15, 5), (10, 6), (5, 8)][prng.below(5)];
     let width = prng.between(most * 2 / 3, most);
     let soon = 1 + prng.draw() % 30_000;
-    let plan = match prng.below(10) {
+    let plan = match prng.below(20) {
         0 | 1 => one_without(width, nodes, prng.below(width)),
         2 | 3 => two_blocks(width, prng.between(1, 4), nodes),
         4 => star(width, nodes),
@@ -72,7 +116,8 @@ fn drawn(prng: &mut Prng) -> Vector {
         6 => return verdict(by_turns(prng), soon),
         7 => member_each(width, nodes),
         8 => return verdict(alternating(width, nodes), soon),
-        _ => return verdict(cases::many(prng), soon),
+        9 => return verdict(cases::many(prng), soon),
+        _ => return drawn_turns(prng),
     };
     let all = (width as u64).pow(nodes as u32);
     let limit = [all - 1, all, all + 1, 1 + prng.draw() % all, LIMIT][prng.below(5)];

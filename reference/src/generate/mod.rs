@@ -2,7 +2,8 @@
 //! `changes` has every way to break a question, `boundaries` applies them
 //! singly and in pairs, `trees` draws outlines, selections and volumes, `sets`
 //! draws sets, and `random`, `cases` and `layouts` put them together; `many` has
-//! verdicts over very many placements.
+//! verdicts over very many placements, and `turns` those of them that pass by
+//! turns and fail at a rank that is chosen.
 
 mod boundaries;
 mod cases;
@@ -16,6 +17,7 @@ mod prng;
 mod random;
 mod sets;
 mod trees;
+mod turns;
 
 pub use boundaries::{boundaries, stored};
 pub use cases::cases;
