@@ -71,15 +71,14 @@ fn at_ranks(prng: &mut Prng, members: usize) -> Vec<Vector> {
 
 /// By turns, with any number of members, over some thousand placements; a
 /// limit at the failing rank or the number of placements, next to it, or any.
+/// Every other one has leaves that overlap, or that leave something out.
 fn drawn_turns(prng: &mut Prng) -> Vector {
     let members = prng.between(1, SET_SELECTIONS);
     let most = [2_000, 20_000, 100_000][prng.below(3)];
-    let made = turns(prng, members, Rank::Middle(most));
-    let made = if prng.percent(30) {
-        made.passing()
-    } else {
-        made
-    };
+    let mut made = turns(prng, members, Rank::Middle(most));
+    if prng.percent(30) {
+        made = made.passing();
+    }
     let decisive = made.rank().unwrap_or(made.total());
     let limit = [
         decisive - 1,
@@ -88,7 +87,16 @@ fn drawn_turns(prng: &mut Prng) -> Vector {
         1 + prng.draw() % most,
         LIMIT,
     ];
-    verdict(made.plan(), limit[prng.below(5)])
+    let limit = limit[prng.below(5)];
+    if prng.percent(50) {
+        for _ in 0..prng.between(1, 4) {
+            made = made.widened(prng);
+        }
+        if prng.percent(60) {
+            made = made.crossed(prng);
+        }
+    }
+    verdict(made.plan(), limit)
 }
 
 fn verdict(plan: Plan, limit: u64) -> Vector {

@@ -130,6 +130,33 @@ impl Turns {
         }
     }
 
+    /// A leaf asks for one class less: what passed still does, and some of it
+    /// through several members.
+    pub fn widened(mut self, prng: &mut Prng) -> Turns {
+        let leaf = prng.below(self.leaves.len());
+        let path = &mut self.leaves[leaf];
+        if !path.is_empty() {
+            path.remove(prng.below(path.len()));
+        }
+        self
+    }
+
+    /// A leaf asks for another class of a decider: where trials fail then, only
+    /// judging tells.
+    pub fn crossed(mut self, prng: &mut Prng) -> Turns {
+        let leaf = prng.below(self.leaves.len());
+        let place = prng.below(self.leaves[leaf].len());
+        if let Some(turn) = self.leaves[leaf].get_mut(place) {
+            let classes = self.slots.iter().filter_map(|slot| match slot {
+                Slot::Decider { number, classes } if *number == turn.0 => Some(classes),
+                _ => None,
+            });
+            let classes: Vec<usize> = classes.flatten().copied().collect();
+            turn.1 = prng.one_of(&classes).copied().unwrap_or(turn.1);
+        }
+        self
+    }
+
     pub fn plan(&self) -> Plan {
         let mut tables = Tables::new(self);
         for slot in &self.slots {
@@ -625,6 +652,28 @@ mod tests {
                 assert_eq!(kind.unwrap_or(NOT_INCLUDED), NOT_INCLUDED);
             }
         });
+    }
+
+    #[test]
+    fn wider_leaves_pass_what_passed() {
+        let mut prng = Prng::new(8);
+        each(Rank::Middle(600), |_, turns| {
+            let wider = turns.passing().widened(&mut prng);
+            let total = wider.total();
+            assert_eq!(judged(&wider.plan(), total), (INCLUDED, total));
+        });
+    }
+
+    #[test]
+    fn crossed_leaves_fail_now_and_then() {
+        let mut prng = Prng::new(9);
+        let mut failed = 0;
+        each(Rank::Middle(600), |_, turns| {
+            let crossed = turns.passing().crossed(&mut prng);
+            let (kind, _) = judged(&crossed.plan(), LIMIT);
+            failed += u32::from(kind == NOT_INCLUDED);
+        });
+        assert!((10..60).contains(&failed), "{failed}");
     }
 
     /// Judging these takes too long here; `tests/compare` does.

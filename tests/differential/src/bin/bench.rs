@@ -1,7 +1,7 @@
 //! `bench [ROUNDS]`: the library and the reference, timed on the same calls in the same run; prints a
 //! table in Markdown. Each time is the least of ROUNDS (default 15), the two taking turns; a round
-//! repeats the call for 4 ms at least. Sets have one member; where a row has the same with a set of
-//! eight, the next one has it, and how much longer the library takes.
+//! repeats the call for 4 ms at least. Sets have one member; where a row has the same with a larger set,
+//! those that follow have it, and how much longer the library takes.
 
 #![forbid(unsafe_code)]
 
@@ -24,7 +24,7 @@ fn main() -> ExitCode {
         eprintln!("usage: bench [ROUNDS]");
         return ExitCode::from(2);
     };
-    println!("| call | input | library | reference | ratio | eight to one |");
+    println!("| call | input | library | reference | ratio | to one |");
     println!("|---|---|---:|---:|---:|---:|");
     let mut one = f64::NAN;
     for row in rows() {
@@ -33,9 +33,10 @@ fn main() -> ExitCode {
             return ExitCode::FAILURE;
         }
         let (ours, theirs) = row.timed(rounds);
-        let to_one = if row.eight {
+        let to_one = if row.larger {
             format!("{:.1}", ours / one)
         } else {
+            one = ours;
             String::new()
         };
         println!(
@@ -46,10 +47,9 @@ fn main() -> ExitCode {
             written(theirs),
             theirs / ours
         );
-        one = ours;
     }
     println!();
-    println!("Each time is one call's mean in the best of {rounds} rounds, library and reference taking turns. Buffers and tables are allocated once and lent again as the last call left them; nothing is cleared beforehand, no cache either. Eight to one is the library's time beside that of the row above, whose set has one member. Unless another thing is said, seven of eight members end in a label that is nowhere, and the last is the one of the row above.");
+    println!("Each time is one call's mean in the best of {rounds} rounds, library and reference taking turns. Buffers and tables are allocated once and lent again as the last call left them; nothing is cleared beforehand, no cache either. To one is the library's time beside that of the nearest row above whose set has one member. Unless another thing is said, seven of eight members end in a label that is nowhere, and the last is the one of that row.");
     ExitCode::SUCCESS
 }
 
@@ -68,8 +68,8 @@ struct Row {
     call: &'static str,
     input: String,
     vectors: Vec<Vector>,
-    /// Whether it is the row before with a set of eight.
-    eight: bool,
+    /// Whether it is the nearest row before that is not, with a larger set.
+    larger: bool,
 }
 
 impl Row {
@@ -194,13 +194,13 @@ fn row(call: &'static str, input: &str, vectors: Vec<Vector>) -> Row {
         call,
         input: input.to_string(),
         vectors,
-        eight: false,
+        larger: false,
     }
 }
 
-fn eight_row(call: &'static str, input: &str, vectors: Vec<Vector>) -> Row {
+fn larger_row(call: &'static str, input: &str, vectors: Vec<Vector>) -> Row {
     Row {
-        eight: true,
+        larger: true,
         ..row(call, input, vectors)
     }
 }
@@ -211,7 +211,7 @@ fn both(call: &'static str, input: &str, vectors: Vec<Vector>) -> [Row; 2] {
     let input_of_eight = format!("{input}, a set of eight");
     [
         row(call, input, vectors),
-        eight_row(call, &input_of_eight, eight),
+        larger_row(call, &input_of_eight, eight),
     ]
 }
 
@@ -313,51 +313,70 @@ fn verdicts() -> Vec<Row> {
     let mut nowhere = star(14, 1);
     nowhere.push([0, 60_000, 1, 0]);
     let none = vec![verdict(case(&line(0), &nowhere, &[star(0, 1)]), 1_000)];
-    [
-        both(
-            "verdict",
-            "E6: 2 trials of 3 nodes",
-            vec![verdict(e6, 1_000_000)],
-        ),
-        both(
-            "verdict",
-            "1,000 trials of 946 nodes",
-            vec![verdict(in_itself(&line(1), star(15, 1)), 1_000)],
-        ),
-        both(
-            "verdict",
-            "1,000 trials of few nodes, one below another",
-            vec![verdict(in_itself(&line(0), chain(15)), 1_000)],
-        ),
-        by_turns(),
-        both("verdict", "63^14 partial placements, none whole", none),
-    ]
-    .into_iter()
-    .flatten()
-    .collect()
+    let mut rows = Vec::new();
+    rows.extend(both(
+        "verdict",
+        "E6: 2 trials of 3 nodes",
+        vec![verdict(e6, 1_000_000)],
+    ));
+    rows.extend(both(
+        "verdict",
+        "1,000 trials of 946 nodes",
+        vec![verdict(in_itself(&line(1), star(15, 1)), 1_000)],
+    ));
+    rows.extend(both(
+        "verdict",
+        "1,000 trials of few nodes, one below another",
+        vec![verdict(in_itself(&line(0), chain(15)), 1_000)],
+    ));
+    rows.extend(by_turns("6 nodes", &flat(8), [[0, 0, 0, 0]; 3].to_vec()));
+    rows.extend(by_turns("some 600 nodes", &line(0)[..55], low()));
+    rows.extend(both(
+        "verdict",
+        "63^14 partial placements, none whole",
+        none,
+    ));
+    rows
 }
 
-/// 1,000 trials of 6 nodes, the last at one of eight children of x. One member asks for any child of x;
-/// of eight each asks for another, so that trial by trial another one passes.
-fn by_turns() -> [Row; 2] {
-    const X: u16 = 9;
-    let mut summary = vec![[0, 1, 0], [0, X, 0]];
-    summary.extend((0..8).map(|child| [0, 20 + child, 0]));
-    summary.extend((0..8).map(|child| [1, 10 + child, 0]));
+/// A root and so many children.
+fn flat(children: u16) -> Vec<[u16; 3]> {
+    let mut summary = vec![[0, 1, 0]];
+    summary.extend((0..children).map(|child| [0, 20 + child, 0]));
+    summary
+}
+
+/// Nodes at the bottom of a line of 55, and some that are free.
+fn low() -> Vec<[u16; 4]> {
+    [[[0, 55, 1, 0]; 10].to_vec(), [[0, 0, 1, 0]; 3].to_vec()].concat()
+}
+
+/// 1,000 trials over a summary, in which the first pattern has these nodes and a last one, at any child
+/// of x. One member asks for any of these children; of two, four and eight each asks for another, so
+/// that trial by trial another one passes.
+fn by_turns(nodes: &str, summary: &[[u16; 3]], below_root: Vec<[u16; 4]>) -> Vec<Row> {
+    const X: u16 = 900;
+    const CHILD: u16 = 910;
+    let x = summary.len() as u16;
     let mut first = vec![[0, 1, 0, 1]];
-    first.extend([[0, 0, 0, 0]; 3]);
-    first.extend([[0, X, 0, 0], [4, 0, 0, 0]]);
+    first.extend(below_root);
+    let above = first.len() as u16;
+    first.extend([[0, X, 0, 0], [above, 0, 0, 0]]);
     let asking = |label: u16| vec![[0, 1, 0, 1], [0, X, 0, 0], [1, label, 0, 0]];
-    let each: Vec<Vec<[u16; 4]>> = (0..8).map(|child| asking(10 + child)).collect();
-    let over = |set: &[Vec<[u16; 4]>]| vec![verdict(case(&summary, &first, set), 1_000)];
-    [
-        row("verdict", "1,000 trials of 6 nodes", over(&[asking(0)])),
-        eight_row(
-            "verdict",
-            "1,000 trials of 6 nodes, through eight members by turns",
-            over(&each),
-        ),
-    ]
+    let over = |children: u16, set: &[Vec<[u16; 4]>]| {
+        let mut summary = summary.to_vec();
+        summary.push([0, X, 0]);
+        summary.extend((0..children).map(|child| [x, CHILD + child, 0]));
+        vec![verdict(case(&summary, &first, set), 1_000)]
+    };
+    let input = format!("1,000 trials of {nodes}");
+    let mut rows = vec![row("verdict", &input, over(8, &[asking(0)]))];
+    for members in [2, 4, 8] {
+        let each: Vec<Vec<[u16; 4]>> = (0..members).map(|child| asking(CHILD + child)).collect();
+        let input = format!("{input}, through {members} members by turns");
+        rows.push(larger_row("verdict", &input, over(members, &each)));
+    }
+    rows
 }
 
 /// Calls on documents of 1,024 nodes, with patterns of 16 nodes.
@@ -422,6 +441,11 @@ fn drawn() -> Vec<Row> {
         alone(layouts(1, 200)),
     )];
     rows.extend(both("verdict", "80 near the limits", alone(cases(1, 80))));
+    rows.push(row(
+        "verdict",
+        "80 near the limits, sets as they are drawn",
+        cases(1, 80),
+    ));
     rows.extend(both("all six", "1,000 random", alone(random(1, 1_000))));
     rows.push(row(
         "all six",
