@@ -26,8 +26,10 @@ use std::time::{Duration, Instant};
 const LIMIT: u64 = 1_000_000;
 /// So many trials the reference lays out soon, whatever their size.
 const FEW: u64 = 300;
-/// So many alterations one after another that all took less: the climb is over.
-const PATIENCE: u32 = 300;
+/// So many alterations one after another that all took less, or so much time in which they did: the
+/// climb is over.
+const PATIENCE: u32 = 600;
+const PATIENCE_TIME: Duration = Duration::from_secs(15);
 /// Drawn cases to begin from.
 const DRAWN: usize = 60;
 
@@ -162,25 +164,26 @@ impl Search {
     /// Alters a case as long as that makes its verdict slower now and then.
     fn climb(&mut self, start: Found) -> Result<(), String> {
         let mut best = start;
-        let mut left = PATIENCE;
-        while left > 0 && self.goes_on() {
+        let (mut left, mut since) = (PATIENCE, Instant::now());
+        while left > 0 && since.elapsed() < PATIENCE_TIME && self.goes_on() {
             let mut rows = best.rows.clone();
-            let alterations = [1, 1, 2, 4][self.prng.below(4)];
-            for _ in 0..alterations {
+            for _ in 0..[1, 1, 2, 4][self.prng.below(4)] {
                 rows.alter(&mut self.prng);
             }
             left -= 1;
-            let Some(mut found) = self.judged(&best.start, rows) else {
+            let Some(found) = self.judged(&best.start, rows) else {
                 continue;
             };
-            if found.took > best.took {
-                found.took = found.took.min(self.again(&found));
-            }
             // As slow as before is kept too: it may lead on.
-            if found.took > best.took.mul_f64(0.99) && found.rows != best.rows {
-                if found.took > best.took.mul_f64(1.02) {
-                    left = PATIENCE;
-                }
+            let slow = best.took.mul_f64(0.99);
+            if found.took < slow || found.rows == best.rows {
+                continue;
+            }
+            let found = self.settled(found);
+            if found.took > best.took.mul_f64(1.02) {
+                (left, since) = (PATIENCE, Instant::now());
+            }
+            if found.took > slow {
                 best = self.kept(found)?;
             }
         }
@@ -190,7 +193,10 @@ impl Search {
     /// A case to begin from, `None` where it is refused.
     fn tried(&mut self, name: &str, rows: Rows) -> Result<Option<Found>, String> {
         match self.judged(name, rows) {
-            Some(found) => self.kept(found).map(Some),
+            Some(found) => {
+                let found = self.settled(found);
+                self.kept(found).map(Some)
+            }
             None => Ok(None),
         }
     }
@@ -206,10 +212,12 @@ impl Search {
         })
     }
 
-    /// The least of two more calls: what else ran on the machine is no part of it.
-    fn again(&mut self, found: &Found) -> Duration {
-        let first = self.verdict(&found.rows).0;
-        first.min(self.verdict(&found.rows).0)
+    /// With the least time of two more calls: what else ran on the machine is no part of it.
+    fn settled(&mut self, mut found: Found) -> Found {
+        for _ in 0..2 {
+            found.took = found.took.min(self.verdict(&found.rows).0);
+        }
+        found
     }
 
     fn verdict(&mut self, rows: &Rows) -> (Duration, ffi::VerdictAnswer) {
