@@ -24,8 +24,10 @@ use std::process::ExitCode;
 use std::time::{Duration, Instant};
 
 const LIMIT: u64 = 1_000_000;
-/// So many trials the reference lays out soon, whatever their size.
+/// So many trials the reference lays out soon, whatever their size; and so many within seconds, for the
+/// worst.
 const FEW: u64 = 300;
+const SOME: u64 = 5_000;
 /// So many alterations one after another that all took less, or so much time in which they did: the
 /// climb is over.
 const PATIENCE: u32 = 600;
@@ -230,22 +232,23 @@ impl Search {
 
     /// Holds a case to the reference, and says so where it is the worst so far.
     fn kept(&mut self, found: Found) -> Result<Found, String> {
-        self.held(&found).map_err(|what| {
-            format!("{what}\ncase, in hexadecimal: {}", hex(&found.rows.bytes()))
-        })?;
-        let worst = self
-            .worst
-            .as_ref()
-            .map_or(Duration::ZERO, |worst| worst.took);
-        if found.took > worst {
+        let worst = self.worst.as_ref().map(|worst| worst.took);
+        let is_worst = worst.is_none_or(|worst| found.took > worst);
+        self.held(&found, if is_worst { SOME } else { FEW })
+            .map_err(|what| {
+                format!("{what}\ncase, in hexadecimal: {}", hex(&found.rows.bytes()))
+            })?;
+        if is_worst {
             println!("{}", found.words());
             self.worst = Some(found.clone());
         }
         Ok(found)
     }
 
-    fn held(&mut self, found: &Found) -> Result<(), String> {
-        let limit = if found.tried <= FEW { LIMIT } else { FEW };
+    /// All trials are the reference's where they are no more than so many; else the first ones are, and
+    /// pass.
+    fn held(&mut self, found: &Found, most: u64) -> Result<(), String> {
+        let limit = if found.tried <= most { LIMIT } else { most };
         let vector = Vector {
             call: VERDICT,
             limit,
@@ -254,13 +257,14 @@ impl Search {
             ..Vector::default()
         };
         let answered = compare(&vector, &mut self.loans)?;
-        if limit == LIMIT && (answered.value, answered.size) != (found.kind, found.tried) {
-            return Err("two calls on one case differ".to_string());
-        }
-        if limit < LIMIT && (answered.value, answered.size) != (ffi::STOPPED, limit) {
+        let expected = if limit == LIMIT {
+            (found.kind, found.tried)
+        } else {
+            (ffi::STOPPED, limit)
+        };
+        if (answered.value, answered.size) != expected {
             return Err(format!(
-                "{} were tried, but {limit} don't pass",
-                found.tried
+                "{answered:?} with limit {limit}, {expected:?} expected"
             ));
         }
         if found.kind == ffi::NOT_CONTAINED {
