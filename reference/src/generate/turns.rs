@@ -360,7 +360,7 @@ pub enum Rank {
 const LIMIT: u64 = 1_000_000;
 
 /// Most draws come out within a few hundred tries.
-const TRIES: usize = 1_000_000;
+const TRIES: usize = 100_000;
 
 /// A decision tree with so many members, and the rank that fails.
 pub fn turns(prng: &mut Prng, members: usize, rank: Rank) -> Turns {
@@ -587,7 +587,10 @@ const SHARED: [(usize, usize); 12] = [
 /// So many factors, from 2 to 25, of one number divided by another.
 fn factors(prng: &mut Prng, number: u64, by: u64, count: usize) -> Option<Vec<usize>> {
     let allowed = 2..=25u64;
-    let mut left = (number % by == 0).then_some(number / by)?;
+    let mut left = number / by;
+    if left * by != number {
+        return None;
+    }
     let mut drawn = Vec::new();
     for _ in 1..count {
         let divisors: Vec<u64> = allowed.clone().filter(|d| left % d == 0).collect();
