@@ -23,6 +23,7 @@ use Rattle.containment.specs.Blocks.{cell, childIn, belowIn, partIn, can
 use Rattle.containment.specs.Prepared.{Made}
 use Rattle.containment.specs.Skipping.{PlacedBy}
 use Rattle.containment.specs.Stepping.{Candidates, members, reachBy, placesBy}
+use Rattle.containment.proofs.JoinLaws.{none-inside}
 use Rattle.containment.proofs.MaskMembers.{members-none, first-left, rest-less}
 use Rattle.containment.proofs.Offered.{child-inside, toward, offered-given, own-offered, below-offered}
 use Rattle.containment.proofs.StepLoop.{reach-far}
@@ -61,19 +62,6 @@ pub not-top : {A B : Type 0} → A ⊎ ((false ≡ true) × B) → A
 not-top (inl a) = a
 not-top (inr m) = absurd (false≢true (m .0))
 
--- nothing is always offered
-pub none-inside : {n : ℕ} {f : ℕ → ℕ → Bool} → Inside n (replicate 8 0) f
-none-inside {n} {f} =
-    record { each = λ i p h e. absurd (not-both (has (getD {A = ℕ} (replicate 8 0) i 0) p) e (ap (λ (x : ℕ). has x p) (zeros i (ltb i 8) refl) ∙ has-none p)) }
-  where
-    zeros : (i : ℕ) → (b : Bool) → ltb i 8 ≡ b → getD {A = ℕ} (replicate 8 0) i 0 ≡ 0
-    zeros i true l = getD-replicate {A = ℕ} 8 i 0 0 (ltb-true i 8 l)
-    zeros i false l =
-        let e : length {A = ℕ} (replicate 8 0) ≡ 8 = length-replicate {A = ℕ} 8 0 in
-        let h : 8 ≤ i = ltb-false i 8 l in
-        let k : length {A = ℕ} (replicate 8 0) ≤ i = omega arith in
-        List·getD-eq-default (replicate 8 0) 0 k
-
 -- the list covers whatever the children of node c at y do, as far as they are known
 pub record Owning (n : ℕ) (alts : List (List ℕ)) (P : Pattern) (c y : ℕ) (list : List (List ℕ)) (count : ℕ) : Type 0 where
   pub few : count ≤ 64
@@ -86,9 +74,6 @@ module _ {n : ℕ} {alts : List (List ℕ)} {P : Pattern} {c y : ℕ} where
   pub owning-step : {list after : List (List ℕ)} {count r d : ℕ} → Owning n alts P c y list count → c < d → d < length P
       → (r ≤ 64) × ((f : ℕ → ℕ → Bool) → Among n list count f → (patternParent P d ≡ c → Entry n alts d y f) → Among n after r f) → Owning n alts P c y after r
   owning-step {d = d} v h l a = record { few = a .0; covers = λ f e. a .1 f (v .covers f e) (e d h l) }
-
-pub none-among : {n : ℕ} {f : ℕ → ℕ → Bool} → Among n (replicate 1 (replicate 8 0)) 1 f
-none-among = record { row = 0; few = omega arith; inside = none-inside }
 
 -- what is raised at the same position
 pub raises-at : {n : ℕ} (ts : List (List ℕ)) (x : ℕ) {k j : ℕ} {g f : ℕ → ℕ → Bool} → k ≡ j → Raises n (nodeOf ts x j) g f → Raises n (nodeOf ts x k) g f

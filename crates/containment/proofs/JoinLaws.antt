@@ -6,11 +6,15 @@ use mathlib.Core.Bool.{Bool, true, false}
 use mathlib.Core.Logic.{_⊎_, inl, inr, ⊎-elim}
 use mathlib.Core.List.{List, []}
 use native.Mathlib.Omega.{arith}
-use lib.ListN.{length, getD, set, take, length-set}
+use lib.Dec.{ltb}
+use lib.ListN.{length, getD, set, take, replicate, length-set, length-replicate, getD-replicate, List·getD-eq-default}
 use lib.Seq.{getD-set-same, getD-set-other, getD-take, length-take-le}
 use borrow.Author.Count.{below-more}
+use borrow.Author.Tests.{ltb-true, ltb-false}
 use Rattle.model.specs.Lists.{has}
 use Rattle.model.specs.Pattern.{Pattern}
+use Rattle.model.proofs.ListLaws.{not-both}
+use Rattle.bits.proofs.MaskLaws.{has-none}
 use Rattle.cover.specs.Cover.{Inside, Among}
 use Rattle.containment.specs.Alternatives.{RowBy, Raises, Met, Grown, Copied}
 
@@ -151,3 +155,16 @@ among-copy {n} {count} {sets} {copy} {f} c s =
 -- and so does its front
 pub among-front : {n count : ℕ} {sets : List (List ℕ)} {f : ℕ → ℕ → Bool} → count ≤ length sets → Among n sets count f → Among n (take count sets) (length (take count sets)) f
 among-front h = among-copy (record { room = h; rows = λ k l. refl })
+
+-- nothing is always offered
+pub none-inside : {n : ℕ} {f : ℕ → ℕ → Bool} → Inside n (replicate 8 0) f
+none-inside {n} {f} =
+    record { each = λ i p h e. absurd (not-both (has (getD {A = ℕ} (replicate 8 0) i 0) p) e (ap (λ (x : ℕ). has x p) (zeros i (ltb i 8) refl) ∙ has-none p)) }
+  where
+    zeros : (i : ℕ) → (b : Bool) → ltb i 8 ≡ b → getD {A = ℕ} (replicate 8 0) i 0 ≡ 0
+    zeros i true l = getD-replicate {A = ℕ} 8 i 0 0 (ltb-true i 8 l)
+    zeros i false l =
+        let e : length {A = ℕ} (replicate 8 0) ≡ 8 = length-replicate {A = ℕ} 8 0 in
+        let h : 8 ≤ i = ltb-false i 8 l in
+        let k : length {A = ℕ} (replicate 8 0) ≤ i = omega arith in
+        List·getD-eq-default (replicate 8 0) 0 k

@@ -1,6 +1,7 @@
 // The table of alternatives, made once a case: of each node of the first pattern and each summary node above its places, sets over all
 // members' nodes of which at least one is offered, wherever the node and all below it are placed.
 
+use crate::join::add_bare;
 use crate::join::add_raised;
 use crate::join::copy_sets;
 use crate::join::join;
@@ -8,6 +9,7 @@ use crate::masks::Masks;
 use crate::masks::cell;
 use crate::masks::children;
 use crate::masks::descendants;
+use crate::masks::last;
 use crate::masks::part;
 use crate::member::Member;
 use crate::sets::without;
@@ -19,6 +21,7 @@ use cover::offers::Offer;
 use cover::offers::common;
 use cover::offers::inside;
 use format::field::wide;
+use format::field::wide64;
 use format::nodes::PatternNode;
 use format::nodes::SummaryNode;
 use format::pattern::pattern_count;
@@ -200,14 +203,13 @@ fn add_below(
 {
     let k = many_at(alts, c, y);
     if k == 0 {
-        let none = [[0u16; 8]; 1];
-        return add_raised(t, y, 0, &none, list, count);
+        return add_bare(t, y, 0, list, count);
     }
     let s = start_at(alts, c, y);
     add_raised(t, y, 0, &alts[s..s + k], list, count)
 }
 
-// With what node c offers to the node above y where it stands at y, if y is one of its paths.
+// With what node c offers to the node above y where it stands at y, if y is one of its paths. From a leaf nothing hangs.
 fn own_part(
     t: &[Member],
     m: &Masks,
@@ -225,6 +227,9 @@ fn own_part(
         × Covered (now (t .entry)) (now (m .entry)) (patternAt (now (p .entry)) at) (c .0) (y .0) (At (y .0)) (now (list .exit)) r ⌝ }
 {
     if has64(part(m, c), y.0) {
+        if last(m, c) == wide64(c.0) {
+            return add_bare(t, y, pattern_position(p, at, c), list, count);
+        }
         return add_own(t, alts, p, at, c, y, list, count);
     }
     count
@@ -414,7 +419,8 @@ fn matters(m: &Masks, p: &[u8], at: usize, c: PatternNode, x: SummaryNode) -> bo
     has64(part(m, pattern_parent(p, at, c)), x.0)
 }
 
-// The cell of node c and x is filled, by those of its children and by those of c below x. How many rows are then used.
+// The cell of node c and x is filled, by those of its children and by those of c below x. How many rows are then used. The list is
+// room, lent so that it is not cleared for every cell.
 fn fill_cell(
     t: &[Member],
     m: &Masks,
@@ -424,6 +430,7 @@ fn fill_cell(
     x: SummaryNode,
     alts: &mut [Offer],
     used: usize,
+    list: &mut List,
 ) -> usize
     requires { ⌜ MembersGiven (now t) (now p) at × PatternGiven (now p) at × Known (now t) (now m) (patternAt (now p) at) (now alts) used ⌝ }
     requires { ⌜ ((R : Made (now t) (now m) (patternAt (now p) at)) × (x .0 < length (R .summary))) × (x .0 < 64) ⌝ }
@@ -433,9 +440,8 @@ fn fill_cell(
     if !matters(m, p, at, c, x) {
         return used;
     }
-    let mut list = [[0u16; 8]; 64];
-    let count = gather(t, m, alts, p, at, c, x, &mut list);
-    store(&list, count, alts, c, x, used)
+    let count = gather(t, m, alts, p, at, c, x, list);
+    store(list, count, alts, c, x, used)
 }
 
 // The cells of node c, of n summary nodes from the last on.
@@ -454,11 +460,12 @@ fn fill_row(
     requires { ⌜ (0 < c .0) × (c .0 < length (patternAt (now p) at)) × (length (now alts) ≤ 4096) ⌝ }
     ensures { λ r. ⌜ Known (now (t .entry)) (now (m .entry)) (patternAt (now (p .entry)) at) (now (alts .exit)) r ⌝ }
 {
+    let mut list = [[0u16; 8]; 64];
     let mut r = used;
     let mut x = n;
     while 0 < x {
         x -= 1;
-        r = fill_cell(t, m, p, at, c, SummaryNode(x), alts, r);
+        r = fill_cell(t, m, p, at, c, SummaryNode(x), alts, r, &mut list);
     }
     r
 }

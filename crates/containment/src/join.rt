@@ -53,6 +53,17 @@ pub fn add_raised(
     r
 }
 
+// The list with what a node on x with position k offers at least: nothing is always offered to it.
+pub fn add_bare(t: &[Member], x: SummaryNode, k: usize, list: &mut List, count: usize) -> usize
+    requires { ⌜ (length (now t) ≤ 8) × (x .0 < 64) × (k < 16) × (count ≤ 64) ⌝ }
+    ensures { λ r. ⌜ Grown (length (now (t .entry))) (now (list .entry)) count (now (list .exit)) r
+        × ((g f : ℕ → ℕ → Bool) → Raises (length (now (t .entry))) (nodeOf (now (t .entry)) (x .0) k) g f
+        → Among (length (now (t .entry))) (now (list .exit)) r f) ⌝ }
+{
+    let none = [0u16; 8];
+    add(list, count, node_row(t, x, k, &none))
+}
+
 // The root of some member meets at the root by these sets.
 pub fn met_by_some(t: &[Member], p: &[u8], at: usize, a: &Offer) -> bool
     requires { ⌜ MembersGiven (now t) (now p) at ⌝ }

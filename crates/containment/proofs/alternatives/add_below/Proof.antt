@@ -3,12 +3,12 @@ use Prim.Native.Nat.{ℕ, _+_, _≤_}
 use native.Mathlib.Omega.{arith}
 use lib.ListN.{length}
 use borrow.Author.Needs.{needs}
-use Rattle.containment.proofs.FillLaws.{entry-room, entry-part, none-among}
+use Rattle.containment.proofs.FillLaws.{entry-room, entry-part}
 use Rattle.containment.proofs.alternatives.add_below.Statement.{statement}
 use Rattle.containment.proofs.alternatives.add_below.Tie as tie
 
 returns : tie.Need-returns
-returns c = let a = c .add-raised .ensures in (a .0, λ g f R e. a .1 g f R none-among)
+returns c = let a = c .add-bare .ensures in (a .0, λ g f R e. a .1 g f R)
 
 -- the sets stand in the table
 room : (c : tie.After-start-at) → c .start-at .result + c .before .before .many-at .result ≤ length (c .before .before .before .args .alts .now)
@@ -25,11 +25,11 @@ part-add-raised-end c = let r = room c in search needs
 
 returns-2 : tie.Need-returns-2
 returns-2 c =
-    let a = c .add-raised2 .ensures in
+    let a = c .add-raised .ensures in
     let s = c .before .before .before .before .before .before in
     (a .0, λ g f R e. a .1 g f R (entry-part (s .args .alts .now) (s .args .c .0) (s .args .y .0) (c .before .before .before .start-at .ensures) (c .before .before .before .before .before .many-at .ensures) (c .before .before .before .before .if1 .left) (room (c .before .before .before)) e))
 
 pub add-below-spec : {M : Type 1} → statement M
 add-below-spec =
-    tie.close (tie.spec (λ c κs. search needs) (λ c. search needs) (λ c κs. search needs) returns (λ c κs. search needs) add-add-raised mul-add-raised (λ c. search needs) (λ c. search needs)
+    tie.close (tie.spec (λ c κs. search needs) (λ c κs. search needs) returns (λ c κs. search needs) add-add-raised mul-add-raised (λ c. search needs) (λ c. search needs)
     part-add-raised-end (λ c κs. search needs) returns-2)
