@@ -24,5 +24,5 @@ module _ (ts : List (List ℕ)) (m : List ℕ) (P : Pattern) where
   table-empty = table-none [] (λ i h. refl)
 
 -- a table that begins as zeros
-pub zero-rows : (i : ℕ) → i < 1024 → getD {A = ℕ} (getD (replicate 2048 (replicate 8 0)) i []) 1 0 ≡ 0
-zero-rows i h = ap (λ (row : List ℕ). getD row 1 0) (getD-replicate {A = List ℕ} 2048 i (replicate 8 0) [] (omega arith))
+pub zero-rows : (i : ℕ) → i < 1024 → getD {A = ℕ} (getD (replicate 3072 (replicate 8 0)) i []) 1 0 ≡ 0
+zero-rows i h = ap (λ (row : List ℕ). getD row 1 0) (getD-replicate {A = List ℕ} 3072 i (replicate 8 0) [] (omega arith))

@@ -44,6 +44,10 @@ ghost use Rattle.containment.specs.Blocks.{candidatesIn};
 ghost use Rattle.containment.specs.Prepared.{Made};
 ghost use Rattle.containment.specs.Room.{MembersGiven};
 
+// So many rows are left for cells of which only what all their sets have in common is kept: there are 945 cells at most, so that each is
+// known at least by that.
+const SPARE: usize = 1024;
+
 // Where the sets begin that are known of node c, where its parent stands at x.
 pub fn start_at(alts: &[Offer], c: PatternNode, x: SummaryNode) -> usize
     requires { ⌜ (c .0 < 16) × (x .0 < 64) ⌝ }
@@ -367,7 +371,7 @@ fn store_rows(
     ensures { λ r. ⌜ ((ts : List (List ℕ)) (m : List ℕ) (P : Pattern) → Known ts m P (now (alts .entry)) used
         → Alternatives ts m P (c .0) (x .0) (now (sets .entry)) count → Known ts m P (now (alts .exit)) r) ⌝ }
 {
-    if used + count <= alts.len() {
+    if used + count + SPARE <= alts.len() {
         copy_sets(sets, count, alts, used);
         put_entry(alts, c, x, used, count);
         return used + count;
