@@ -6,55 +6,86 @@ use mathlib.Core.Bool.{Bool, true, false, _&&_, false≢true}
 use mathlib.Core.List.{List, []}
 use mathlib.Core.Logic.{_⊎_, inl, inr, ⊎-elim}
 use native.Mathlib.Omega.{arith}
+use native.Mathlib.Nat.{zero-add}
 use native.Mathlib.Numerals.{add-one}
 use lib.Bits.{bitAnd, bitOr}
 use lib.Count.{ones}
 use lib.Dec.{eqb, ltb}
 use lib.ListN.{length, getD, set, length-set, List·getD-eq-default}
-use lib.Seq.{getD-set-same, getD-set-other}
+use lib.Seq.{getD-set-same, getD-set-other, ext-getD}
 use borrow.Author.Count.{below-more}
 use borrow.Author.Tests.{ltb-true, ltb-false, eqb-true, eqb-false}
 use Rattle.model.specs.Lists.{has}
-use Rattle.model.proofs.ListLaws.{and-left, and-right, or-cases}
+use Rattle.model.proofs.ListLaws.{and-left, and-right, or-cases, not-both, all-below, below-all, length-map-upFrom, getD-map-upFrom}
 use Rattle.bits.proofs.MaskLaws.{has-none, has-or, has-and, subset-members}
-use Rattle.cover.specs.Cover.{Inside, Within, Among, sharedBelow}
+use Rattle.cover.specs.Cover.{Inside, Within, Among, insideAt, insideBy, eachBy, sharedBelow}
 
 -- ---- two sets, member by member
 
--- a set has nodes of its 8 members only
-pub node-member : (a : List ℕ) → length a ≡ 8 → (i p : ℕ) → has (getD a i 0) p ≡ true → i < 8
-node-member a l i p e = go (ltb i 8) refl
+-- a set has nodes of its members only
+node-member : (a : List ℕ) (i p : ℕ) → has (getD a i 0) p ≡ true → i < length a
+node-member a i p e = go (ltb i (length a)) refl
   where
-    go : (b : Bool) → ltb i 8 ≡ b → i < 8
-    go true q = ltb-true i 8 q
-    go false q =
-        let h : 8 ≤ i = ltb-false i 8 q in
-        absurd (false≢true (sym (has-none p) ∙ ap (λ (x : ℕ). has x p) (sym (List·getD-eq-default a 0 (let k : length a ≤ i = omega arith in k))) ∙ e))
+    go : (b : Bool) → ltb i (length a) ≡ b → i < length a
+    go true q = ltb-true i (length a) q
+    go false q = absurd (false≢true (sym (has-none p) ∙ ap (λ (x : ℕ). has x p) (sym (List·getD-eq-default a 0 (ltb-false i (length a) q))) ∙ e))
+
+pub inside-within : (a b : List ℕ) → insideBy a b ≡ true → Within a b
+unfolding insideBy
+inside-within a b e n f w =
+    record {
+      each = λ j p k h.
+          w .each j p k
+          (subset-members (getD a j 0) (getD b j 0)
+          (eqb-true (bitAnd (getD a j 0) (getD b j 0)) (getD a j 0) (all-below (insideAt a b) (length a) e j (node-member a j p h))) p h);
+    }
 
 -- of the members before i, what is in a is in b
 pub record InsideTo (a b : List ℕ) (i : ℕ) : Type 0 where
   pub top : i ≤ 8
   pub long : length a ≡ 8
-  pub each : (j : ℕ) → j < i → (p : ℕ) → has (getD a j 0) p ≡ true → has (getD b j 0) p ≡ true
+  pub each : (j : ℕ) → j < i → insideAt a b j ≡ true
 
 module _ {a b : List ℕ} where
   pub inside-start : length a ≡ 8 → InsideTo a b 0
   inside-start l = record { top = omega arith; long = l; each = λ j h. absurd (omega arith) }
 
   module _ {i : ℕ} (v : InsideTo a b i) where
-    pub inside-step : i < 8 → eqb (bitAnd (getD a i 0) (getD b i 0)) (getD a i 0) ≡ true → InsideTo a b (i + 1)
-    inside-step h e =
-        record {
-          top = omega arith;
-          long = v .long;
-          each =
-              below-more (λ (j : ℕ). (p : ℕ) → has (getD a j 0) p ≡ true → has (getD b j 0) p ≡ true) i (v .each)
-              (subset-members (getD a i 0) (getD b i 0) (eqb-true (bitAnd (getD a i 0) (getD b i 0)) (getD a i 0) e));
-        }
+    pub inside-step : i < 8 → insideAt a b i ≡ true → InsideTo a b (i + 1)
+    inside-step h e = record { top = omega arith; long = v .long; each = below-more (λ (j : ℕ). insideAt a b j ≡ true) i (v .each) e }
 
-    pub inside-end : 8 ≤ i → Within a b
-    inside-end h n f w =
-        record { each = λ j p k e. w .each j p k (v .each j (let m : j < 8 = node-member a (v .long) j p e in omega arith) p e) }
+    -- a member of which it does not hold
+    pub inside-not : i < 8 → insideAt a b i ≡ false → false ≡ insideBy a b
+    unfolding insideBy
+    inside-not h e = go (insideBy a b) refl
+      where
+        go : (t : Bool) → insideBy a b ≡ t → false ≡ t
+        go true q = absurd (not-both (insideAt a b i) (all-below (insideAt a b) (length a) q i (let l = v .long in omega arith)) e)
+        go false q = refl
+
+    pub inside-end : 8 ≤ i → true ≡ insideBy a b
+    unfolding insideBy
+    inside-end h = sym (below-all (insideAt a b) (length a) (λ j k. v .each j (let l = v .long in omega arith)))
+
+module _ (op : ℕ → ℕ → ℕ) (a b : List ℕ) where
+  abbrev made-at : ℕ → ℕ
+  made-at j = op (getD a j 0) (getD b j 0)
+
+  -- what is made has 8 masks
+  each-long : length (eachBy op a b) ≡ 8
+  unfolding eachBy
+  each-long = length-map-upFrom made-at 0 8
+
+  each-at : (j : ℕ) → j < 8 → getD (eachBy op a b) j 0 ≡ made-at j
+  unfolding eachBy
+  each-at j h = getD-map-upFrom made-at 0 8 j 0 h ∙ ap made-at (zero-add j)
+
+  -- a node of what is made
+  made-node : {r : List ℕ} → r ≡ eachBy op a b → (j p : ℕ) → has (getD r j 0) p ≡ true → has (made-at j) p ≡ true
+  made-node {r} e j p h =
+      let l : length r ≡ 8 = ap length e ∙ each-long in
+      let k : j < length r = node-member r j p h in
+      ap (λ (x : ℕ). has x p) (sym (ap (λ (x : List ℕ). getD x j 0) e ∙ each-at j (omega arith))) ∙ h
 
 -- the masks of the members before i are made of those of a and b
 pub record MadeTo (op : ℕ → ℕ → ℕ) (a b r : List ℕ) (i : ℕ) : Type 0 where
@@ -81,29 +112,28 @@ module _ {op : ℕ → ℕ → ℕ} {a b r : List ℕ} where
         x : ℕ
         x = op (getD a i 0) (getD b i 0)
 
-    -- a node of what is made
-    made-node : 8 ≤ i → (j p : ℕ) → has (getD r j 0) p ≡ true → has (op (getD a j 0) (getD b j 0)) p ≡ true
-    made-node h j p e =
-        let k : j < 8 = node-member r (v .long) j p e in
-        ap (λ (x : ℕ). has x p) (sym (v .each j (omega arith))) ∙ e
+    pub made-end : 8 ≤ i → r ≡ eachBy op a b
+    made-end h =
+        let l = v .long in
+        ext-getD 0 r (eachBy op a b) (l ∙ sym (each-long op a b)) (λ j k. v .each j (omega arith) ∙ sym (each-at op a b j (omega arith)))
 
-module _ {a b r : List ℕ} {i : ℕ} where
-  pub either-end : MadeTo bitOr a b r i → 8 ≤ i → (n : ℕ) (f : ℕ → ℕ → Bool) → Inside n a f → Inside n b f → Inside n r f
-  either-end v h n f u w =
+module _ {a b r : List ℕ} where
+  pub either-covers : r ≡ eachBy bitOr a b → (n : ℕ) (f : ℕ → ℕ → Bool) → Inside n a f → Inside n b f → Inside n r f
+  either-covers e n f u w =
       record {
-        each = λ j p k e.
+        each = λ j p k h.
             ⊎-elim (u .each j p k) (w .each j p k)
-            (or-cases (has (getD a j 0) p) (has (getD b j 0) p) (sym (has-or (getD a j 0) (getD b j 0) p) ∙ made-node v h j p e));
+            (or-cases (has (getD a j 0) p) (has (getD b j 0) p) (sym (has-or (getD a j 0) (getD b j 0) p) ∙ made-node bitOr a b e j p h));
       }
 
-  pub common-end : MadeTo bitAnd a b r i → 8 ≤ i → Within r a × Within r b
-  common-end v h = (
-    λ n f w. record { each = λ j p k e. w .each j p k (and-left (has (getD a j 0) p) (has (getD b j 0) p) (both j p e)) },
-    λ n f w. record { each = λ j p k e. w .each j p k (and-right (has (getD a j 0) p) (has (getD b j 0) p) (both j p e)) },
+  pub common-within : r ≡ eachBy bitAnd a b → Within r a × Within r b
+  common-within e = (
+    λ n f w. record { each = λ j p k h. w .each j p k (and-left (has (getD a j 0) p) (has (getD b j 0) p) (both j p h)) },
+    λ n f w. record { each = λ j p k h. w .each j p k (and-right (has (getD a j 0) p) (has (getD b j 0) p) (both j p h)) },
   )
     where
       both : (j p : ℕ) → has (getD r j 0) p ≡ true → (has (getD a j 0) p && has (getD b j 0) p) ≡ true
-      both j p e = sym (has-and (getD a j 0) (getD b j 0) p) ∙ made-node v h j p e
+      both j p h = sym (has-and (getD a j 0) (getD b j 0) p) ∙ made-node bitAnd a b e j p h
 
 -- ---- how many nodes two sets share
 

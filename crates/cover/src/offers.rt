@@ -3,19 +3,18 @@
 use bits::count64;
 use bits::subset16;
 ghost use mathlib.Core.Path.{_≡_};
-ghost use mathlib.Core.Bool.{Bool, true};
-ghost use Prim.Native.Nat.{ℕ, _≤_};
-ghost use lib.Bits.{bitAnd};
+ghost use Prim.Native.Nat.{_≤_};
+ghost use lib.Bits.{bitAnd, bitOr};
 ghost use lib.Count.{ones};
-ghost use Rattle.cover.specs.Cover.{Inside, Within, sharedBelow};
+ghost use Rattle.cover.specs.Cover.{insideBy, eachBy, sharedBelow};
 
 pub type Offer = [u16; 8];
 
 // Every set of a is inside b's.
 pub fn inside(a: &Offer, b: &Offer) -> bool
-    ensures { λ r. ⌜ (r ≡ true → Within (now (a .entry)) (now (b .entry))) ⌝ }
+    ensures { λ r. ⌜ r ≡ insideBy (now (a .entry)) (now (b .entry)) ⌝ }
 {
-    // of a slice it is known how long it is, and so that a has nothing past its 8 members
+    // of a slice it is known how long it is: a has 8 members and no more
     let masks = &a[..];
     for i in 0..8 {
         if !subset16(masks[i], b[i]) {
@@ -27,7 +26,7 @@ pub fn inside(a: &Offer, b: &Offer) -> bool
 
 // What is in either.
 pub fn either(a: &Offer, b: &Offer) -> Offer
-    ensures { λ r. ⌜ ((n : ℕ) (f : ℕ → ℕ → Bool) → Inside n (now (a .entry)) f → Inside n (now (b .entry)) f → Inside n r f) ⌝ }
+    ensures { λ r. ⌜ r ≡ eachBy bitOr (now (a .entry)) (now (b .entry)) ⌝ }
 {
     let mut r = [0u16; 8];
     for i in 0..8 {
@@ -38,7 +37,7 @@ pub fn either(a: &Offer, b: &Offer) -> Offer
 
 // What is in both.
 pub fn common(a: &Offer, b: &Offer) -> Offer
-    ensures { λ r. ⌜ Within r (now (a .entry)) × Within r (now (b .entry)) ⌝ }
+    ensures { λ r. ⌜ r ≡ eachBy bitAnd (now (a .entry)) (now (b .entry)) ⌝ }
 {
     let mut r = [0u16; 8];
     for i in 0..8 {

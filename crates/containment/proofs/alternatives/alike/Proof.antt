@@ -1,11 +1,13 @@
 -- `containment::alternatives::alike` meets its contract: each is inside the other, or no is said. Assumes nothing.
+use mathlib.Core.Path.{sym, _∙_}
 use mathlib.Core.Bool.{false≢true}
 use borrow.Author.Needs.{needs}
+use Rattle.cover.proofs.CoverLaws.{inside-within}
 use Rattle.containment.proofs.alternatives.alike.Statement.{statement}
 use Rattle.containment.proofs.alternatives.alike.Tie as tie
 
 returns : tie.Need-returns
-returns c = c .inside2 .ensures
+returns c e = inside-within _ _ (sym (c .inside2 .ensures) ∙ e)
 
 returns-2 : tie.Need-returns-2
 returns-2 c e = absurd (false≢true e)

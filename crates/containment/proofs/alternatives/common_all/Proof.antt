@@ -3,6 +3,7 @@
 use Prim.Native.Nat.{ℕ, _-_}
 use native.Mathlib.Omega.{arith}
 use borrow.Author.Needs.{needs}
+use Rattle.cover.proofs.CoverLaws.{common-within}
 use Rattle.containment.proofs.FillLaws.{InAll, in-all-start, in-all-step}
 use Rattle.containment.proofs.alternatives.common_all.Statement.{statement}
 use Rattle.containment.proofs.alternatives.common_all.Tie as tie
@@ -17,7 +18,8 @@ loop-holds : tie.Need-loop-holds Inv-loop μ-loop
 loop-holds c = in-all-start (c .before .pre .0)
 
 loop-again : tie.Need-loop-again Inv-loop μ-loop
-loop-again c = in-all-step (c .before .before .before .before .loop .inv) (c .before .before .before .loop-test .taken) (c .common .ensures)
+loop-again c =
+    in-all-step (c .before .before .before .before .loop .inv) (c .before .before .before .loop-test .taken) (common-within (c .common .ensures))
 
 returns : tie.Need-returns Inv-loop μ-loop
 returns c j h = c .before .loop .inv .each j (omega (arith, h, c .loop-test .left))

@@ -4,6 +4,7 @@ use Prim.Native.Nat.{_-_}
 use lib.ListN.{length}
 use borrow.Author.Needs.{needs}
 use Rattle.format.specs.Given.{patternAt}
+use Rattle.cover.proofs.CoverLaws.{either-covers}
 use Rattle.containment.specs.Alternatives.{Met}
 use Rattle.containment.proofs.JoinLaws.{Growing, growing-start, growing-step, growing-end, With}
 use Rattle.containment.proofs.join.join_one.Statement.{statement}
@@ -24,7 +25,8 @@ keep-requires c κs = (c .before .before .before .before .before .before .pre .0
 loop-again : tie.Need-loop-again Inv-loop μ-loop
 loop-again c =
     let a = c .keep .ensures in
-    growing-step (c .before .before .before .before .before .loop .inv) (c .before .before .before .before .loop-test .taken) (a .0) (λ f s. a .1 f (c .before .either .ensures _ f (s .1) (s .0)))
+    growing-step (c .before .before .before .before .before .loop .inv) (c .before .before .before .before .loop-test .taken) (a .0)
+    (λ f s. a .1 f (either-covers (c .before .either .ensures) _ f (s .1) (s .0)))
 
 returns : tie.Need-returns Inv-loop μ-loop
 returns c = let v = c .before .loop .inv in (v .grown, λ f i s. growing-end v (c .loop-test .left) (s .row) (s .few) f (i, s .inside))

@@ -1,8 +1,9 @@
 -- `cover::lists::drop_over` meets its contract: of the sets that the list had, those that are left and a say as much. The measure is how many
 -- are yet to be asked. Assumes nothing.
 use Prim.Native.Nat.{_-_}
+use mathlib.Core.Path.{sym, _∙_}
 use borrow.Author.Needs.{needs}
-use Rattle.cover.proofs.CoverLaws.{Dropping, dropping-start, dropping-step}
+use Rattle.cover.proofs.CoverLaws.{inside-within, Dropping, dropping-start, dropping-step}
 use Rattle.cover.proofs.lists.drop_over.Statement.{statement}
 use Rattle.cover.proofs.lists.drop_over.Tie as tie
 
@@ -19,7 +20,7 @@ loop-again : tie.Need-loop-again Inv-loop μ-loop
 loop-again c =
     let r = c .before .before in
     let l = r .before .before in
-    dropping-step (l .before .loop .inv) (l .loop-test .taken) (r .inside .ensures (c .before .if1 .taken))
+    dropping-step (l .before .loop .inv) (l .loop-test .taken) (inside-within _ _ (sym (r .inside .ensures) ∙ c .before .if1 .taken))
 
 loop-again-2 : tie.Need-loop-again-2 Inv-loop μ-loop
 loop-again-2 c = c .before .before .before .before .loop .inv

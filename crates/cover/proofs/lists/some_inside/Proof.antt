@@ -1,7 +1,9 @@
 -- `cover::lists::some_inside` meets its contract: the set at which it stops is inside a. The measure is how many are left. Assumes nothing.
 use Prim.Native.Nat.{_-_, _≤_}
+use mathlib.Core.Path.{sym, _∙_}
 use mathlib.Core.Bool.{false≢true}
 use borrow.Author.Needs.{needs}
+use Rattle.cover.proofs.CoverLaws.{inside-within}
 use Rattle.cover.proofs.lists.some_inside.Statement.{statement}
 use Rattle.cover.proofs.lists.some_inside.Tie as tie
 
@@ -15,7 +17,7 @@ returns : tie.Need-returns Inv-loop μ-loop
 returns c e n f w =
     let r = c .before in
     let l = r .before .before in
-    record { row = l .before .loop .k; few = l .loop-test .taken; inside = r .inside .ensures (c .if1 .taken) n f w }
+    record { row = l .before .loop .k; few = l .loop-test .taken; inside = inside-within _ _ (sym (r .inside .ensures) ∙ c .if1 .taken) n f w }
 
 returns-2 : tie.Need-returns-2 Inv-loop μ-loop
 returns-2 c e = absurd (false≢true e)

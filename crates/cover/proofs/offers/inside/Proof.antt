@@ -2,10 +2,9 @@
 -- nothing.
 use Prim.Native.Nat.{_-_}
 use mathlib.Core.Path.{sym, _∙_}
-use mathlib.Core.Bool.{false≢true}
 use borrow.Author.Needs.{needs}
-use borrow.Author.Tests.{not-false}
-use Rattle.cover.proofs.CoverLaws.{InsideTo, inside-start, inside-step, inside-end}
+use borrow.Author.Tests.{not-false, not-true}
+use Rattle.cover.proofs.CoverLaws.{InsideTo, inside-start, inside-step, inside-not, inside-end}
 use Rattle.cover.proofs.offers.inside.Statement.{statement}
 use Rattle.cover.proofs.offers.inside.Tie as tie
 
@@ -19,7 +18,10 @@ loop-holds : tie.Need-loop-holds Inv-loop μ-loop
 loop-holds c = inside-start (search needs)
 
 returns : tie.Need-returns Inv-loop μ-loop
-returns c e = absurd (false≢true e)
+returns c =
+    let r = c .before in
+    let l = r .before .before .before .before in
+    inside-not (l .loop .inv) (r .before .before .before .loop-test .taken) (sym (r .subset16 .ensures) ∙ not-true (r .subset16 .result) (c .if1 .taken))
 
 loop-again : tie.Need-loop-again Inv-loop μ-loop
 loop-again c =
@@ -28,7 +30,7 @@ loop-again c =
     inside-step (l .loop .inv) (r .before .before .before .loop-test .taken) (sym (r .subset16 .ensures) ∙ not-false (r .subset16 .result) (c .if1 .left))
 
 returns-2 : tie.Need-returns-2 Inv-loop μ-loop
-returns-2 c e = inside-end (c .before .loop .inv) (c .loop-test .left)
+returns-2 c = inside-end (c .before .loop .inv) (c .loop-test .left)
 
 pub inside-spec : {M : Type 1} → statement M
 inside-spec =
