@@ -18,7 +18,7 @@ use Rattle.model.specs.Pattern.{Pattern, noPatternRecord, patternParent, descen
 use Rattle.model.proofs.ListLaws.{not-both, and-intro, and-left, and-right, keep-elim, keep-intro, mem-upFrom}
 use Rattle.bits.proofs.MaskLaws.{has-none, has-and}
 use Rattle.cover.specs.Cover.{Inside, Within, Among}
-use Rattle.containment.specs.Alternatives.{givenOf, offeredOf, nodeOf, Raises, Grown, Copied, startIn, manyIn, PartOf, Entry, Alternatives, Table, Known, At, FarBelow, Toward, Covered, Pointed, mattersBy}
+use Rattle.containment.specs.Alternatives.{givenOf, offeredOf, nodeOf, Raises, Grown, Copied, startIn, manyIn, PartOf, Entry, Alternatives, Table, Known, At, FarBelow, Toward, Covered, Pointed, mattersBy, Fillable}
 use Rattle.containment.specs.Blocks.{cell, childIn, belowIn, partIn, candidatesIn}
 use Rattle.containment.specs.Prepared.{Made}
 use Rattle.containment.specs.Skipping.{PlacedBy}
@@ -165,6 +165,10 @@ pub grown-trans : {n : ℕ} {a b c : List (List ℕ)} {i j k : ℕ} → Grown n 
 grown-trans g h = record { few = h .few; more = λ f s. h .more f (g .more f s) }
 
 -- ---- all children of x
+
+-- at another summary node
+pub fill-below : {ts : List (List ℕ)} {m : List ℕ} {alts : List (List ℕ)} {p : List ℕ} {at c x y : ℕ} → Fillable ts m alts p at c x → y < 64 → Fillable ts m alts p at c y
+fill-below F h = record { base = F .base; made = F .made; table = F .table; pattern = F .pattern; some = F .some; inside = F .inside; narrow = h }
 
 -- those of `all` that are not in rest are covered
 pub record Gathered (ts : List (List ℕ)) (m : List ℕ) (P : Pattern) (c all : ℕ) (list : List (List ℕ)) (rest count : ℕ) : Type 0 where

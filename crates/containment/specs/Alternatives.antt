@@ -11,11 +11,13 @@ use lib.Dec.{eqb}
 use lib.ListN.{length, getD, take}
 use Rattle.model.specs.Lists.{has}
 use Rattle.model.specs.Pattern.{Pattern, patternParent, descends, position}
+use Rattle.format.specs.Given.{patternAt, PatternGiven}
 use Rattle.cover.specs.Cover.{Inside, Among}
 use Rattle.containment.specs.Blocks.{cell, childIn, belowIn, setsIn, candidatesIn}
 use Rattle.containment.specs.Judging.{nodeBy, hangBy, passBy, givenBy, rootBy}
 use Rattle.containment.specs.Members.{bySome, judgedBySome}
 use Rattle.containment.specs.Prepared.{Made}
+use Rattle.containment.specs.Room.{MembersGiven}
 use Rattle.containment.specs.Skipping.{PlacedBy}
 use Rattle.containment.specs.Stepping.{Candidates, reachBy, stepFrom, sitesBy}
 
@@ -132,6 +134,16 @@ Toward m P c y v = At y v ⊎ FarBelow m P c y v
 pub record Covered (ts : List (List ℕ)) (m : List ℕ) (P : Pattern) (c y : ℕ) (Here : ℕ → Type 0) (sets : List (List ℕ)) (count : ℕ) : Type 0 where
   pub offered : (R : Made ts m P) (x : ℕ) → x < length (R .summary) → has (childIn m x) y ≡ true → (es : List ℕ) → PlacedBy P (candidatesIn m) (length P) es → Here (getD es c 0)
       → Among (length ts) sets count (offeredOf ts P es c x)
+
+-- what filling the cell of node c and x takes: the blocks, the first pattern, and a table that is right so far
+pub record Fillable (ts : List (List ℕ)) (m : List ℕ) (alts : List (List ℕ)) (p : List ℕ) (at c x : ℕ) : Type 0 where
+  pub base : MembersGiven ts p at
+  pub made : Made ts m (patternAt p at)
+  pub table : Table ts m (patternAt p at) alts
+  pub pattern : PatternGiven p at
+  pub some : 0 < c
+  pub inside : c < length (patternAt p at)
+  pub narrow : x < 64
 
 -- ---- what is left open of a partial embedding, the images es of the first q nodes
 

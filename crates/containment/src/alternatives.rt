@@ -39,7 +39,7 @@ ghost use Rattle.model.specs.Pattern.{Pattern, patternParent, descends, positio
 ghost use Rattle.format.specs.Given.{patternAt, PatternGiven};
 ghost use Rattle.cover.specs.Cover.{Within, Among};
 ghost use Rattle.containment.specs.Alternatives.{nodeOf, Raises, Met, Grown, startIn, manyIn, Entry, Roomy, Alternatives, Table, At, FarBelow};
-ghost use Rattle.containment.specs.Alternatives.{Toward, Covered, Pointed, Known, mattersBy};
+ghost use Rattle.containment.specs.Alternatives.{Toward, Covered, Pointed, Known, mattersBy, Fillable};
 ghost use Rattle.containment.specs.Blocks.{candidatesIn};
 ghost use Rattle.containment.specs.Prepared.{Made};
 ghost use Rattle.containment.specs.Room.{MembersGiven};
@@ -225,8 +225,7 @@ fn own_part(
     list: &mut List,
     count: usize,
 ) -> usize
-    requires { ⌜ MembersGiven (now t) (now p) at × Made (now t) (now m) (patternAt (now p) at) × Table (now t) (now m) (patternAt (now p) at) (now alts) ⌝ }
-    requires { ⌜ PatternGiven (now p) at × (0 < c .0) × (c .0 < length (patternAt (now p) at)) × (y .0 < 64) × (count ≤ 64) ⌝ }
+    requires { ⌜ Fillable (now t) (now m) (now alts) (now p) at (c .0) (y .0) × (count ≤ 64) ⌝ }
     ensures { λ r. ⌜ Grown (length (now (t .entry))) (now (list .entry)) count (now (list .exit)) r
         × Covered (now (t .entry)) (now (m .entry)) (patternAt (now (p .entry)) at) (c .0) (y .0) (At (y .0)) (now (list .exit)) r ⌝ }
 {
@@ -251,8 +250,7 @@ fn below_part(
     list: &mut List,
     count: usize,
 ) -> usize
-    requires { ⌜ MembersGiven (now t) (now p) at × Made (now t) (now m) (patternAt (now p) at) × Table (now t) (now m) (patternAt (now p) at) (now alts) ⌝ }
-    requires { ⌜ PatternGiven (now p) at × (0 < c .0) × (c .0 < length (patternAt (now p) at)) × (y .0 < 64) × (count ≤ 64) ⌝ }
+    requires { ⌜ Fillable (now t) (now m) (now alts) (now p) at (c .0) (y .0) × (count ≤ 64) ⌝ }
     ensures { λ r. ⌜ Grown (length (now (t .entry))) (now (list .entry)) count (now (list .exit)) r
         × Covered (now (t .entry)) (now (m .entry)) (patternAt (now (p .entry)) at) (c .0) (y .0)
         (FarBelow (now (m .entry)) (patternAt (now (p .entry)) at) (c .0) (y .0)) (now (list .exit)) r ⌝ }
@@ -277,8 +275,7 @@ fn child_part(
     list: &mut List,
     count: usize,
 ) -> usize
-    requires { ⌜ MembersGiven (now t) (now p) at × Made (now t) (now m) (patternAt (now p) at) × Table (now t) (now m) (patternAt (now p) at) (now alts) ⌝ }
-    requires { ⌜ PatternGiven (now p) at × (0 < c .0) × (c .0 < length (patternAt (now p) at)) × (y .0 < 64) × (count ≤ 64) ⌝ }
+    requires { ⌜ Fillable (now t) (now m) (now alts) (now p) at (c .0) (y .0) × (count ≤ 64) ⌝ }
     ensures { λ r. ⌜ Grown (length (now (t .entry))) (now (list .entry)) count (now (list .exit)) r
         × Covered (now (t .entry)) (now (m .entry)) (patternAt (now (p .entry)) at) (c .0) (y .0)
         (Toward (now (m .entry)) (patternAt (now (p .entry)) at) (c .0) (y .0)) (now (list .exit)) r ⌝ }
@@ -298,8 +295,7 @@ fn gather(
     x: SummaryNode,
     list: &mut List,
 ) -> usize
-    requires { ⌜ MembersGiven (now t) (now p) at × Made (now t) (now m) (patternAt (now p) at) × Table (now t) (now m) (patternAt (now p) at) (now alts) ⌝ }
-    requires { ⌜ PatternGiven (now p) at × (0 < c .0) × (c .0 < length (patternAt (now p) at)) × (x .0 < 64) ⌝ }
+    requires { ⌜ Fillable (now t) (now m) (now alts) (now p) at (c .0) (x .0) ⌝ }
     ensures { λ r. ⌜ (r ≤ 64) × ((R : Made (now (t .entry)) (now (m .entry)) (patternAt (now (p .entry)) at)) → x .0 < length (R .summary)
         → Alternatives (now (t .entry)) (now (m .entry)) (patternAt (now (p .entry)) at) (c .0) (x .0) (now (list .exit)) r) ⌝ }
 {
@@ -367,7 +363,8 @@ fn store_rows(
     x: SummaryNode,
     used: usize,
 ) -> usize
-    requires { ⌜ (0 < count) × (count ≤ 64) × (c .0 < 16) × (x .0 < 64) × (1024 ≤ used) × (used ≤ length (now alts)) × (length (now alts) ≤ 4096) ⌝ }
+    requires { ⌜ (0 < count) × (count ≤ 64) × (c .0 < 16) × (x .0 < 64)
+        × (1024 ≤ used) × (used ≤ length (now alts)) × (length (now alts) ≤ 4096) ⌝ }
     ensures { λ r. ⌜ ((ts : List (List ℕ)) (m : List ℕ) (P : Pattern) → Known ts m P (now (alts .entry)) used
         → Alternatives ts m P (c .0) (x .0) (now (sets .entry)) count → Known ts m P (now (alts .exit)) r) ⌝ }
 {

@@ -57,7 +57,8 @@ fn begin(n: usize, count: usize, rows: &Rows, lists: &mut [List])
 // What node c passes on of each member's set.
 fn pass_row(t: &[Member], p: &[u8], at: usize, images: &[u16], c: PatternNode, a: &Offer) -> Offer
     requires { ⌜ Steppable (now t) (now p) at (now images) × (0 < c .0) × (c .0 < length (patternAt (now p) at)) ⌝ }
-    ensures { λ r. ⌜ RowBy (length (now (t .entry))) (passOf (now (t .entry)) (patternAt (now (p .entry)) at) (now (images .entry)) (c .0)) (now (a .entry)) r ⌝ }
+    ensures { λ r. ⌜ RowBy (length (now (t .entry))) (passOf (now (t .entry)) (patternAt (now (p .entry)) at) (now (images .entry)) (c .0))
+        (now (a .entry)) r ⌝ }
 {
     let mut r = [0u16; 8];
     let n = t.len();
@@ -78,8 +79,10 @@ fn pass_list(
     count: usize,
     made: &mut [Offer],
 )
-    requires { ⌜ Steppable (now t) (now p) at (now images) × (0 < c .0) × (c .0 < length (patternAt (now p) at)) × (count ≤ 64) × (count ≤ length (now made)) ⌝ }
-    ensures { λ _. ⌜ ListBy (length (now (t .entry))) (passOf (now (t .entry)) (patternAt (now (p .entry)) at) (now (images .entry)) (c .0)) count (now (list .entry)) (now (made .exit)) ⌝ }
+    requires { ⌜ Steppable (now t) (now p) at (now images) × (0 < c .0) × (c .0 < length (patternAt (now p) at))
+        × (count ≤ 64) × (count ≤ length (now made)) ⌝ }
+    ensures { λ _. ⌜ ListBy (length (now (t .entry))) (passOf (now (t .entry)) (patternAt (now (p .entry)) at) (now (images .entry)) (c .0)) count
+        (now (list .entry)) (now (made .exit)) ⌝ }
 {
     for i in 0..count {
         made[i] = pass_row(t, p, at, images, c, &list[i]);
@@ -100,7 +103,8 @@ fn join_placed(
     requires { ⌜ Steppable (now t) (now p) at (now images) × (0 < c .0) × (c .0 < length (patternAt (now p) at)) × (j .0 < c .0) ⌝ }
     requires { ⌜ (length (now lists) ≡ 16) × (length (now counts) ≡ 16) × (getD (now counts) (c .0) 0 ≤ 64) × (getD (now counts) (j .0) 0 ≤ 64) ⌝ }
     ensures { λ _. ⌜ Turned (now (t .entry)) (patternAt (now (p .entry)) at) (j .0)
-        (RaisedOf (length (now (t .entry))) (passOf (now (t .entry)) (patternAt (now (p .entry)) at) (now (images .entry)) (c .0)) (getD (now (lists .entry)) (c .0) []) (getD (now (counts .entry)) (c .0) 0))
+        (RaisedOf (length (now (t .entry))) (passOf (now (t .entry)) (patternAt (now (p .entry)) at) (now (images .entry)) (c .0))
+        (getD (now (lists .entry)) (c .0) []) (getD (now (counts .entry)) (c .0) 0))
         (now (lists .entry)) (now (counts .entry)) (now (lists .exit)) (now (counts .exit)) ⌝ }
 {
     let from = c.0;
@@ -147,8 +151,10 @@ fn turn(
     counts: &mut [usize],
 )
     requires { ⌜ Asking (now t) (now m) (now alts) (now p) at (now images) (q .0) × (0 < c .0) × (c .0 < length (patternAt (now p) at)) ⌝ }
-    requires { ⌜ (length (now lists) ≡ 16) × (length (now counts) ≡ 16) × LeftOpen (now t) (now m) (patternAt (now p) at) (q .0) (now images) (now lists) (now counts) ⌝ }
-    ensures { λ _. ⌜ LeftOpen (now (t .entry)) (now (m .entry)) (patternAt (now (p .entry)) at) (q .0) (now (images .entry)) (now (lists .exit)) (now (counts .exit)) ⌝ }
+    requires { ⌜ (length (now lists) ≡ 16) × (length (now counts) ≡ 16)
+        × LeftOpen (now t) (now m) (patternAt (now p) at) (q .0) (now images) (now lists) (now counts) ⌝ }
+    ensures { λ _. ⌜ LeftOpen (now (t .entry)) (now (m .entry)) (patternAt (now (p .entry)) at) (q .0) (now (images .entry))
+        (now (lists .exit)) (now (counts .exit)) ⌝ }
 {
     if last(m, c) < wide64(q.0) {
         return;
@@ -175,7 +181,8 @@ pub fn ask(
     q: PatternNode,
     rows: &Rows,
 ) -> bool
-    requires { ⌜ Steppable (now t) (now p) at (now images) × Made (now t) (now m) (patternAt (now p) at) × (0 < q .0) × (q .0 ≤ length (patternAt (now p) at)) ⌝ }
+    requires { ⌜ Steppable (now t) (now p) at (now images) × Made (now t) (now m) (patternAt (now p) at)
+        × (0 < q .0) × (q .0 ≤ length (patternAt (now p) at)) ⌝ }
     requires { ⌜ Table (now t) (now m) (patternAt (now p) at) (now alts) ⌝ }
     requires { ⌜ PlacedBy (patternAt (now p) at) (candidatesIn (now m)) (q .0) (now images) ⌝ }
     requires { ⌜ RowsSettled (now t) (now m) (patternAt (now p) at) (q .0) (now images) (now rows) ⌝ }

@@ -14,27 +14,27 @@ add-below-requires : tie.Need-add-below-requires
 add-below-requires c κs =
     let s = c .before .before .before .before .before .before .before in
     let p = s .pre in
-    let h : s .args .c .0 < 16 = omega (arith, p .1 .2, p .1 .0 .few) in
-    (p .0 .0 .few, p .0 .2 .room (s .args .c .0) (s .args .y .0) h (p .1 .3), h, p .1 .3, p .1 .4)
+    let h : s .args .c .0 < 16 = omega (arith, p .0 .inside, p .0 .pattern .few) in
+    (p .0 .base .few, p .0 .table .room (s .args .c .0) (s .args .y .0) h (p .0 .narrow), h, p .0 .narrow, p .1)
 
 returns : tie.Need-returns
 returns c =
     let s = c .before .before .before .before .before .before .before .before in
     let p = s .pre in
     let a = c .add-below .ensures in
-    (a .0, below-covered (p .0 .2) (s .args .c .0) (s .args .y .0) (p .1 .1) (p .1 .2) (omega (arith, p .1 .2, p .1 .0 .few)) (p .1 .3) (a .1))
+    (a .0, below-covered (p .0 .table) (s .args .c .0) (s .args .y .0) (p .0 .some) (p .0 .inside) (omega (arith, p .0 .inside, p .0 .pattern .few)) (p .0 .narrow) (a .1))
 
 returns-2 : tie.Need-returns-2
 returns-2 c =
     let s = c .before .before .before .before .before .before in
-    let p = s .pre .1 in
-    (grown-none (p .4), below-none (s .args .c .0) (s .args .y .0) (p .1) (p .2) (ap₂ bitAnd (sym (c .before .before .descendants .ensures)) (sym (c .before .part .ensures)) ∙ c .if2 .left))
+    let p = s .pre in
+    (grown-none (p .1), below-none (s .args .c .0) (s .args .y .0) (p .0 .some) (p .0 .inside) (ap₂ bitAnd (sym (c .before .before .descendants .ensures)) (sym (c .before .part .ensures)) ∙ c .if2 .left))
 
 returns-3 : tie.Need-returns-3
 returns-3 c =
     let s = c .before .before .before in
-    let p = s .pre .1 in
-    (grown-none (p .4), near-none (s .args .c .0) (s .args .y .0) (ne-eqb _ 1 (λ q. c .if1 .left (c .before .pattern-edge .ensures ∙ q))))
+    let p = s .pre in
+    (grown-none (p .1), near-none (s .args .c .0) (s .args .y .0) (ne-eqb _ 1 (λ q. c .if1 .left (c .before .pattern-edge .ensures ∙ q))))
 
 pub below-part-spec : {M : Type 1} → statement M
 below-part-spec =

@@ -5,7 +5,7 @@ use Rattle.containment.proofs.alternatives.child_part.Statement.{statem
 use Rattle.containment.proofs.alternatives.child_part.Tie as tie
 
 below-part-requires : tie.Need-below-part-requires
-below-part-requires c κs = let p = c .before .before .before .before .pre in (p .0, (p .1 .0, p .1 .1, p .1 .2, p .1 .3, c .before .own-part .ensures .0 .few))
+below-part-requires c κs = let p = c .before .before .before .before .pre in (p .0, c .before .own-part .ensures .0 .few)
 
 returns : tie.Need-returns
 returns c =

@@ -5,7 +5,9 @@ use Rattle.containment.proofs.alternatives.fill_cell.Statement.{stateme
 use Rattle.containment.proofs.alternatives.fill_cell.Tie as tie
 
 gather-requires : tie.Need-gather-requires
-gather-requires c κs = let p = c .before .before .before .before .before .pre in ((p .0 .0, p .1 .0 .0 .0, p .0 .2 .table), (p .0 .1, p .1 .1 .0, p .1 .1 .1, p .1 .0 .1))
+gather-requires c κs =
+    let p = c .before .before .before .before .before .pre in
+    record { base = p .0 .0; made = p .1 .0 .0 .0; table = p .0 .2 .table; pattern = p .0 .1; some = p .1 .1 .0; inside = p .1 .1 .1; narrow = p .1 .0 .1 }
 
 store-requires : tie.Need-store-requires
 store-requires c κs =

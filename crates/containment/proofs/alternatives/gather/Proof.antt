@@ -3,7 +3,7 @@
 use Prim.Native.Nat.{ℕ}
 use borrow.Author.Needs.{needs}
 use Rattle.format.specs.Given.{patternAt}
-use Rattle.containment.proofs.FillLaws.{Gathered, gathered-start, gathered-step, gathered-end}
+use Rattle.containment.proofs.FillLaws.{fill-below, Gathered, gathered-start, gathered-step, gathered-end}
 use Rattle.containment.proofs.MaskMembers.{first-room, rest-less}
 use Rattle.containment.proofs.alternatives.gather.Statement.{statement}
 use Rattle.containment.proofs.alternatives.gather.Tie as tie
@@ -24,7 +24,7 @@ child-part-requires : tie.Need-child-part-requires Inv-loop μ-loop
 child-part-requires c κs =
     let i = c .before .before .before .before .loop .inv in
     let p = c .before .before .before .before .before .before .before .pre in
-    (p .0, (p .1 .0, p .1 .1, p .1 .2, first-room (i .fits) (c .before .before .before .loop-test .taken) (c .before .before .first64 .ensures) .0, i .few))
+    (fill-below p (first-room (i .fits) (c .before .before .before .loop-test .taken) (c .before .before .first64 .ensures) .0), i .few)
 
 loop-less : tie.Need-loop-less Inv-loop μ-loop
 loop-less c = rest-less (c .before .before .before .before .before .loop .inv .fits) (c .before .before .before .before .loop-test .taken) (c .before .before .before .first64 .ensures) (c .before .before .without .ensures)
