@@ -142,8 +142,8 @@ static void put_list(unsigned count, unsigned first, unsigned other) {
   }
 }
 
-/* 64 + 16 + 8 x 16 nodes of which all trials pass, but by turns in two ways, so that each is judged: the last node is the 901 that 903
- * is to have, or has a strong child 901 itself. Only the last member asks for that; the others ask for a label that is not there. */
+/* 64 + 16 + 8 x 16 nodes of which all trials pass, but by turns in two ways: the last node is the 901 that 903 is to have, or has a
+ * strong child 901 itself. Only the last member asks for that; the others ask for a label that is not there. */
 static void put_alternatives(void) {
   static const unsigned last[4][3] = {{0, 903, 0}, {60, 901, 0}, {60, 902, 0}, {62, 901, 1}};
   put_line(0);
@@ -167,6 +167,22 @@ static void put_alternatives(void) {
     for (unsigned q = 3; q < 16; q++) {
       put_node(0, 0, 1, 0);
     }
+  }
+}
+
+/* 64 + 16 + 8 x 2 nodes of which the first eight trials pass, each by another member, and the ninth does not. Nodes hang one from another
+ * and the last one decides, so that each level asks in vain, the deepest one over the lists of all nodes. */
+static void put_deep(void) {
+  put_line(0);
+  put(&asked.given, 16);
+  for (unsigned q = 0; q < 16; q++) {
+    put_node(q > 0 ? q - 1 : 0, q == 0 ? 1 : 0, q > 0, q == 15 ? 1 : 0);
+  }
+  put(&asked.given, CADWEZIN_MEMBERS_MOST);
+  for (unsigned i = 0; i < CADWEZIN_MEMBERS_MOST; i++) {
+    put(&asked.given, 2);
+    put_node(0, 1, 0, 0);
+    put_node(0, 16 + i, 1, 1);
   }
 }
 
@@ -195,7 +211,7 @@ static void shown(unsigned strong, unsigned place) {
   expect(PATHS, 0, 1, "of a node with one");
 }
 
-static void stopped(void) {
+static void stepped(void) {
   ask_whole();
   for (int chained = 0; chained <= 1; chained++) {
     put_line(1);
@@ -206,8 +222,9 @@ static void stopped(void) {
     expect(PATHS, 0, chained ? 49 : 63, "of the last node");
   }
   put_alternatives();
-  asked.limit = 100000;
-  expect(VERDICT, 0, CADWEZIN_STOPPED, "stepping");
+  expect(VERDICT, 0, CADWEZIN_STOPPED, "skipping by turns");
+  put_deep();
+  expect(VERDICT, 0, CADWEZIN_NOT_CONTAINED, "asking in vain");
 }
 
 /* The calls over a document of 1,024 nodes: one chain, chains that fit the summary, and all below the root. Of a chained pattern the
@@ -288,7 +305,7 @@ int main(void) {
   memset(rooms, PAINT, sizeof rooms);
   shown(0, 63);
   shown(1, 1);
-  stopped();
+  stepped();
   documents();
   refusals();
   printf("stack: %u answers;", held);
