@@ -12,11 +12,10 @@ use lib.Seq.{getD-set-same, getD-set-other, getD-take, length-take-le}
 use borrow.Author.Count.{below-more}
 use borrow.Author.Tests.{ltb-true, ltb-false}
 use Rattle.model.specs.Lists.{has}
-use Rattle.model.specs.Pattern.{Pattern}
 use Rattle.model.proofs.ListLaws.{not-both}
 use Rattle.bits.proofs.MaskLaws.{has-none}
 use Rattle.cover.specs.Cover.{Inside, Among}
-use Rattle.containment.specs.Alternatives.{RowBy, Raises, Met, Grown, Copied}
+use Rattle.containment.specs.Alternatives.{RowBy, Raises, Grown, Copied}
 
 -- ---- member by member
 

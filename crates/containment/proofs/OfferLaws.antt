@@ -4,7 +4,6 @@ use Prim.Native.Nat.{ℕ, zero, suc, _+_, _^_, _≤_, _<_}
 use mathlib.Core.Path.{_≡_, refl, sym, ap, _∙_, subst}
 use mathlib.Core.Bool.{Bool, true, false}
 use mathlib.Core.Logic.{inr}
-use mathlib.Core.List.{List}
 use native.Mathlib.Omega.{arith}
 use native.Mathlib.Nat.{lt-of-lt-of-le}
 use lib.Dec.{ltb}
@@ -17,7 +16,7 @@ use Rattle.model.specs.Tree.{IsTree, Below}
 use Rattle.model.specs.Summary.{Summary, asDocument}
 use Rattle.model.specs.Pattern.{Pattern, IsPatternTree, position}
 use Rattle.model.specs.Canonical.{chain}
-use Rattle.model.specs.Quick.{meets, offers, closed, union, hang}
+use Rattle.model.specs.Quick.{offers, closed, union, hang}
 use Rattle.model.proofs.ListLaws.{not-both}
 use Rattle.model.proofs.Masks.{mask-below, mask-past, mask-lt}
 use Rattle.model.proofs.QuickLaws.{Within, meets-more, offers-more, union-more, hang-more}

@@ -1,14 +1,14 @@
 -- What is offered in a whole embedding, and how sets that are inside it grow along the way up: from what hangs from a node to what it
 -- offers, from the chain below a summary node to the chain below its parent, from a child to its parent, and at the root to a pass.
 -- Assumes nothing.
-use Prim.Native.Nat.{ℕ, _+_, _≤_, _<_}
+use Prim.Native.Nat.{ℕ, _<_}
 use mathlib.Core.Path.{_≡_, refl, sym, ap, ap₂, _∙_, subst}
 use mathlib.Core.Bool.{Bool, true, false}
-use mathlib.Core.Logic.{_⊎_, inl, inr}
+use mathlib.Core.Logic.{inl, inr}
 use mathlib.Core.List.{List, [], _∷_}
 use native.Mathlib.Omega.{arith}
 use lib.ListN.{length, getD}
-use Rattle.model.specs.Lists.{upFrom, maskBelow, has}
+use Rattle.model.specs.Lists.{maskBelow, has}
 use Rattle.model.specs.Tree.{Child, Below, AtOrBelow}
 use Rattle.model.specs.Summary.{Summary, asDocument}
 use Rattle.model.specs.Pattern.{Pattern, patternParent, descends, position, Embeds}
@@ -30,7 +30,7 @@ use Rattle.containment.specs.Stepping.{Candidates, reachBy}
 use Rattle.containment.specs.Alternatives.{givenOf, offeredOf, metBySome, Toward}
 use Rattle.containment.proofs.ChainLaws.{hang-mask}
 use Rattle.containment.proofs.Deciding.{reach-mask}
-use Rattle.containment.proofs.Judging.{pass-under, given-mask, settled-mask, settled-less}
+use Rattle.containment.proofs.Judging.{given-mask, settled-mask, settled-less}
 use Rattle.containment.proofs.OfferLaws.{Subset, in-mask, mask-of-more, node-sub, hang-sub, root-sub}
 use Rattle.containment.proofs.Skipping.{placed-embeds, images-inside}
 

@@ -40,7 +40,7 @@ ghost use Rattle.format.specs.Given.{patternAt, PatternGiven};
 ghost use Rattle.cover.specs.Cover.{Within, Among};
 ghost use Rattle.containment.specs.Alternatives.{nodeOf, Raises, Met, Grown, startIn, manyIn, Entry, Roomy, Alternatives, Table, At, FarBelow};
 ghost use Rattle.containment.specs.Alternatives.{Toward, Covered, Pointed, Known, mattersBy, Fillable};
-ghost use Rattle.containment.specs.Blocks.{candidatesIn};
+ghost use Rattle.containment.specs.Blocks.{cell as cellOf, candidatesIn};
 ghost use Rattle.containment.specs.Prepared.{Made};
 ghost use Rattle.containment.specs.Room.{MembersGiven};
 
@@ -48,28 +48,32 @@ ghost use Rattle.containment.specs.Room.{MembersGiven};
 // known at least by that.
 const SPARE: usize = 1024;
 
-// Where the sets begin that are known of node c, where its parent stands at x.
-pub fn start_at(alts: &[Offer], c: PatternNode, x: SummaryNode) -> usize
-    requires { ⌜ (c .0 < 16) × (x .0 < 64) ⌝ }
-    ensures { λ r. ⌜ r ≡ startIn (now (alts .entry)) (c .0) (x .0) ⌝ }
+// Entry k of the row of the cell of node c and x; 0 where the table has no such row.
+fn entry_at(alts: &[Offer], c: PatternNode, x: SummaryNode, k: usize) -> usize
+    requires { ⌜ (c .0 < 16) × (x .0 < 64) × (k < 8) ⌝ }
+    ensures { λ r. ⌜ r ≡ getD (getD (now (alts .entry)) (cellOf (c .0) (x .0)) []) k 0 ⌝ }
 {
     let i = cell(c, x);
     if i < alts.len() {
-        return wide(alts[i][0]);
+        return wide(alts[i][k]);
     }
     0
 }
 
+// Where the sets begin that are known of node c, where its parent stands at x.
+fn start_at(alts: &[Offer], c: PatternNode, x: SummaryNode) -> usize
+    requires { ⌜ (c .0 < 16) × (x .0 < 64) ⌝ }
+    ensures { λ r. ⌜ r ≡ startIn (now (alts .entry)) (c .0) (x .0) ⌝ }
+{
+    entry_at(alts, c, x, 0)
+}
+
 // How many there are, 0 where nothing is known.
-pub fn many_at(alts: &[Offer], c: PatternNode, x: SummaryNode) -> usize
+fn many_at(alts: &[Offer], c: PatternNode, x: SummaryNode) -> usize
     requires { ⌜ (c .0 < 16) × (x .0 < 64) ⌝ }
     ensures { λ r. ⌜ r ≡ manyIn (now (alts .entry)) (c .0) (x .0) ⌝ }
 {
-    let i = cell(c, x);
-    if i < alts.len() {
-        return wide(alts[i][1]);
-    }
-    0
+    entry_at(alts, c, x, 1)
 }
 
 // Joins what is known of node d, whose parent stands at y, into the list; where nothing is known the list stays. At the root, `top`,

@@ -1,6 +1,5 @@
 -- `containment::alternatives::add_below` meets its contract: nothing is always offered, and what is known is raised. Assumes nothing.
-use Prim.Native.Nat.{ℕ, _+_, _≤_}
-use native.Mathlib.Omega.{arith}
+use Prim.Native.Nat.{_+_, _≤_}
 use lib.ListN.{length}
 use borrow.Author.Needs.{needs}
 use Rattle.containment.proofs.FillLaws.{entry-room, entry-part}

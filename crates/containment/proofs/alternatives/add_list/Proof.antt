@@ -1,8 +1,6 @@
 -- `containment::alternatives::add_list` meets its contract: the front of the list is lent. Assumes nothing.
-use Prim.Native.Nat.{ℕ, _≤_}
-use mathlib.Core.Path.{_≡_, sym}
+use mathlib.Core.Path.{sym}
 use native.Mathlib.Omega.{arith}
-use lib.ListN.{length}
 use lib.Seq.{length-take-le}
 use borrow.Author.Needs.{needs}
 use Rattle.containment.proofs.JoinLaws.{among-front}

@@ -1,6 +1,6 @@
 -- `containment::alternatives::below_part` meets its contract: it is added, or the node has no path there, or its edge does not reach so far.
 -- Assumes nothing.
-use Prim.Native.Nat.{ℕ, _<_}
+use Prim.Native.Nat.{_<_}
 use mathlib.Core.Path.{sym, ap₂, _∙_}
 use native.Mathlib.Omega.{arith}
 use lib.Bits.{bitAnd}

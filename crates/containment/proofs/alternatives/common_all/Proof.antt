@@ -1,6 +1,6 @@
 -- `containment::alternatives::common_all` meets its contract: before turn k the set is inside each of those before k. The measure is how many
 -- are left. Assumes nothing.
-use Prim.Native.Nat.{ℕ, _-_}
+use Prim.Native.Nat.{_-_}
 use native.Mathlib.Omega.{arith}
 use borrow.Author.Needs.{needs}
 use Rattle.cover.proofs.CoverLaws.{common-within}

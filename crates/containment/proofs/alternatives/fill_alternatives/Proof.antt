@@ -1,7 +1,7 @@
 -- `containment::alternatives::fill_alternatives` meets its contract: nothing is known at first, and every cell stays right while row after row
 -- is filled. The measure is how many are left. Assumes nothing.
-use Prim.Native.Nat.{ℕ, _≤_}
-use mathlib.Core.Path.{_≡_, refl, _∙_}
+use Prim.Native.Nat.{_≤_}
+use mathlib.Core.Path.{_≡_, refl}
 use native.Mathlib.Omega.{arith}
 use lib.ListN.{length}
 use borrow.Author.Needs.{needs}

@@ -1,6 +1,5 @@
 -- `containment::alternatives::gather` meets its contract: the children of x that had their turn are covered, and whatever is reached from x
 -- lies toward one of them. The measure is what is left of the mask. Assumes nothing.
-use Prim.Native.Nat.{ℕ}
 use borrow.Author.Needs.{needs}
 use Rattle.format.specs.Given.{patternAt}
 use Rattle.containment.proofs.FillLaws.{fill-below, Gathered, gathered-start, gathered-step, gathered-end}

@@ -1,11 +1,9 @@
 -- `containment::alternatives::join_entry` meets its contract: the sets that are joined are the cell's. Assumes nothing.
-use Prim.Native.Nat.{ℕ, _<_, _≤_, _+_}
-use mathlib.Core.Path.{_≡_, sym, _∙_, subst}
+use Prim.Native.Nat.{_≤_, _+_}
 use mathlib.Core.Logic.{inl}
-use native.Mathlib.Omega.{arith}
 use lib.ListN.{length}
 use borrow.Author.Needs.{needs}
-use Rattle.containment.proofs.FillLaws.{part-rows, entry-room, entry-part}
+use Rattle.containment.proofs.FillLaws.{entry-room, entry-part}
 use Rattle.containment.proofs.alternatives.join_entry.Statement.{statement}
 use Rattle.containment.proofs.alternatives.join_entry.Tie as tie
 

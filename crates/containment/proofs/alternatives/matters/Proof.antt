@@ -1,6 +1,4 @@
 -- `containment::alternatives::matters` meets its contract, by the kind of the edge. Assumes nothing.
-use Prim.Native.Nat.{ℕ, _<_}
-use mathlib.Core.Path.{_≡_, sym, _∙_}
 use native.Mathlib.Omega.{arith}
 use borrow.Author.Needs.{needs}
 use Rattle.format.specs.Given.{patternAt}

@@ -1,6 +1,6 @@
 -- `containment::alternatives::same_rows` meets its contract: before turn k the rows before k are the list's. The measure is how many are
 -- left. Assumes nothing.
-use Prim.Native.Nat.{ℕ, _-_}
+use Prim.Native.Nat.{_-_}
 use mathlib.Core.Bool.{false≢true}
 use native.Mathlib.Omega.{arith}
 use borrow.Author.Needs.{needs}

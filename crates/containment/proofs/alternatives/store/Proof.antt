@@ -1,6 +1,5 @@
 -- `containment::alternatives::store` meets its contract: nothing is known, or the rows last stored cover what the list does, or it is
 -- stored. Assumes nothing.
-use Prim.Native.Nat.{ℕ}
 use mathlib.Core.Path.{refl}
 use native.Mathlib.Omega.{arith}
 use borrow.Author.Needs.{needs}

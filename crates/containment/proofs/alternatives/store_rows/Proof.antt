@@ -1,7 +1,5 @@
 -- `containment::alternatives::store_rows` meets its contract: the rows in use stay, and the new ones cover what the list does. Assumes
 -- nothing.
-use Prim.Native.Nat.{ℕ}
-use mathlib.Core.Path.{sym, _∙_}
 use native.Mathlib.Omega.{arith}
 use borrow.Author.Needs.{needs}
 use Rattle.containment.proofs.FillLaws.{known-stored, kept-copied, kept-common}
