@@ -15,7 +15,7 @@ abbrev pub countedOf : CountAnswer → model.CountAnswer
 countedOf r = record { refused = r .refused; count = r .count }
 
 -- a count, and the answer buffer afterwards
-abbrev pub nodesOf : CountAnswer → List ℕ → model.NodesOutcome
+abbrev pub nodesOf : CountAnswer → List ℕ → model.CountOutcome
 nodesOf r after = record { answer = countedOf r; buffer = after }
 
 -- masks and counts

@@ -18,6 +18,7 @@ use Rattle.model.specs.Tree.{Document, noDocumentRecord}
 use Rattle.model.specs.Summary.{Summary, noSummaryRecord}
 use Rattle.model.specs.Pattern.{Pattern, noPatternRecord}
 use Rattle.model.specs.Bytes.{field, fieldBytes, bytesOf, recordsAt, summaryRecordAt, patternRecordAt, documentRecordAt, section, sectionEnd, memberAt, setEnd, setOf, firstAt, setAt, caseEnd, Case, caseOf, WholeSection, WholeSet, WholeCase, isWholeCase, Decoded, tables, notWhole, decodeCase, documentOf, isWholeDocument, decodeDocument, listOf, summaryFields, patternFields, documentFields, sectionFields, setFields, caseFields, encodeCase, encodeDocument, encodeList, writtenAtFront}
+use Rattle.model.specs.OldForm.{oldWidth, oldRecordFields, oldRecordAt}
 use Rattle.model.proofs.ListLaws.{and-intro, and-left, and-right}
 
 -- ---- the whole case
@@ -104,7 +105,7 @@ unfolding bytesOf flatMap fieldBytes
 length-bytes [] = refl
 length-bytes (f ∷ fs) = let ih : length (bytesOf fs) ≡ 2 * length fs = length-bytes fs in omega arith
 
-field-next : (x y : ℕ) (b : List ℕ) (i : ℕ) → field (x ∷ y ∷ b) (suc i) ≡ field b i
+pub field-next : (x y : ℕ) (b : List ℕ) (i : ℕ) → field (x ∷ y ∷ b) (suc i) ≡ field b i
 unfolding field
 field-next x y b i =
     let low : 2 * suc i ≡ suc (suc (2 * i)) = omega arith in
@@ -197,7 +198,7 @@ module _ {A : Type 0} (read : List ℕ → ℕ → A) (fields : A → List ℕ) 
       (λ j k. ap (λ (i : ℕ). read b (at + 1 + width * i)) (zero-add j)
       ∙ record-back b d rs (at + 1) (holds-right b at (length rs ∷ []) (flatMap fields rs) h) j k)
 
-summary-readable : Readable summaryRecordAt summaryFields summaryWidth
+pub summary-readable : Readable summaryRecordAt summaryFields summaryWidth
 summary-readable =
     record {
       size = λ r. refl;
@@ -208,16 +209,22 @@ summary-readable =
           λ i. record { parent = p i; label = l i; strong = s i };
     }
 
+-- four fields that the bytes hold
+four-held : (b : List ℕ) (at p l e k : ℕ) → Holds b at (p ∷ l ∷ e ∷ k ∷ []) → (field b at ≡ p) × (field b (at + 1) ≡ l) × (field b (at + 2) ≡ e) × (field b (at + 3) ≡ k)
+four-held b at p l e k h = (holds-head b at p (l ∷ e ∷ k ∷ []) h, h 1 (lit< tt), h 2 (lit< tt), h 3 (lit< tt))
+
 pub pattern-readable : Readable patternRecordAt patternFields patternWidth
 pattern-readable =
     record {
       size = λ r. refl;
-      back = λ b at r h.
-          let p : field b at ≡ r .parent = holds-head b at (r .parent) (r .label ∷ r .edge ∷ r .position ∷ []) h in
-          let l : field b (at + 1) ≡ r .label = h 1 (lit< tt) in
-          let e : field b (at + 2) ≡ r .edge = h 2 (lit< tt) in
-          let k : field b (at + 3) ≡ r .position = h 3 (lit< tt) in
-          λ i. record { parent = p i; label = l i; edge = e i; position = k i };
+      back = λ b at r h. (let f = four-held b at (r .parent) (r .label) (r .edge) (r .position) h in λ i. record { parent = f .0 i; label = f .1 i; edge = f .2 i; position = f .3 i });
+    }
+
+pub old-readable : Readable oldRecordAt oldRecordFields oldWidth
+old-readable =
+    record {
+      size = λ r. refl;
+      back = λ b at r h. (let f = four-held b at (r .parent) (r .label) (r .edge) (r .position) h in λ i. record { parent = f .0 i; label = f .1 i; edge = f .2 i; position = f .3 i });
     }
 
 document-readable : Readable documentRecordAt documentFields documentWidth
@@ -314,13 +321,14 @@ module _ (b : List ℕ) where
         omega arith
 
 -- a case: the bytes hold its two sections and its set one after another
--- an outline, the first selection, and whatever fields follow them
-module _ (S : Summary) (P : Pattern) (rest : List ℕ) (h : FitFields (sectionFields summaryFields S ++ (sectionFields patternFields P ++ rest))) where
+-- an outline, the first selection, with records of whichever form, and whatever fields follow them
+module _ {A : Type 0} (read : List ℕ → ℕ → A) (fields : A → List ℕ) (width : ℕ) (ok : Readable read fields width) (none : A) (S : Summary) (P : List A) (rest : List ℕ)
+    (h : FitFields (sectionFields summaryFields S ++ (sectionFields fields P ++ rest))) where
   abbrev summaryPart : List ℕ
   summaryPart = sectionFields summaryFields S
 
   abbrev firstPart : List ℕ
-  firstPart = sectionFields patternFields P
+  firstPart = sectionFields fields P
 
   abbrev written : List ℕ
   written = bytesOf (summaryPart ++ (firstPart ++ rest))
@@ -341,19 +349,22 @@ module _ (S : Summary) (P : Pattern) (rest : List ℕ) (h : FitFields (sectionFi
   holds-first : Holds written (firstAt written) firstPart
   holds-first = holds-left written (firstAt written) firstPart rest holds-patterns
 
-  rest-at : setAt written ≡ firstAt written + length firstPart
-  rest-at = section-end patternRecordAt patternFields patternWidth pattern-readable written (firstAt written) P holds-first
+  abbrev restAt : ℕ
+  restAt = sectionEnd width written (firstAt written)
 
-  pub holds-rest : Holds written (setAt written) rest
+  rest-at : restAt ≡ firstAt written + length firstPart
+  rest-at = section-end read fields width ok written (firstAt written) P holds-first
+
+  pub holds-rest : Holds written restAt rest
   holds-rest = subst (λ (at : ℕ). Holds written at rest) (sym rest-at) (holds-right written (firstAt written) firstPart rest holds-patterns)
 
   pub summary-back : section summaryRecordAt summaryWidth written 0 ≡ S
   summary-back = section-back summaryRecordAt summaryFields summaryWidth summary-readable written noSummaryRecord 0 S holds-summary
 
-  pub first-back : section patternRecordAt patternWidth written (firstAt written) ≡ P
-  first-back = section-back patternRecordAt patternFields patternWidth pattern-readable written noPatternRecord (firstAt written) P holds-first
+  pub first-back : section read width written (firstAt written) ≡ P
+  first-back = section-back read fields width ok written none (firstAt written) P holds-first
 
-  pub written-length : (end : ℕ) → end ≡ setAt written + length rest → length written ≡ 2 * end
+  pub written-length : (end : ℕ) → end ≡ restAt + length rest → length written ≡ 2 * end
   written-length end e =
       length-bytes (summaryPart ++ (firstPart ++ rest))
       ∙ ap (λ (n : ℕ). 2 * n) (length-append summaryPart (firstPart ++ rest) ∙ ap (λ (n : ℕ). length summaryPart + n) (length-append firstPart rest)
@@ -365,19 +376,19 @@ module _ (c : Case) (h : FitFields (caseFields c)) where
 
   case-end : caseEnd (encodeCase c) ≡ setAt (encodeCase c) + length setPart
   unfolding encodeCase caseFields
-  case-end = set-end (encodeCase c) (setAt (encodeCase c)) (c .members) (holds-rest (c .summary) (c .first) setPart h)
+  case-end = set-end (encodeCase c) (setAt (encodeCase c)) (c .members) (holds-rest patternRecordAt patternFields patternWidth pattern-readable noPatternRecord (c .summary) (c .first) setPart h)
 
   pub case-back : caseOf (encodeCase c) ≡ c
   unfolding caseOf encodeCase caseFields
   case-back =
-      let s : section summaryRecordAt summaryWidth (encodeCase c) 0 ≡ c .summary = summary-back (c .summary) (c .first) setPart h in
-      let f : section patternRecordAt patternWidth (encodeCase c) (firstAt (encodeCase c)) ≡ c .first = first-back (c .summary) (c .first) setPart h in
-      let g : setOf (encodeCase c) (setAt (encodeCase c)) ≡ c .members = set-back (encodeCase c) (setAt (encodeCase c)) (c .members) (holds-rest (c .summary) (c .first) setPart h) in
+      let s : section summaryRecordAt summaryWidth (encodeCase c) 0 ≡ c .summary = summary-back patternRecordAt patternFields patternWidth pattern-readable noPatternRecord (c .summary) (c .first) setPart h in
+      let f : section patternRecordAt patternWidth (encodeCase c) (firstAt (encodeCase c)) ≡ c .first = first-back patternRecordAt patternFields patternWidth pattern-readable noPatternRecord (c .summary) (c .first) setPart h in
+      let g : setOf (encodeCase c) (setAt (encodeCase c)) ≡ c .members = set-back (encodeCase c) (setAt (encodeCase c)) (c .members) (holds-rest patternRecordAt patternFields patternWidth pattern-readable noPatternRecord (c .summary) (c .first) setPart h) in
       λ i. record { summary = s i; first = f i; members = g i }
 
   case-length : length (encodeCase c) ≡ 2 * caseEnd (encodeCase c)
   unfolding encodeCase caseFields
-  case-length = written-length (c .summary) (c .first) setPart h (caseEnd (encodeCase c)) case-end
+  case-length = written-length patternRecordAt patternFields patternWidth pattern-readable noPatternRecord (c .summary) (c .first) setPart h (caseEnd (encodeCase c)) case-end
 
   pub case-whole : length (encodeCase c) ≤ maxCaseBytes → isWholeCase (encodeCase c) ≡ true
   case-whole s = whole-case (encodeCase c) .1 (whole-facts (encodeCase c) s case-length)

@@ -15,7 +15,7 @@ use Rattle.model.specs.Fitting.{fits}
 use Rattle.model.specs.Verdict.{verdict}
 use Rattle.model.specs.Bytes.{caseOf, documentOf, listOf, encodeCounted}
 use Rattle.model.specs.Questions.{selected, verdictRefusal, fitsRefusal, resultRefusal, nodesRefusal, pathsRefusal, layoutRefusal}
-use Rattle.model.specs.Calls.{VerdictOutcome, shown, verdictAccepted, verdictRefused, verdictCall, TestAnswer, testAnswer, fitsCall, resultCall, nodesAccepted, nodesRefused, nodesCall, pathsAccepted, pathsRefused, pathsCall, LaidRecord, layoutAccepted, layoutRefused, layoutCall}
+use Rattle.model.specs.Calls.{VerdictOutcome, shown, verdictAccepted, verdictRefused, verdictCall, TestAnswer, testAnswer, fitsCall, resultCall, nodesAccepted, countRefused, nodesCall, pathsAccepted, pathsRefused, pathsCall, LaidRecord, layoutAccepted, layoutRefused, layoutCall}
 use Rattle.model.proofs.Bytes.{length-bytes, front-length}
 use Rattle.model.proofs.CallFacts.{accepted-verdict}
 
@@ -82,17 +82,17 @@ result-accepted b s w r e = test-accepted (resultRefusal b s w r) (isResult (sel
 module _ (b : List ℕ) (s : ℕ) (w : List ℕ) (p : ℕ) (buffer : List ℕ) where
   pub nodes-refused : nodesRefusal b s w p (length buffer) ≢ 0
       → nodesCall b s w p buffer ≡ record { answer = record { refused = nodesRefusal b s w p (length buffer); count = 0 }; buffer = buffer }
-  unfolding nodesCall nodesRefused
+  unfolding nodesCall countRefused
   nodes-refused f =
       let number : ℕ = nodesRefusal b s w p (length buffer) in
-      chosen-refused number (nodesAccepted (nodesAt (selected (caseOf b) s) (documentOf w) p) buffer) (nodesRefused number buffer) f
+      chosen-refused number (nodesAccepted (nodesAt (selected (caseOf b) s) (documentOf w) p) buffer) (countRefused number buffer) f
 
   pub nodes-accepted : nodesRefusal b s w p (length buffer) ≡ 0
       → nodesCall b s w p buffer ≡ nodesAccepted (nodesAt (selected (caseOf b) s) (documentOf w) p) buffer
   unfolding nodesCall
   nodes-accepted e =
       let number : ℕ = nodesRefusal b s w p (length buffer) in
-      chosen-accepted number (nodesAccepted (nodesAt (selected (caseOf b) s) (documentOf w) p) buffer) (nodesRefused number buffer) e
+      chosen-accepted number (nodesAccepted (nodesAt (selected (caseOf b) s) (documentOf w) p) buffer) (countRefused number buffer) e
 
 -- ---- paths of each node
 

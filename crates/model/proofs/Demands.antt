@@ -20,9 +20,10 @@ use Rattle.model.specs.Canonical.{canonical, canonicalSpots, ownNodes, o
 use Rattle.model.specs.Verdict.{Verdict, included, notIncluded, stopped, verdict, triedOf}
 use Rattle.model.specs.Bytes.{Case, caseOf, documentOf, listOf, documentFields, sectionFields, encodeDocument, encodeCounted, writtenAtFront}
 use Rattle.model.specs.Questions.{selected, caseQuestions, verdictRefusal, fitsRefusal, resultRefusal, nodesRefusal, pathsRefusal, layoutRefusal}
-use Rattle.model.specs.Calls.{kindIncluded, kindNotIncluded, kindStopped, kindOf, shown, VerdictOutcome, verdictAccepted, verdictCall, TestAnswer, fitsCall, resultCall, NodesOutcome, nodesAccepted, nodesCall, PathsAnswer, pathsAccepted, pathsCall, LaidRecord, laidRecord, LayoutOutcome, layoutAccepted, layoutCall}
+use Rattle.model.specs.Calls.{kindIncluded, kindNotIncluded, kindStopped, kindOf, shown, VerdictOutcome, verdictAccepted, verdictCall, TestAnswer, fitsCall, resultCall, CountOutcome, nodesAccepted, nodesCall, PathsAnswer, pathsAccepted, pathsCall, LaidRecord, laidRecord, LayoutOutcome, layoutAccepted, layoutCall}
 use Rattle.model.specs.Facts.{SummaryFacts, PatternFacts, MemberFacts, CaseFacts}
-use Rattle.model.specs.Demands.{TestTold, FitsTold, ResultTold, NodesTold, PathsTold, LayoutTold, SomeCounterExample, AllEmbeddingsPass, SomeEmbeddingFails, Shown, ReadsBack, Demand3, FitsAnswered, ResultAnswered, NodesAnswered, PathsAnswered, LayoutAnswered, VerdictAnswered}
+use Rattle.model.specs.Moving.{upgradeCall, downgradeCall}
+use Rattle.model.specs.Demands.{TestTold, FitsTold, ResultTold, NodesTold, PathsTold, LayoutTold, SomeCounterExample, AllEmbeddingsPass, SomeEmbeddingFails, Shown, ReadsBack, Demand3, FitsAnswered, ResultAnswered, NodesAnswered, PathsAnswered, LayoutAnswered, VerdictAnswered, Upgraded, Downgraded, UpgradeAnswered, DowngradeAnswered}
 use Rattle.model.proofs.ListLaws.{length-map-upFrom, getD-map-upFrom}
 use Rattle.model.proofs.ReturnNodes.{length-returnNodes}
 use Rattle.model.proofs.Results.{result-exact, nodes-at-exact, nodes-at-ascending, path-mask-exact, path-mask-beyond, path-count-ones}
@@ -34,6 +35,7 @@ use Rattle.model.proofs.CallFacts.{accepted-verdict, accepted-fits, acc
 use Rattle.model.proofs.CaseFacts.{selected-facts, labels-some}
 use Rattle.model.proofs.Calls.{verdict-refused, verdict-accepted, fits-refused, fits-accepted, result-refused, result-accepted, nodes-refused, nodes-accepted, paths-refused, paths-accepted, layout-refused, layout-accepted, length-counted, verdict-length}
 use Rattle.model.proofs.Bytes.{FitFields, front-none, length-document}
+use Rattle.model.proofs.Moving.{upgrade-refused, downgrade-refused, upgrade-moved, downgrade-moved}
 use Rattle.model.proofs.ReadBack.{AreBytes, label-small, canonical-labels, canonical-fields, reads-back}
 
 -- ---- Demand 2: fits, results, nodes at a position and paths are told exactly by the definitions
@@ -63,12 +65,12 @@ nodes-told b s w p buffer e =
     let P : Pattern = selected (caseOf b) s in
     let q : nodesCall b s w p buffer ≡ nodesAccepted (nodesAt P (documentOf w) p) buffer = nodes-accepted b s w p buffer e in
     record {
-      accepted = ap (λ (o : NodesOutcome). o .answer .refused) q;
+      accepted = ap (λ (o : CountOutcome). o .answer .refused) q;
       nodes = nodesAt P (documentOf w) p;
       exact = λ v. nodes-at-exact p v (selected-facts (caseOf b) s (f .case .facts) (f .number) .pattern) (f .document .tree) (f .positionLow) (f .positionHigh);
       ascending = nodes-at-ascending P (documentOf w) p;
-      count = ap (λ (o : NodesOutcome). o .answer .count) q;
-      written = ap (λ (o : NodesOutcome). o .buffer) q;
+      count = ap (λ (o : CountOutcome). o .answer .count) q;
+      written = ap (λ (o : CountOutcome). o .buffer) q;
     }
 
 entry : (f : ℕ → ℕ) (q : ℕ) → q < maxPattern → getD (map f (upFrom 0 maxPattern)) q 0 ≡ f q
@@ -299,7 +301,7 @@ result-answered b s w r e =
       demand2 = λ z. subst (ResultTold (selected (caseOf b) s) (documentOf w) (listOf r)) (sym e) (result-told b s w r z);
     }
 
-pub nodes-answered : (b : List ℕ) (s : ℕ) (w : List ℕ) (p : ℕ) (before : List ℕ) {o : NodesOutcome} → o ≡ nodesCall b s w p before → NodesAnswered b s w p before o
+pub nodes-answered : (b : List ℕ) (s : ℕ) (w : List ℕ) (p : ℕ) (before : List ℕ) {o : CountOutcome} → o ≡ nodesCall b s w p before → NodesAnswered b s w p before o
 nodes-answered b s w p before e =
     record {
       outcome = e;
@@ -329,6 +331,22 @@ verdict-answered b small L tally before e =
       outcome = e;
       demand1 = λ f. e ∙ verdict-refused b L tally before f;
       demand3 = λ z. subst (Demand3 b L tally before) (sym e) (demand-3 b small L tally before z);
+    }
+
+pub upgrade-answered : (b : List ℕ) → AreBytes b → (before : List ℕ) {o : CountOutcome} → o ≡ upgradeCall b before → UpgradeAnswered b before o
+upgrade-answered b small before e =
+    record {
+      outcome = e;
+      demand1 = λ f. e ∙ upgrade-refused b before f;
+      moved = λ z. subst (Upgraded b before) (sym e) (upgrade-moved b small before z);
+    }
+
+pub downgrade-answered : (b : List ℕ) → AreBytes b → (before : List ℕ) {o : CountOutcome} → o ≡ downgradeCall b before → DowngradeAnswered b before o
+downgrade-answered b small before e =
+    record {
+      outcome = e;
+      demand1 = λ f. e ∙ downgrade-refused b before f;
+      moved = λ z. subst (Downgraded b before) (sym e) (downgrade-moved b small before z);
     }
 
 -- ---- What is lent keeps its length: what a call writes fits

@@ -37,6 +37,8 @@ pub mod Tally
 pub mod Decision
 pub mod Sets
 pub mod ReadBack
+pub mod WriteBack
+pub mod Moving
 pub mod Demands
 pub mod Printed
 pub mod Computing

@@ -42,7 +42,7 @@ use Rattle.model.proofs.Calls.{fits-accepted, result-accepted}
 abbrev pub AreBytes : List ℕ → Type 0
 AreBytes b = (i : ℕ) → getD b i 0 < 256
 
-field-fits : (b : List ℕ) → AreBytes b → (i : ℕ) → field b i < 65_536
+pub field-fits : (b : List ℕ) → AreBytes b → (i : ℕ) → field b i < 65_536
 unfolding field
 field-fits b h i =
     let low = h (2 * i) in

@@ -4,7 +4,7 @@ use Prim.Native.Nat.{ℕ}
 use mathlib.Core.Path.{_≡_, refl, sym, ap, _∙_}
 use mathlib.Core.Bool.{true, false}
 use mathlib.Core.Logic.{_⊎_, inl, inr, _≢_}
-use mathlib.Core.List.{List, [], _∷_, _++_}
+use mathlib.Core.List.{List, [], _∷_, _++_, append-nil}
 use Rattle.model.specs.Questions.{Question, refusal}
 use Rattle.model.proofs.ListLaws.{true-or-false}
 
@@ -30,6 +30,10 @@ Numbered (q ∷ qs) = (q .number ≢ 0) × Numbered qs
 pub refusal-after : (qs rs : List Question) → AllYes qs → refusal (qs ++ rs) ≡ refusal rs
 refusal-after [] rs y = refl
 refusal-after (q ∷ qs) rs y = refusal-yes q (qs ++ rs) (y .0) ∙ refusal-after qs rs (y .1)
+
+pub refusal-none : (qs : List Question) → AllYes qs → refusal qs ≡ 0
+unfolding refusal
+refusal-none qs y = ap refusal (sym (append-nil qs)) ∙ refusal-after qs [] y
 
 -- the refusal is the number of the first question whose answer is no, whatever comes after
 pub refusal-first : (qs : List Question) (q : Question) (rs : List Question) → AllYes qs → q .answer ≡ false → refusal (qs ++ q ∷ rs) ≡ q .number
@@ -66,6 +70,10 @@ all-yes-left (q ∷ qs) rs y = (y .0, all-yes-left qs rs (y .1))
 pub all-yes-right : (qs rs : List Question) → AllYes (qs ++ rs) → AllYes rs
 all-yes-right [] rs y = y
 all-yes-right (q ∷ qs) rs y = all-yes-right qs rs (y .1)
+
+pub all-yes-append : (qs rs : List Question) → AllYes qs → AllYes rs → AllYes (qs ++ rs)
+all-yes-append [] rs y z = z
+all-yes-append (q ∷ qs) rs y z = (y .0, all-yes-append qs rs (y .1) z)
 
 pub numbered-append : (qs rs : List Question) → Numbered qs → Numbered rs → Numbered (qs ++ rs)
 numbered-append [] rs k l = l

@@ -5,25 +5,25 @@ use Prim.Native.Nat.{ℕ, _*_, _≤_}
 use mathlib.Core.Path.{_≡_, refl, sym, ap, ap₂, _∙_, subst}
 use mathlib.Core.Bool.{Bool, true, false, _&&_}
 use mathlib.Core.Logic.{_↔_}
-use mathlib.Core.List.{List, [], _∷_, List·Memᴰ, List·Memᴰ·head, List·Memᴰ·eq-of-singleton}
+use mathlib.Core.List.{List, [], _∷_, _++_, append-assoc, List·Memᴰ, List·Memᴰ·head, List·Memᴰ·eq-of-singleton}
 use lib.Dec.{eqb}
-use lib.ListN.{length}
+use lib.ListN.{length, length-map}
 use borrow.Author.Tests.{le-leb, eq-eqb}
 use Rattle.model.specs.Lists.{anyOf, allOf}
-use Rattle.model.specs.Limits.{maxSummary, maxCaseBytes, summaryWidth, patternWidth}
+use Rattle.model.specs.Limits.{maxSummary, maxPattern, maxCaseBytes, summaryWidth}
 use Rattle.model.specs.Summary.{Summary}
-use Rattle.model.specs.Pattern.{Pattern, noPatternRecord, arity, Result, Contained, ContainedIn}
+use Rattle.model.specs.Pattern.{Pattern, arity, Result, Contained, ContainedIn}
 use Rattle.model.specs.Embeddings.{summaryEmbeddings}
 use Rattle.model.specs.Canonical.{passes, covered}
 use Rattle.model.specs.Verdict.{Verdict, included, verdict}
-use Rattle.model.specs.Bytes.{summaryRecordAt, patternRecordAt, section, firstAt, Case, caseOf, isWholeCase, summaryFields, patternFields, sectionFields, caseFields, encodeCase}
+use Rattle.model.specs.Bytes.{summaryRecordAt, section, firstAt, Case, isWholeCase, sectionFields, caseFields, encodeCase}
 use Rattle.model.specs.Questions.{between, limitInRange, bufferLargeEnough, caseWhole, countInRange, countsInRange, setInRange, summaryKept, siblingsDiffer, patternKept, patternsKept, positionsOnce, positionsKept, tallyInRange, Question, ask, refusal, caseQuestions, verdictRefusal}
 use Rattle.model.specs.Calls.{VerdictOutcome, outcomeBy, verdictAccepted, verdictCall, verdictRefused}
-use Rattle.model.specs.OldForm.{OldCase, secondAt, oldEnd, oldCaseOf, oldFields, encodeOldCase, oneOf, oldWhole, oldCountsInRange, oldPatternsKept, oldPositionsKept, oldQuestions, oldVerdictRefusal, oldVerdict, oldAccepted, oldVerdictCall}
+use Rattle.model.specs.OldForm.{OldRecord, oldWidth, oldRecordFields, oldRecordAt, newRecord, newPattern, SetOfOne, OldCase, secondAt, oldEnd, oldCaseOf, oldFields, encodeOldCase, oneOf, oldWhole, oldCountsInRange, oldPatternsKept, oldPositionsKept, oldQuestions, oldVerdictRefusal, oldVerdict, oldAccepted, oldVerdictCall}
 use Rattle.model.proofs.ListLaws.{bool-ext, and-intro, any-intro, any-elim}
 use Rattle.model.proofs.Verdict.{judge-agree, judge-included, included-judge}
 use Rattle.model.proofs.Refusals.{refusal-drop}
-use Rattle.model.proofs.Bytes.{FitFields, pattern-readable, section-back, section-end, holds-rest, summary-back, first-back, written-length, case-back, case-whole}
+use Rattle.model.proofs.Bytes.{FitFields, Holds, old-readable, section-back, section-end, holds-rest, summary-back, first-back, written-length, case-back, case-whole}
 
 -- ---- which members there are decides, and nothing else
 
@@ -96,13 +96,15 @@ module _ (c : OldCase) where
       go true = refl
       go false = refl
 
-  counts-one : countsInRange (oneOf c) ≡ oldCountsInRange c
+  pub counts-one : countsInRange (oneOf c) ≡ oldCountsInRange c
   unfolding countsInRange oldCountsInRange
-  counts-one = ap (λ (t : Bool). between 1 maxSummary (length (c .summary)) && countInRange (c .first) && t) (all-one countInRange (c .second))
+  counts-one =
+      ap (λ (t : Bool). between 1 maxSummary (length (c .summary)) && countInRange (newPattern (c .first)) && t) (all-one countInRange (newPattern (c .second)))
+      ∙ ap₂ (λ (m n : ℕ). between 1 maxSummary (length (c .summary)) && between 1 maxPattern m && between 1 maxPattern n) (length-map (c .first) newRecord) (length-map (c .second) newRecord)
 
   kept-one : patternsKept (oneOf c) ≡ oldPatternsKept c
   unfolding patternsKept oldPatternsKept
-  kept-one = ap (λ (t : Bool). patternKept (c .first) && t) (all-one patternKept (c .second))
+  kept-one = ap (λ (t : Bool). patternKept (newPattern (c .first)) && t) (all-one patternKept (newPattern (c .second)))
 
   and-assoc : (a b d : Bool) → (a && (b && d)) ≡ (a && b && d)
   and-assoc true b d = refl
@@ -111,72 +113,79 @@ module _ (c : OldCase) where
   positions-one : positionsKept (oneOf c) ≡ oldPositionsKept c
   unfolding positionsKept oldPositionsKept
   positions-one =
-      ap (λ (t : Bool). positionsOnce (c .first) && t) (all-one (λ Q. positionsOnce Q && eqb (arity (c .first)) (arity Q)) (c .second))
-      ∙ and-assoc (positionsOnce (c .first)) (positionsOnce (c .second)) (eqb (arity (c .first)) (arity (c .second)))
+      let P : Pattern = newPattern (c .first) in
+      let Q : Pattern = newPattern (c .second) in
+      ap (λ (t : Bool). positionsOnce P && t) (all-one (λ R. positionsOnce R && eqb (arity P) (arity R)) Q)
+      ∙ and-assoc (positionsOnce P) (positionsOnce Q) (eqb (arity P) (arity Q))
 
 one-in-range : (c : OldCase) → setInRange (oneOf c) ≡ true
 unfolding setInRange
 one-in-range c = refl
 
--- the case is whole in both forms, and means the same; `encoded-one` has such a pair
-pub record SetOfOne (a b : List ℕ) : Type 0 where
-  pub old : oldWhole a ≡ true
-  pub new : isWholeCase b ≡ true
-  pub same : caseOf b ≡ oneOf (oldCaseOf a)
-
--- 3 to 8 with these answers on the whole, on counts, patterns and positions, and 9
-asked : OldCase → Bool → Bool → Bool → Bool → Question → List Question
-asked c whole counts patterns positions last =
-    ask 3 whole ∷ ask 4 counts ∷ ask 5 (summaryKept (c .summary)) ∷ ask 6 (siblingsDiffer (c .summary)) ∷ ask 7 patterns ∷ ask 8 positions ∷ last ∷ []
+-- 3 to 8 with these answers on the whole, on counts, patterns and positions, and what is asked after
+asked : OldCase → Bool → Bool → Bool → Bool → List Question → List Question
+asked c whole counts patterns positions after =
+    ask 3 whole ∷ ask 4 counts ∷ ask 5 (summaryKept (c .summary)) ∷ ask 6 (siblingsDiffer (c .summary)) ∷ ask 7 patterns ∷ ask 8 positions ∷ after
 
 module _ {a b : List ℕ} (s : SetOfOne a b) where
-  refusal-one : (L tally bytes : ℕ) → verdictRefusal b L tally bytes ≡ oldVerdictRefusal a L tally bytes
-  unfolding verdictRefusal oldVerdictRefusal caseQuestions oldQuestions caseWhole asked
-  refusal-one L tally bytes =
+  -- both are refused alike, whatever is asked before and after
+  pub refused-one : (before after : List Question) → refusal (before ++ (caseQuestions b ++ after)) ≡ refusal (before ++ (oldQuestions a ++ after))
+  unfolding caseQuestions oldQuestions caseWhole asked
+  refused-one before after =
       let c : OldCase = oldCaseOf a in
-      let last : Question = ask 9 (tallyInRange tally L) in
-      let front : List Question → List Question = λ qs. ask 1 (limitInRange L) ∷ ask 2 (bufferLargeEnough bytes) ∷ qs in
-      ap (λ (d : Case). refusal (front (ask 3 (isWholeCase b) ∷ ask 4 (countsInRange d) ∷ ask 14 (setInRange d) ∷ ask 5 (summaryKept (d .summary))
-      ∷ ask 6 (siblingsDiffer (d .summary)) ∷ ask 7 (patternsKept d) ∷ ask 8 (positionsKept d) ∷ last ∷ []))) (s .same)
-      ∙ refusal-drop (front (ask 3 (isWholeCase b) ∷ ask 4 (countsInRange (oneOf c)) ∷ [])) (ask 14 (setInRange (oneOf c)))
-      (ask 5 (summaryKept (c .summary)) ∷ ask 6 (siblingsDiffer (c .summary)) ∷ ask 7 (patternsKept (oneOf c)) ∷ ask 8 (positionsKept (oneOf c)) ∷ last ∷ []) (one-in-range c)
-      ∙ λ i. refusal (front (asked c ((s .new ∙ sym (s .old)) i) (counts-one c i) (kept-one c i) (positions-one c i) last))
+      let four : List Question = ask 3 (isWholeCase b) ∷ ask 4 (countsInRange (oneOf c)) ∷ [] in
+      let set : Question = ask 14 (setInRange (oneOf c)) in
+      let rest : List Question = ask 5 (summaryKept (c .summary)) ∷ ask 6 (siblingsDiffer (c .summary)) ∷ ask 7 (patternsKept (oneOf c)) ∷ ask 8 (positionsKept (oneOf c)) ∷ after in
+      ap (λ (d : Case). refusal (before ++ (ask 3 (isWholeCase b) ∷ ask 4 (countsInRange d) ∷ ask 14 (setInRange d) ∷ ask 5 (summaryKept (d .summary))
+      ∷ ask 6 (siblingsDiffer (d .summary)) ∷ ask 7 (patternsKept d) ∷ ask 8 (positionsKept d) ∷ after))) (s .same)
+      ∙ ap refusal (sym (append-assoc before four (set ∷ rest))) ∙ refusal-drop (before ++ four) set rest (one-in-range c) ∙ ap refusal (append-assoc before four rest)
+      ∙ λ i. refusal (before ++ asked c ((s .new ∙ sym (s .old)) i) (counts-one c i) (kept-one c i) (positions-one c i) after)
+
+  refusal-one : (L tally bytes : ℕ) → verdictRefusal b L tally bytes ≡ oldVerdictRefusal a L tally bytes
+  unfolding verdictRefusal oldVerdictRefusal
+  refusal-one L tally bytes = refused-one (ask 1 (limitInRange L) ∷ ask 2 (bufferLargeEnough bytes) ∷ []) (ask 9 (tallyInRange tally L) ∷ [])
 
   -- the base's outcome, whole: refusal, kind, tried, tally, every byte
   pub call-one : (L tally : ℕ) (buffer : List ℕ) → verdictCall b L tally buffer ≡ oldVerdictCall a L tally buffer
   unfolding verdictCall oldVerdictCall verdictAccepted oldAccepted
   call-one L tally buffer =
+      let c : OldCase = oldCaseOf a in
       ap₂ (λ (n : ℕ) (o : VerdictOutcome). elim (eqb n 0) as (λ _. VerdictOutcome) [ true ↦ o | false ↦ verdictRefused n tally buffer ])
       (refusal-one L tally (length buffer))
-      (ap (λ (c : Case). verdictAccepted c L tally buffer) (s .same)
-      ∙ ap (λ (v : Verdict). outcomeBy (oldCaseOf a .summary) (oldCaseOf a .first) v tally buffer) (verdict-one (oldCaseOf a .summary) (oldCaseOf a .first) (oldCaseOf a .second) L))
+      (ap (λ (d : Case). verdictAccepted d L tally buffer) (s .same)
+      ∙ ap (λ (v : Verdict). outcomeBy (c .summary) (newPattern (c .first)) v tally buffer) (verdict-one (c .summary) (newPattern (c .first)) (newPattern (c .second)) L))
 
 -- ---- such a pair of bytes, of every old case that fits
 
-module _ (c : OldCase) (old : FitFields (oldFields c)) (new : FitFields (caseFields (oneOf c))) where
-  abbrev secondPart : List ℕ
-  secondPart = sectionFields patternFields (c .second)
+abbrev noOldRecord : OldRecord
+noOldRecord = record { parent = 0; label = 0; edge = 0; position = 0 }
 
-  old-back : oldCaseOf (encodeOldCase c) ≡ c
+module _ (c : OldCase) (old : FitFields (oldFields c)) where
+  abbrev secondPart : List ℕ
+  secondPart = sectionFields oldRecordFields (c .second)
+
+  holds-second : Holds (encodeOldCase c) (secondAt (encodeOldCase c)) secondPart
+  unfolding encodeOldCase oldFields
+  holds-second = holds-rest oldRecordAt oldRecordFields oldWidth old-readable noOldRecord (c .summary) (c .first) secondPart old
+
+  pub old-back : oldCaseOf (encodeOldCase c) ≡ c
   unfolding oldCaseOf encodeOldCase oldFields
   old-back =
-      let s : section summaryRecordAt summaryWidth (encodeOldCase c) 0 ≡ c .summary = summary-back (c .summary) (c .first) secondPart old in
-      let f : section patternRecordAt patternWidth (encodeOldCase c) (firstAt (encodeOldCase c)) ≡ c .first = first-back (c .summary) (c .first) secondPart old in
-      let g : section patternRecordAt patternWidth (encodeOldCase c) (secondAt (encodeOldCase c)) ≡ c .second =
-      section-back patternRecordAt patternFields patternWidth pattern-readable (encodeOldCase c) noPatternRecord (secondAt (encodeOldCase c)) (c .second) (holds-rest (c .summary) (c .first) secondPart old) in
+      let w : List ℕ = encodeOldCase c in
+      let s : section summaryRecordAt summaryWidth w 0 ≡ c .summary = summary-back oldRecordAt oldRecordFields oldWidth old-readable noOldRecord (c .summary) (c .first) secondPart old in
+      let f : section oldRecordAt oldWidth w (firstAt w) ≡ c .first = first-back oldRecordAt oldRecordFields oldWidth old-readable noOldRecord (c .summary) (c .first) secondPart old in
+      let g : section oldRecordAt oldWidth w (secondAt w) ≡ c .second = section-back oldRecordAt oldRecordFields oldWidth old-readable w noOldRecord (secondAt w) (c .second) holds-second in
       λ i. record { summary = s i; first = f i; second = g i }
 
   old-length : length (encodeOldCase c) ≡ 2 * oldEnd (encodeOldCase c)
   unfolding encodeOldCase oldFields
   old-length =
-      written-length (c .summary) (c .first) secondPart old (oldEnd (encodeOldCase c))
-      (section-end patternRecordAt patternFields patternWidth pattern-readable (encodeOldCase c) (secondAt (encodeOldCase c)) (c .second) (holds-rest (c .summary) (c .first) secondPart old))
+      written-length oldRecordAt oldRecordFields oldWidth old-readable noOldRecord (c .summary) (c .first) secondPart old (oldEnd (encodeOldCase c))
+      (section-end oldRecordAt oldRecordFields oldWidth old-readable (encodeOldCase c) (secondAt (encodeOldCase c)) (c .second) holds-second)
 
-  pub encoded-one : length (encodeOldCase c) ≤ maxCaseBytes → length (encodeCase (oneOf c)) ≤ maxCaseBytes → SetOfOne (encodeOldCase c) (encodeCase (oneOf c))
+  pub old-whole : length (encodeOldCase c) ≤ maxCaseBytes → oldWhole (encodeOldCase c) ≡ true
   unfolding oldWhole
-  encoded-one h k =
-      record {
-        old = and-intro (le-leb (length (encodeOldCase c)) maxCaseBytes h) (eq-eqb (length (encodeOldCase c)) (2 * oldEnd (encodeOldCase c)) old-length);
-        new = case-whole (oneOf c) new k;
-        same = case-back (oneOf c) new ∙ ap oneOf (sym old-back);
-      }
+  old-whole h = and-intro (le-leb (length (encodeOldCase c)) maxCaseBytes h) (eq-eqb (length (encodeOldCase c)) (2 * oldEnd (encodeOldCase c)) old-length)
+
+  pub encoded-one : FitFields (caseFields (oneOf c)) → length (encodeOldCase c) ≤ maxCaseBytes → length (encodeCase (oneOf c)) ≤ maxCaseBytes → SetOfOne (encodeOldCase c) (encodeCase (oneOf c))
+  encoded-one new h k = record { old = old-whole h; new = case-whole (oneOf c) new k; same = case-back (oneOf c) new ∙ ap oneOf (sym old-back) }

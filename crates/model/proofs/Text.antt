@@ -13,8 +13,10 @@ use borrow.Author.Tests.{lt-ltb, le-ltb, ltb-true, ltb-false}
 use Rattle.model.specs.Lists.{upFrom}
 use Rattle.model.specs.Limits.{maxLimit, minBuffer, maxCanonical, maxPosition, maxText}
 use Rattle.model.specs.Tree.{Document, parentOf, labelOf}
-use Rattle.model.specs.Text.{ascii, digit, decimalIn, decimal, readOn, number, numbers, line, nodeLine, nodeLines, answerLine, firstLines, shownText, refusedText, caseText, printed}
+use Rattle.model.specs.Text.{ascii, digit, decimalIn, decimal, readOn, number, numbers, line, nodeLine, nodeLines, answerLine, firstLines, shownText, refusedText, caseText, printed, Told, told}
 use Rattle.model.specs.Bytes.{caseOf}
+use Rattle.model.specs.OldForm.{oldQuestions}
+use Rattle.model.specs.Moving.{upgradeRefusal, downgradeRefusal}
 use Rattle.model.specs.Questions.{Question, refusal, caseQuestions, verdictRefusal}
 use Rattle.model.proofs.ListLaws.{true-or-false, length-upFrom, upFrom-mem}
 use Rattle.model.proofs.Refusals.{refusal-yes, refusal-no}
@@ -275,14 +277,36 @@ module _ (b : List ℕ) where
   unfolding printed
   printed-accepted e = chosen-accepted (verdictRefusal b maxLimit 0 minBuffer) (caseText (caseOf b)) (refusedText (verdictRefusal b maxLimit 0 minBuffer)) e
 
--- a refusal's line fits
-pub refused-small : (b : List ℕ) → length (refusedText (verdictRefusal b maxLimit 0 minBuffer)) ≤ maxText
+-- a refusal's line is short
+pub refused-short : (n : ℕ) → n < 100 → length (refusedText n) ≤ 11
 unfolding refusedText
-refused-small b =
-    let m = verdict-most b maxLimit 0 minBuffer in
-    let e = one-line-small (ascii "refused") 1 (verdictRefusal b maxLimit 0 minBuffer) (omega arith) in
-    omega arith
+refused-short n h = let e = one-line-small (ascii "refused") 1 n (omega arith) in omega arith
+
+-- so it fits
+pub refused-small : (b : List ℕ) → length (refusedText (verdictRefusal b maxLimit 0 minBuffer)) ≤ maxText
+refused-small b = let m = verdict-most b maxLimit 0 minBuffer in omega (arith, refused-short (verdictRefusal b maxLimit 0 minBuffer) (omega arith))
 
 -- so do the first lines
 pub first-fits : (words : List ℕ) (n : ℕ) → length words ≤ 12 → n ≤ maxLimit → length (firstLines words n) ≤ maxText
 first-fits words n w h = let e = first-small words n h in omega arith
+
+-- ---- what the programs that move a case write
+
+module _ (refused : ℕ) (moved : List ℕ) where
+  pub told-refused : refused ≢ 0 → told refused moved ≡ record { stream = 2; bytes = refusedText refused }
+  unfolding told
+  told-refused f = chosen-refused {A = Told} refused (record { stream = 1; bytes = moved }) (record { stream = 2; bytes = refusedText refused }) f
+
+  pub told-accepted : refused ≡ 0 → told refused moved ≡ record { stream = 1; bytes = moved }
+  unfolding told
+  told-accepted e = chosen-accepted {A = Told} refused (record { stream = 1; bytes = moved }) (record { stream = 2; bytes = refusedText refused }) e
+
+pub upgrade-most : (b : List ℕ) (bufferBytes : ℕ) → upgradeRefusal b bufferBytes ≤ 15
+unfolding upgradeRefusal oldQuestions
+upgrade-most b bufferBytes =
+    refusal-most 15 _ (omega arith, (omega arith, (omega arith, (omega arith, (omega arith, (omega arith, (omega arith, tt)))))))
+
+pub downgrade-most : (b : List ℕ) (bufferBytes : ℕ) → downgradeRefusal b bufferBytes ≤ 15
+unfolding downgradeRefusal caseQuestions
+downgrade-most b bufferBytes =
+    refusal-most 15 _ (omega arith, (omega arith, (omega arith, (omega arith, (omega arith, (omega arith, (omega arith, (omega arith, (omega arith, tt)))))))))

@@ -21,6 +21,10 @@ fieldBytes n = n % 256 ∷ n / 256 % 256 ∷ []
 unfoldable pub bytesOf : List ℕ → List ℕ
 bytesOf fs = flatMap fieldBytes fs
 
+-- n fields from field `at` on
+abbrev pub fieldsAt : List ℕ → ℕ → ℕ → List ℕ
+fieldsAt b at n = map (field b) (upFrom at n)
+
 -- n records of the given width from field `at` on
 unfoldable pub recordsAt : {A : Type 0} → (ℕ → A) → ℕ → ℕ → ℕ → List A
 recordsAt read width at n = map (λ i. read (at + width * i)) (upFrom 0 n)
@@ -99,9 +103,13 @@ pub record WholeCase (b : List ℕ) : Type 0 where
   pub members : WholeSet b (setAt b)
   pub nothingAfter : length b ≤ 2 * caseEnd b
 
+-- at most 65,536 bytes, and the field `end` is the first after them
+abbrev pub endsAt : List ℕ → ℕ → Bool
+endsAt b end = leb (length b) maxCaseBytes && eqb (length b) (2 * end)
+
 -- the same as a test: the end lies after every count, and a count past the end reads as 0, so one equation says it all
 unfoldable pub isWholeCase : List ℕ → Bool
-isWholeCase b = leb (length b) maxCaseBytes && eqb (length b) (2 * caseEnd b)
+isWholeCase b = endsAt b (caseEnd b)
 
 -- what decoding gives: the tables, or that a count or record is not whole or something stands after
 pub data Decoded (A : Type 0) : Type 0 where

@@ -1,4 +1,4 @@
--- The whole outcome of each of the six calls: answer, buffer or table afterwards, tally afterwards. A refusal holds its
+-- The whole outcome of each of document 01's six calls: answer, buffer or table afterwards, tally afterwards. A refusal holds its
 -- number and zero in every other field, and alters no lent byte, record or tally.
 use Prim.Native.Nat.{ℕ, _+_}
 use mathlib.Core.Bool.{Bool, true, false}
@@ -110,21 +110,22 @@ pub record CountAnswer : Type 0 where
   pub refused : ℕ
   pub count : ℕ
 
-pub record NodesOutcome : Type 0 where
+-- and the answer buffer afterwards
+pub record CountOutcome : Type 0 where
   pub answer : CountAnswer
   pub buffer : List ℕ
 
-unfoldable pub nodesAccepted : List ℕ → List ℕ → NodesOutcome
+unfoldable pub countRefused : ℕ → List ℕ → CountOutcome
+countRefused number buffer = record { answer = record { refused = number; count = 0 }; buffer = buffer }
+
+unfoldable pub nodesAccepted : List ℕ → List ℕ → CountOutcome
 nodesAccepted nodes buffer = record { answer = record { refused = 0; count = length nodes }; buffer = writtenAtFront (encodeCounted nodes) buffer }
 
-unfoldable pub nodesRefused : ℕ → List ℕ → NodesOutcome
-nodesRefused number buffer = record { answer = record { refused = number; count = 0 }; buffer = buffer }
-
 -- Nodes at a position in any result, written ascending after their count: case, selection, volume, position, answer buffer
-unfoldable pub nodesCall : List ℕ → ℕ → List ℕ → ℕ → List ℕ → NodesOutcome
+unfoldable pub nodesCall : List ℕ → ℕ → List ℕ → ℕ → List ℕ → CountOutcome
 nodesCall b s w p buffer =
     let number : ℕ = nodesRefusal b s w p (length buffer) in
-    elim (eqb number 0) [ true ↦ nodesAccepted (nodesAt (selected (caseOf b) s) (documentOf w) p) buffer | false ↦ nodesRefused number buffer ]
+    elim (eqb number 0) [ true ↦ nodesAccepted (nodesAt (selected (caseOf b) s) (documentOf w) p) buffer | false ↦ countRefused number buffer ]
 
 -- sixteen masks, bit i for outline node i, and for each how many paths the node may take
 pub record PathsAnswer : Type 0 where

@@ -8,7 +8,7 @@ use mathlib.Core.List.{List, _∷_, _++_, map, List·Memᴰ}
 use lib.Count.{ones}
 use lib.ListN.{length, getD, take, replicate}
 use Rattle.model.specs.Lists.{Ascending, has}
-use Rattle.model.specs.Limits.{maxPattern, maxCanonical, documentWidth}
+use Rattle.model.specs.Limits.{minBuffer, maxPattern, maxCanonical, documentWidth}
 use Rattle.model.specs.Tree.{Document}
 use Rattle.model.specs.Summary.{Summary, Fits}
 use Rattle.model.specs.Pattern.{Pattern, Result, AtPosition, PathOf, Contained, CounterExample}
@@ -16,7 +16,9 @@ use Rattle.model.specs.Embeddings.{summaryEmbeddings}
 use Rattle.model.specs.Canonical.{canonical, canonicalSpots, ownResult, covered}
 use Rattle.model.specs.Bytes.{field, sectionEnd, caseOf, documentOf, listOf, encodeDocument, encodeCounted, writtenAtFront, shownSection, shownList}
 use Rattle.model.specs.Questions.{selected, verdictRefusal, fitsRefusal, resultRefusal, nodesRefusal, pathsRefusal, layoutRefusal}
-use Rattle.model.specs.Calls.{refusedAnswer, VerdictOutcome, kindIncluded, kindNotIncluded, kindStopped, verdictCall, TestAnswer, yesAnswer, noAnswer, fitsCall, resultCall, NodesOutcome, nodesCall, PathsAnswer, pathsCall, LaidRecord, laidRecord, LayoutOutcome, layoutCall}
+use Rattle.model.specs.Calls.{refusedAnswer, VerdictOutcome, kindIncluded, kindNotIncluded, kindStopped, verdictCall, TestAnswer, yesAnswer, noAnswer, fitsCall, resultCall, CountOutcome, nodesCall, PathsAnswer, pathsCall, LaidRecord, laidRecord, LayoutOutcome, layoutCall}
+use Rattle.model.specs.OldForm.{SetOfOne}
+use Rattle.model.specs.Moving.{upgradeRefusal, downgradeRefusal, movedAccepted, upgradeCall, downgradeCall}
 
 -- ---- Demand 1
 
@@ -42,7 +44,7 @@ abbrev pub ResultTold : Pattern → Document → List ℕ → TestAnswer → Typ
 ResultTold P W r a = TestTold (Result P W r) a
 
 -- Nodes at a position: exactly the nodes at that position in any result are written, ascending, after their count
-pub record NodesTold (P : Pattern) (W : Document) (p : ℕ) (before : List ℕ) (o : NodesOutcome) : Type 0 where
+pub record NodesTold (P : Pattern) (W : Document) (p : ℕ) (before : List ℕ) (o : CountOutcome) : Type 0 where
   pub accepted : o .answer .refused ≡ 0
   pub nodes : List ℕ
   pub exact : (v : ℕ) → List·Memᴰ v nodes ↔ AtPosition P W p v
@@ -143,6 +145,27 @@ pub record Demand3Of (b : List ℕ) (S : Summary) (P : Pattern) (Qs : List Patte
 abbrev pub Demand3 : List ℕ → ℕ → ℕ → List ℕ → VerdictOutcome → Type 0
 Demand3 b L tally buffer o = Demand3Of b (caseOf b .summary) (caseOf b .first) (caseOf b .members) L tally buffer o
 
+-- ---- Moving the filed cases over, of an accepted call
+
+-- what is written, whole, at the buffer's front is the given case in the other form, by `Same`; the call the other way accepts it, and
+-- whatever buffer it is lent gets the bytes of the given case, every one and no more
+pub record Moved (Same : List ℕ → Type 0) (back : List ℕ → List ℕ → CountOutcome) (b before : List ℕ) (o : CountOutcome) : Type 0 where
+  pub accepted : o .answer .refused ≡ 0
+  pub written : List ℕ
+  pub count : o .answer .count ≡ length written
+  pub buffer : o .buffer ≡ writtenAtFront written before
+  pub whole : length written ≤ length before
+  pub same : Same written
+  pub returns : (lent : List ℕ) → minBuffer ≤ length lent → back written lent ≡ movedAccepted b lent
+
+-- old to new: what is written is the old case with a set of one; and back
+abbrev pub Upgraded : List ℕ → List ℕ → CountOutcome → Type 0
+Upgraded b before o = Moved (λ w. SetOfOne b w) downgradeCall b before o
+
+-- new to old: what is written is an old case, with a set of one the given one; and back
+abbrev pub Downgraded : List ℕ → List ℕ → CountOutcome → Type 0
+Downgraded b before o = Moved (λ w. SetOfOne w b) upgradeCall b before o
+
 -- ---- The calls: the outcome is document 01's, a refusal keeps demand 1, an accepted call demand 2 or 3
 
 -- Fits: case, volume
@@ -158,7 +181,7 @@ pub record ResultAnswered (b : List ℕ) (s : ℕ) (w r : List ℕ) (a : TestAns
   pub demand2 : resultRefusal b s w r ≡ 0 → ResultTold (selected (caseOf b) s) (documentOf w) (listOf r) a
 
 -- Nodes at a position: case, selection, volume, position, answer buffer
-pub record NodesAnswered (b : List ℕ) (s : ℕ) (w : List ℕ) (p : ℕ) (before : List ℕ) (o : NodesOutcome) : Type 0 where
+pub record NodesAnswered (b : List ℕ) (s : ℕ) (w : List ℕ) (p : ℕ) (before : List ℕ) (o : CountOutcome) : Type 0 where
   pub outcome : o ≡ nodesCall b s w p before
   pub demand1 : Demand1 (nodesRefusal b s w p (length before)) o (λ n. record { answer = record { refused = n; count = 0 }; buffer = before })
   pub demand2 : nodesRefusal b s w p (length before) ≡ 0 → NodesTold (selected (caseOf b) s) (documentOf w) p before o
@@ -180,3 +203,15 @@ pub record VerdictAnswered (b : List ℕ) (L tally : ℕ) (before : List ℕ) (o
   pub outcome : o ≡ verdictCall b L tally before
   pub demand1 : Demand1 (verdictRefusal b L tally (length before)) o (λ n. record { answer = refusedAnswer n; buffer = before; tally = tally })
   pub demand3 : verdictRefusal b L tally (length before) ≡ 0 → Demand3 b L tally before o
+
+-- Old to new: case, answer buffer
+pub record UpgradeAnswered (b before : List ℕ) (o : CountOutcome) : Type 0 where
+  pub outcome : o ≡ upgradeCall b before
+  pub demand1 : Demand1 (upgradeRefusal b (length before)) o (λ n. record { answer = record { refused = n; count = 0 }; buffer = before })
+  pub moved : upgradeRefusal b (length before) ≡ 0 → Upgraded b before o
+
+-- New to old: case, answer buffer
+pub record DowngradeAnswered (b before : List ℕ) (o : CountOutcome) : Type 0 where
+  pub outcome : o ≡ downgradeCall b before
+  pub demand1 : Demand1 (downgradeRefusal b (length before)) o (λ n. record { answer = record { refused = n; count = 0 }; buffer = before })
+  pub moved : downgradeRefusal b (length before) ≡ 0 → Downgraded b before o

@@ -13,6 +13,7 @@ pub mod Bytes
 pub mod Questions
 pub mod Calls
 pub mod OldForm
+pub mod Moving
 pub mod Text
 pub mod Facts
 pub mod Demands

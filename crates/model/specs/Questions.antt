@@ -1,4 +1,4 @@
--- Questions 1 to 14, one definition each, and the refusal of each of the six calls in the call's own order.
+-- Questions 1 to 14, one definition each, and the refusal of each of document 01's six calls in the call's own order.
 use Prim.Native.Nat.{ℕ, _+_, _-_}
 use mathlib.Core.Bool.{Bool, true, false, _&&_, _||_, not}
 use mathlib.Core.List.{List, [], _∷_, _++_}

@@ -1,4 +1,4 @@
--- What the verdict program prints: document 01's lines, in ASCII, each ended by a newline.
+-- What the verdict program prints, document 01's lines, in ASCII, each ended by a newline; and what the programs that move a case write.
 use Prim.Native.Nat.{ℕ, zero, suc, _+_, _-_, _*_, _/_, _%_}
 use Prim.Native.Char.{code}
 use Prim.Native.String.{String, [] as end, _∷_ as char}
@@ -15,6 +15,7 @@ use Rattle.model.specs.Canonical.{canonical, ownResult}
 use Rattle.model.specs.Verdict.{Verdict, included, notIncluded, stopped, verdict}
 use Rattle.model.specs.Bytes.{Case, caseOf}
 use Rattle.model.specs.Questions.{verdictRefusal}
+use Rattle.model.specs.Moving.{upgradeRefusal, downgradeRefusal, upgraded, downgraded}
 
 -- the characters' codes
 abbrev pub ascii : String → List ℕ
@@ -88,3 +89,19 @@ unfoldable pub printed : List ℕ → List ℕ
 printed b =
     let refused : ℕ = verdictRefusal b maxLimit 0 minBuffer in
     elim (eqb refused 0) [ true ↦ caseText (caseOf b) | false ↦ refusedText refused ]
+
+-- what a program that moves a case writes, and where: the moved case's bytes to standard output, 1, and nothing else; or a refusal's line to
+-- standard error, 2, and nothing else
+pub record Told : Type 0 where
+  pub stream : ℕ
+  pub bytes : List ℕ
+
+unfoldable pub told : ℕ → List ℕ → Told
+told refused moved = elim (eqb refused 0) [ true ↦ record { stream = 1; bytes = moved } | false ↦ record { stream = 2; bytes = refusedText refused } ]
+
+-- for a case from standard input: old to new, and new to old
+unfoldable pub upgradeTold : List ℕ → Told
+upgradeTold b = told (upgradeRefusal b minBuffer) (upgraded b)
+
+unfoldable pub downgradeTold : List ℕ → Told
+downgradeTold b = told (downgradeRefusal b minBuffer) (downgraded b)

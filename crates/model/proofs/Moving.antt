@@ -1,0 +1,316 @@
+-- Moving the filed cases over: for every case that a tool accepts, what it writes is accepted by the other, and there and back gives the
+-- same bytes, both ways. Because bytes that are read and written again are the same, tables that are written and read again are the
+-- same, and between the two forms nothing but the count of the set comes and goes. Assumes nothing.
+use Prim.Native.Nat.{ℕ, zero, suc, _+_, _-_, _*_, _≤_, _<_}
+use mathlib.Core.Path.{_≡_, refl, sym, ap, ap₂, _∙_, subst}
+use mathlib.Core.Bool.{true, _&&_}
+use mathlib.Core.Logic.{_⊎_, inl, inr, _≢_}
+use mathlib.Core.List.{List, [], _∷_, _++_, append-nil, List·Memᴰ, List·Memᴰ·head, List·Memᴰ·tail, List·Memᴰ·append-cases}
+use native.Mathlib.Omega.{arith}
+use native.Mathlib.Nat.{zero-add, le-refl}
+use lib.Dec.{eqb}
+use lib.ListN.{length, getD, length-append}
+use borrow.Author.Tests.{eqb-true, leb-true, le-leb}
+use Rattle.model.specs.Lists.{allOf}
+use Rattle.model.specs.Limits.{minBuffer, maxSummary, maxPattern, maxMembers, summaryWidth, patternWidth}
+use Rattle.model.specs.Pattern.{Pattern}
+use Rattle.model.specs.Bytes.{field, fieldsAt, recordsAt, summaryRecordAt, patternRecordAt, section, memberAt, setOf, setAt, caseEnd, Case, caseOf, summaryFields, sectionFields, caseFields, encodeCase}
+use Rattle.model.specs.Questions.{between, bufferLargeEnough, caseWhole, countInRange, countsInRange, setInRange, Question, ask, refusal, caseQuestions}
+use Rattle.model.specs.Calls.{CountOutcome, countRefused, verdictCall}
+use Rattle.model.specs.OldForm.{OldPattern, OldCase, oldWidth, oldRecordAt, oldRecordFields, secondAt, oldEnd, oldCaseOf, oldFields, encodeOldCase, newPattern, oneOf, oldPattern, oldOf, oldWhole, oldCountsInRange, oldQuestions, SetOfOne, oldVerdictCall}
+use Rattle.model.specs.Moving.{goesBack, upgradeRefusal, downgradeRefusal, upgraded, downgraded, movedAccepted, upgradeCall, downgradeCall}
+use Rattle.model.specs.Demands.{Upgraded, Downgraded}
+use Rattle.model.proofs.ListLaws.{and-left, and-right, all-elim, mem-at, length-map-upFrom, getD-map-upFrom}
+use Rattle.model.proofs.Bytes.{FitFields, length-bytes, length-section, summary-readable, old-readable, member-first, member-next, whole-set-ends, whole-case, case-back, case-whole}
+use Rattle.model.proofs.Refusals.{AllYes, Numbered, refusal-none, accepted-all-yes, all-yes-append}
+use Rattle.model.proofs.CaseFacts.{between-facts, all-asked}
+use Rattle.model.proofs.Calls.{chosen-accepted, chosen-refused}
+use Rattle.model.proofs.ReadBack.{AreBytes}
+use Rattle.model.proofs.Sets.{counts-one, refused-one, call-one, old-back, old-whole}
+use Rattle.model.proofs.WriteBack.{old-new, new-old, new-fields, one-fields, fields-fit, upgraded-fields, downgraded-fields, old-whole-facts, encode-case, encode-old}
+
+-- ---- the calls go by their refusals
+
+module _ (b buffer : List ℕ) where
+  pub upgrade-refused : upgradeRefusal b (length buffer) ≢ 0
+      → upgradeCall b buffer ≡ record { answer = record { refused = upgradeRefusal b (length buffer); count = 0 }; buffer = buffer }
+  unfolding upgradeCall countRefused
+  upgrade-refused f = let number : ℕ = upgradeRefusal b (length buffer) in chosen-refused number (movedAccepted (upgraded b) buffer) (countRefused number buffer) f
+
+  pub upgrade-accepted : upgradeRefusal b (length buffer) ≡ 0 → upgradeCall b buffer ≡ movedAccepted (upgraded b) buffer
+  unfolding upgradeCall
+  upgrade-accepted e = let number : ℕ = upgradeRefusal b (length buffer) in chosen-accepted number (movedAccepted (upgraded b) buffer) (countRefused number buffer) e
+
+  pub downgrade-refused : downgradeRefusal b (length buffer) ≢ 0
+      → downgradeCall b buffer ≡ record { answer = record { refused = downgradeRefusal b (length buffer); count = 0 }; buffer = buffer }
+  unfolding downgradeCall countRefused
+  downgrade-refused f = let number : ℕ = downgradeRefusal b (length buffer) in chosen-refused number (movedAccepted (downgraded b) buffer) (countRefused number buffer) f
+
+  pub downgrade-accepted : downgradeRefusal b (length buffer) ≡ 0 → downgradeCall b buffer ≡ movedAccepted (downgraded b) buffer
+  unfolding downgradeCall
+  downgrade-accepted e = let number : ℕ = downgradeRefusal b (length buffer) in chosen-accepted number (movedAccepted (downgraded b) buffer) (countRefused number buffer) e
+
+-- ---- what an accepted call has
+
+pub record UpgradeFacts (b : List ℕ) (bufferBytes : ℕ) : Type 0 where
+  pub asked : AllYes (oldQuestions b)
+  pub buffer : minBuffer ≤ bufferBytes
+
+pub accepted-upgrade : (b : List ℕ) (bufferBytes : ℕ) → upgradeRefusal b bufferBytes ≡ 0 → UpgradeFacts b bufferBytes
+unfolding upgradeRefusal bufferLargeEnough oldQuestions
+accepted-upgrade b bufferBytes e =
+    let y = accepted-all-yes (ask 2 (bufferLargeEnough bufferBytes) ∷ oldQuestions b)
+    (omega arith, (omega arith, (omega arith, (omega arith, (omega arith, (omega arith, (omega arith, tt))))))) e in
+    record { asked = y .1; buffer = leb-true minBuffer bufferBytes (y .0) }
+
+pub record DowngradeFacts (b : List ℕ) (bufferBytes : ℕ) : Type 0 where
+  pub asked : AllYes (caseQuestions b)
+  pub one : goesBack (caseOf b) ≡ true
+  pub buffer : minBuffer ≤ bufferBytes
+
+pub accepted-downgrade : (b : List ℕ) (bufferBytes : ℕ) → downgradeRefusal b bufferBytes ≡ 0 → DowngradeFacts b bufferBytes
+unfolding downgradeRefusal bufferLargeEnough
+accepted-downgrade b bufferBytes e =
+    let y = all-asked b (ask 2 (bufferLargeEnough bufferBytes) ∷ []) (ask 15 (goesBack (caseOf b)) ∷ []) (omega arith, tt) (omega arith, tt) e in
+    record { asked = y .1; one = y .2 .0; buffer = leb-true minBuffer bufferBytes (y .0 .0) }
+
+-- ---- sizes
+
+module _ (c : OldCase) where
+  -- one field more
+  one-size : length (caseFields (oneOf c)) ≡ suc (length (oldFields c))
+  unfolding caseFields oldFields
+  one-size =
+      let S : List ℕ = sectionFields summaryFields (c .summary) in
+      let P : List ℕ = sectionFields oldRecordFields (c .first) in
+      let Q : List ℕ = sectionFields oldRecordFields (c .second) in
+      let e : caseFields (oneOf c) ≡ S ++ (P ++ (1 ∷ Q)) =
+      ap₂ (λ (x y : List ℕ). S ++ (x ++ y)) (new-fields (c .first)) (one-fields (newPattern (c .second)) ∙ ap (λ (fs : List ℕ). 1 ∷ fs) (new-fields (c .second))) in
+      let f : length (S ++ (P ++ (1 ∷ Q))) ≡ length S + length (P ++ (1 ∷ Q)) = length-append S (P ++ (1 ∷ Q)) in
+      let g : length (P ++ (1 ∷ Q)) ≡ length P + suc (length Q) = length-append P (1 ∷ Q) in
+      let h : length (S ++ (P ++ Q)) ≡ length S + length (P ++ Q) = length-append S (P ++ Q) in
+      let k : length (P ++ Q) ≡ length P + length Q = length-append P Q in
+      ap length e ∙ omega arith
+
+  old-size : length (oldFields c) ≡ 3 + 3 * length (c .summary) + 4 * length (c .first) + 4 * length (c .second)
+  unfolding oldFields
+  old-size =
+      let S : List ℕ = sectionFields summaryFields (c .summary) in
+      let P : List ℕ = sectionFields oldRecordFields (c .first) in
+      let Q : List ℕ = sectionFields oldRecordFields (c .second) in
+      let h : length (S ++ (P ++ Q)) ≡ length S + length (P ++ Q) = length-append S (P ++ Q) in
+      let k : length (P ++ Q) ≡ length P + length Q = length-append P Q in
+      let s : length S ≡ 1 + 3 * length (c .summary) = length-section summaryRecordAt summaryFields summaryWidth summary-readable (c .summary) in
+      let p : length P ≡ 1 + 4 * length (c .first) = length-section oldRecordAt oldRecordFields oldWidth old-readable (c .first) in
+      let q : length Q ≡ 1 + 4 * length (c .second) = length-section oldRecordAt oldRecordFields oldWidth old-readable (c .second) in
+      omega arith
+
+  module _ (counts : oldCountsInRange c ≡ true) where
+    fields-few : length (oldFields c) ≤ 323
+    unfolding oldCountsInRange
+    fields-few =
+        let s = between-facts 1 maxSummary (length (c .summary)) (and-left _ _ (and-left _ _ counts)) in
+        let p = between-facts 1 maxPattern (length (c .first)) (and-right (between 1 maxSummary (length (c .summary))) _ (and-left _ _ counts)) in
+        let q = between-facts 1 maxPattern (length (c .second))
+        (and-right (between 1 maxSummary (length (c .summary)) && between 1 maxPattern (length (c .first))) _ counts) in
+        omega (arith, old-size, s .1, p .1, q .1)
+
+    new-small : length (encodeCase (oneOf c)) ≤ 648
+    unfolding encodeCase
+    new-small = omega (arith, length-bytes (caseFields (oneOf c)), one-size, fields-few)
+
+    old-small : length (encodeOldCase c) ≤ 646
+    unfolding encodeOldCase
+    old-small = omega (arith, length-bytes (oldFields c), fields-few)
+
+-- ---- old to new
+
+fit-append : (xs ys : List ℕ) → FitFields xs → FitFields ys → FitFields (xs ++ ys)
+fit-append xs ys f g x m = go (List·Memᴰ·append-cases xs m)
+  where
+    go : List·Memᴰ x xs ⊎ List·Memᴰ x ys → x < 65_536
+    go (inl k) = f x k
+    go (inr k) = g x k
+
+fit-next : (x : ℕ) (xs : List ℕ) → x < 65_536 → FitFields xs → FitFields (x ∷ xs)
+fit-next x xs l f y (List·Memᴰ·head e) = subst (λ (z : ℕ). z < 65_536) (sym e) l
+fit-next x xs l f y (List·Memᴰ·tail m) = f y m
+
+module _ (b : List ℕ) (small : AreBytes b) where
+  module _ (whole : oldWhole b ≡ true) (counts : oldCountsInRange (oldCaseOf b) ≡ true) where
+    upgraded-fit : FitFields (caseFields (oneOf (oldCaseOf b)))
+    upgraded-fit =
+        subst FitFields (sym (upgraded-fields b))
+        (fit-append (fieldsAt b 0 (secondAt b)) (1 ∷ fieldsAt b (secondAt b) (oldEnd b - secondAt b)) (fields-fit b small 0 (secondAt b))
+        (fit-next 1 (fieldsAt b (secondAt b) (oldEnd b - secondAt b)) (omega arith) (fields-fit b small (secondAt b) (oldEnd b - secondAt b))))
+
+    -- what is written is the old case with a set of one
+    pub upgraded-one : SetOfOne b (upgraded b)
+    unfolding upgraded
+    upgraded-one =
+        record {
+          old = whole;
+          new = case-whole (oneOf (oldCaseOf b)) upgraded-fit (omega (arith, new-small (oldCaseOf b) counts));
+          same = case-back (oneOf (oldCaseOf b)) upgraded-fit;
+        }
+
+    -- and small
+    pub upgraded-small : length (upgraded b) ≤ 648
+    unfolding upgraded
+    upgraded-small = new-small (oldCaseOf b) counts
+
+    -- its questions are the old case's
+    pub upgraded-asked : refusal (caseQuestions (upgraded b)) ≡ refusal (oldQuestions b)
+    upgraded-asked =
+        ap refusal (sym (append-nil (caseQuestions (upgraded b)))) ∙ refused-one upgraded-one [] [] ∙ ap refusal (append-nil (oldQuestions b))
+
+    -- going back gives the bytes that were given
+    upgraded-back : downgraded (upgraded b) ≡ b
+    unfolding downgraded
+    upgraded-back =
+        let c : OldCase = oldCaseOf b in
+        let again : oldOf (oneOf c) ≡ c = λ i. record { summary = c .summary; first = new-old (c .first) i; second = new-old (c .second) i } in
+        ap (λ (d : Case). encodeOldCase (oldOf d)) (upgraded-one .same) ∙ ap encodeOldCase again ∙ encode-old b small whole
+
+  upgraded-returns : AllYes (oldQuestions b) → (lent : List ℕ) → minBuffer ≤ length lent → downgradeCall (upgraded b) lent ≡ movedAccepted b lent
+  unfolding downgradeRefusal bufferLargeEnough oldQuestions goesBack
+  upgraded-returns y lent h =
+      let one : SetOfOne b (upgraded b) = upgraded-one (y .0) (y .1 .0) in
+      let single : goesBack (caseOf (upgraded b)) ≡ true = ap goesBack (one .same) in
+      let large : bufferLargeEnough (length lent) ≡ true = le-leb minBuffer (length lent) h in
+      let none : downgradeRefusal (upgraded b) (length lent) ≡ 0 =
+      refused-one one (ask 2 (bufferLargeEnough (length lent)) ∷ []) (ask 15 (goesBack (caseOf (upgraded b))) ∷ [])
+      ∙ refusal-none (ask 2 (bufferLargeEnough (length lent)) ∷ (oldQuestions b ++ (ask 15 (goesBack (caseOf (upgraded b))) ∷ [])))
+      (large, all-yes-append (oldQuestions b) (ask 15 (goesBack (caseOf (upgraded b))) ∷ []) y (single, tt)) in
+      downgrade-accepted (upgraded b) lent none ∙ ap (λ (w : List ℕ). movedAccepted w lent) (upgraded-back (y .0) (y .1 .0))
+
+  -- Old to new to old gives the same bytes, for every accepted case
+  pub upgrade-moved : (before : List ℕ) → upgradeRefusal b (length before) ≡ 0 → Upgraded b before (upgradeCall b before)
+  unfolding movedAccepted oldQuestions
+  upgrade-moved before e =
+      let f = accepted-upgrade b (length before) e in
+      let q : upgradeCall b before ≡ movedAccepted (upgraded b) before = upgrade-accepted b before e in
+      let y : AllYes (oldQuestions b) = f .asked in
+      record {
+        accepted = ap (λ (o : CountOutcome). o .answer .refused) q;
+        written = upgraded b;
+        count = ap (λ (o : CountOutcome). o .answer .count) q;
+        buffer = ap (λ (o : CountOutcome). o .buffer) q;
+        whole = omega (arith, upgraded-small (y .0) (y .1 .0), f .buffer);
+        same = upgraded-one (y .0) (y .1 .0);
+        returns = upgraded-returns y;
+      }
+
+-- every verdict on what is written is the base's verdict on the old case: refusal, kind, tried, tally, every byte
+pub upgraded-verdict : (b : List ℕ) → AreBytes b → (bufferBytes : ℕ) → upgradeRefusal b bufferBytes ≡ 0 → (L tally : ℕ) (buffer : List ℕ)
+    → verdictCall (upgraded b) L tally buffer ≡ oldVerdictCall b L tally buffer
+unfolding oldQuestions
+upgraded-verdict b small bufferBytes e = let y = accepted-upgrade b bufferBytes e .asked in call-one (upgraded-one b small (y .0) (y .1 .0))
+
+-- ---- new to old
+
+-- a set of one is its first selection
+first-alone : (Qs : List Pattern) → length Qs ≡ 1 → getD Qs 0 [] ∷ [] ≡ Qs
+first-alone [] e = absurd (omega arith)
+first-alone (Q ∷ []) e = refl
+first-alone (Q ∷ R ∷ Qs) e = absurd (omega arith)
+
+-- and goes back to the old case that it is
+pub one-again : (c : Case) → goesBack c ≡ true → oneOf (oldOf c) ≡ c
+unfolding goesBack
+one-again c e =
+    let m : newPattern (oldPattern (getD (c .members) 0 [])) ∷ [] ≡ c .members =
+    ap (λ (Q : Pattern). Q ∷ []) (old-new (getD (c .members) 0 [])) ∙ first-alone (c .members) (eqb-true (length (c .members)) 1 e) in
+    λ i. record { summary = c .summary; first = old-new (c .first) i; members = m i }
+
+module _ (b : List ℕ) (small : AreBytes b) (y : AllYes (caseQuestions b)) (single : goesBack (caseOf b) ≡ true) where
+  abbrev d : OldCase
+  d = oldOf (caseOf b)
+
+  downgraded-fit : FitFields (oldFields d)
+  downgraded-fit =
+      subst FitFields (sym (downgraded-fields b single))
+      (fit-append (fieldsAt b 0 (setAt b)) (fieldsAt b (setAt b + 1) (caseEnd b - (setAt b + 1))) (fields-fit b small 0 (setAt b))
+      (fields-fit b small (setAt b + 1) (caseEnd b - (setAt b + 1))))
+
+  downgraded-counts : oldCountsInRange d ≡ true
+  unfolding caseQuestions
+  downgraded-counts = sym (counts-one d) ∙ ap countsInRange (one-again (caseOf b) single) ∙ y .1 .0
+
+  -- what is written is an old case that is the given one with a set of one
+  pub downgraded-one : SetOfOne (downgraded b) b
+  unfolding downgraded caseQuestions caseWhole
+  downgraded-one =
+      record {
+        old = old-whole d downgraded-fit (omega (arith, old-small d downgraded-counts));
+        new = y .0;
+        same = sym (ap oneOf (old-back d downgraded-fit) ∙ one-again (caseOf b) single);
+      }
+
+  -- and small
+  pub downgraded-small : length (downgraded b) ≤ 646
+  unfolding downgraded
+  downgraded-small = old-small d downgraded-counts
+
+  downgraded-back : upgraded (downgraded b) ≡ b
+  unfolding upgraded caseQuestions caseWhole
+  downgraded-back = ap encodeCase (sym (downgraded-one .same)) ∙ encode-case b small (y .0)
+
+  downgraded-returns : (lent : List ℕ) → minBuffer ≤ length lent → upgradeCall (downgraded b) lent ≡ movedAccepted b lent
+  unfolding upgradeRefusal bufferLargeEnough
+  downgraded-returns lent h =
+      let front : Question = ask 2 (bufferLargeEnough (length lent)) in
+      let large : bufferLargeEnough (length lent) ≡ true = le-leb minBuffer (length lent) h in
+      let none : upgradeRefusal (downgraded b) (length lent) ≡ 0 =
+      ap (λ (qs : List Question). refusal (front ∷ qs)) (sym (append-nil (oldQuestions (downgraded b)))) ∙ sym (refused-one downgraded-one (front ∷ []) [])
+      ∙ refusal-none (front ∷ (caseQuestions b ++ [])) (large, all-yes-append (caseQuestions b) [] y tt) in
+      upgrade-accepted (downgraded b) lent none ∙ ap (λ (w : List ℕ). movedAccepted w lent) downgraded-back
+
+-- New to old to new gives the same bytes, for every accepted case
+pub downgrade-moved : (b : List ℕ) → AreBytes b → (before : List ℕ) → downgradeRefusal b (length before) ≡ 0 → Downgraded b before (downgradeCall b before)
+unfolding movedAccepted
+downgrade-moved b small before e =
+    let f = accepted-downgrade b (length before) e in
+    let q : downgradeCall b before ≡ movedAccepted (downgraded b) before = downgrade-accepted b before e in
+    record {
+      accepted = ap (λ (o : CountOutcome). o .answer .refused) q;
+      written = downgraded b;
+      count = ap (λ (o : CountOutcome). o .answer .count) q;
+      buffer = ap (λ (o : CountOutcome). o .buffer) q;
+      whole = omega (arith, downgraded-small b small (f .asked) (f .one), f .buffer);
+      same = downgraded-one b small (f .asked) (f .one);
+      returns = downgraded-returns b small (f .asked) (f .one);
+    }
+
+-- ---- no bytes are a case in both forms
+
+-- k members, each of a node at least, take five fields each at least
+members-take : (b : List ℕ) (on n : ℕ) → ((i : ℕ) → i < n → 1 ≤ field b (memberAt b on i)) → (k : ℕ) → k ≤ n → on + 1 + 5 * k ≤ memberAt b on k
+members-take b on n some zero h = rw (member-first b on) (omega arith)
+members-take b on n some (suc k) h =
+    let ih = members-take b on n some k (omega arith) in
+    let s = some k (omega arith) in
+    rw (member-next b on k) (omega arith)
+
+-- so a set of selections is longer than the one section that its count would announce
+pub one-form : (b : List ℕ) → AllYes (oldQuestions b) → AllYes (caseQuestions b) → ⊥
+unfolding oldQuestions caseQuestions caseWhole countsInRange setInRange caseOf setOf section recordsAt
+one-form b old new =
+    let on : ℕ = setAt b in
+    let at : ℕ → ℕ = memberAt b on in
+    let Qs : List Pattern = caseOf b .members in
+    let size : length Qs ≡ field b on = length-map-upFrom (λ i. section patternRecordAt patternWidth b (at i)) 0 (field b on) in
+    let counts : allOf countInRange Qs ≡ true = and-right (between 1 maxSummary (length (caseOf b .summary)) && countInRange (caseOf b .first)) _ (new .1 .0) in
+    let some : (i : ℕ) → i < field b on → 1 ≤ field b (at i) =
+    λ i h.
+    let Q : Pattern = section patternRecordAt patternWidth b (at i) in
+    let e : getD Qs i [] ≡ Q = getD-map-upFrom (λ j. section patternRecordAt patternWidth b (at j)) 0 (field b on) i [] h ∙ ap (λ (j : ℕ). section patternRecordAt patternWidth b (at j)) (zero-add i) in
+    let m : List·Memᴰ Q Qs = subst (λ (R : Pattern). List·Memᴰ R Qs) e (mem-at Qs i [] (omega arith)) in
+    let l : length Q ≡ field b (at i) = length-map-upFrom (λ j. patternRecordAt b (at i + 1 + patternWidth * j)) 0 (field b (at i)) in
+    omega (arith, between-facts 1 maxPattern (length Q) (all-elim countInRange Qs counts Q m) .0) in
+    let long = members-take b on (field b on) some (field b on) (le-refl (field b on)) in
+    let n = between-facts 1 maxMembers (length Qs) (new .1 .1 .0) .0 in
+    let whole = whole-case b .0 (new .0) in
+    let ends = whole-set-ends b on (whole .members) in
+    let oldLength : length b ≡ 2 * oldEnd b = old-whole-facts b (old .0) .1 in
+    omega arith
