@@ -23,10 +23,10 @@ use Rattle.format.proofs.GivenLaws.{whole-document}
 use Rattle.deciding.specs.Outcome.{outcomeOf}
 use Rattle.deciding.specs.declared.Answer.{Answer}
 use Rattle.deciding.specs.declared.Answer.the-variants.{Refused, Contained, NotContained, Stopped}
-use Rattle.printing.specs.Put.{Room, Put}
+use Rattle.text.specs.Put.{Room, Put}
 use Rattle.printing.specs.Shown.{ShownWhole, toldText, Tellable}
 use Rattle.printing.specs.Text.{Printed}
-use Rattle.printing.proofs.PutLaws.{put-length, put-front, put-same}
+use Rattle.text.proofs.PutLaws.{put-length, put-front, put-same}
 
 -- ---- an answer by its variant
 

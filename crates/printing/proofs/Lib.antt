@@ -1,4 +1,3 @@
 pub mod AnswerLaws
 pub mod LineLaws
-pub mod PutLaws
 pub mod ShownLaws

@@ -1,8 +1,8 @@
--- Document 01's lines as texts put one after another: a number is a space and its digits, a line its words, its numbers and a newline;
--- lines of one kind are put turn by turn. Assumes nothing.
+-- Document 01's lines as texts put one after another: a line is its words, its numbers and a newline; lines of one kind are put turn by
+-- turn. Assumes nothing.
 use Prim.Native.Nat.{ℕ, zero, suc, _+_, _-_, _/_, _≤_, _<_}
 use mathlib.Core.Path.{_≡_, refl, sym, ap, _∙_, subst}
-use mathlib.Core.List.{List, [], _∷_, _++_, map, flatMap, append-nil, append-assoc}
+use mathlib.Core.List.{List, [], _∷_, _++_, map, flatMap, append-nil}
 use native.Mathlib.Omega.{arith}
 use native.Mathlib.Nat.{add-zero, zero-add}
 use lib.ListN.{length, length-append}
@@ -10,29 +10,14 @@ use lib.Seq.{paste-zero}
 use Rattle.model.specs.Lists.{upFrom}
 use Rattle.model.specs.Tree.{Document, parentOf, labelOf}
 use Rattle.model.specs.Bytes.{field, listOf}
-use Rattle.model.specs.Text.{ascii, decimal, number, numbers, line, nodeLine, nodeLines, answerLine, firstLines, shownText}
+use Rattle.model.specs.Text.{ascii, number, numbers, line, nodeLine, nodeLines, answerLine, firstLines, shownText}
 use Rattle.format.proofs.RangeLaws.{upFrom-last}
 use Rattle.format.proofs.WriteLaws.{flatMap-append}
-use Rattle.printing.specs.Put.{Room, Put}
-use Rattle.printing.proofs.PutLaws.{Parts, both, put-length, room-rest, put-then}
+use Rattle.text.specs.Put.{Room, Put}
+use Rattle.text.proofs.PutLaws.{Parts, both, put-length, room-rest, put-then}
+use Rattle.text.proofs.LineLaws.{more}
 
 -- ---- a line and its parts
-
-pub number-parts : (n : ℕ) → Parts (number n) (ascii " ") (decimal n)
-unfolding number
-number-parts n = both (ascii " ") (decimal n)
-
-more : (n : ℕ) (ns t : List ℕ) → numbers (n ∷ ns) ++ t ≡ number n ++ (numbers ns ++ t)
-unfolding numbers flatMap
-more n ns t = append-assoc (number n) (numbers ns) t
-
-pub words-parts : (w : List ℕ) → Parts (line w []) w (ascii "\n")
-unfolding line numbers flatMap
-words-parts w = both w (ascii "\n")
-
-pub line-parts : (w : List ℕ) (n : ℕ) → Parts (line w (n ∷ [])) w (number n ++ ascii "\n")
-unfolding line numbers flatMap
-line-parts w n = record { parts = ap (λ (x : List ℕ). w ++ x) (more n [] (ascii "\n")) }
 
 pub first-parts : (w : List ℕ) (n : ℕ) → Parts (firstLines w n) (line w []) (line (ascii "tried") (n ∷ []))
 unfolding firstLines

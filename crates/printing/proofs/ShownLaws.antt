@@ -8,9 +8,9 @@ use lib.Seq.{length-take-le}
 use Rattle.model.specs.Limits.{documentWidth}
 use Rattle.model.specs.Bytes.{field, sectionEnd, documentOf, listOf, shownSection, shownList, WholeSection}
 use Rattle.model.specs.Text.{shownText}
-use Rattle.printing.specs.Put.{Room, Put}
+use Rattle.text.specs.Put.{Room, Put}
 use Rattle.printing.specs.Shown.{ShownWhole, textOf}
-use Rattle.printing.proofs.PutLaws.{room-same, put-same}
+use Rattle.text.proofs.PutLaws.{room-same, put-same}
 
 module _ (b : List ℕ) {f k : ℕ} (e : f ≡ field b 0) (g : k ≡ field b (1 + 2 * f)) where
   ended : sectionEnd documentWidth b 0 ≡ 1 + 2 * f

@@ -1,12 +1,12 @@
 // What the verdict program prints of a case: the whole text at the front of a lent array.
 
 mod lines;
-mod text;
 
 use deciding::Answer;
 use deciding::verdict_call;
 use format::field::field;
-ghost use Rattle.printing.specs.Put.{Room, Put};
+use text::line::line;
+ghost use Rattle.text.specs.Put.{Room, Put};
 ghost use Rattle.printing.specs.Shown.{ShownWhole, textOf, Tellable, toldText};
 ghost use Rattle.printing.specs.Text.{Printed};
 
@@ -28,7 +28,7 @@ fn answer_text(told: Answer, answer: &[u8], out: &mut [u8]) -> usize
     ensures { λ r. ⌜ Put (toldText told (now (answer .entry))) 0 (now (out .entry)) (now (out .exit)) r ⌝ }
 {
     match told {
-        Answer::Refused(number) => lines::line(b"refused", number, out, 0),
+        Answer::Refused(number) => line(b"refused", number, out, 0),
         Answer::Contained(tried) => lines::first_lines(b"included", tried, out, 0),
         Answer::NotContained(tried) => shown_text(tried, answer, out),
         Answer::Stopped(tried) => lines::first_lines(b"stopped", tried, out, 0),

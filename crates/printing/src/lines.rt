@@ -1,8 +1,5 @@
 // Document 01's lines, put into a lent slice from a byte on.
 
-use crate::text::number;
-use crate::text::put;
-use crate::text::word;
 use format::document::document_count;
 use format::document::document_label;
 use format::document::document_parent;
@@ -10,40 +7,19 @@ use format::field::field;
 use format::field::wide;
 use format::field::wide64;
 use format::nodes::DocumentNode;
+use text::line::last;
+use text::line::line;
+use text::line::words;
+use text::put::number;
+use text::put::put;
+use text::put::word;
 ghost use mathlib.Core.List.{[], _∷_, _++_};
 ghost use Prim.Native.Nat.{_<_};
 ghost use lib.ListN.{length};
 ghost use Rattle.model.specs.Limits.{documentWidth};
 ghost use Rattle.model.specs.Bytes.{documentOf, listOf, WholeSection};
 ghost use Rattle.model.specs.Text.{ascii, number as numberOf, line as lineOf, firstLines, nodeLine, nodeLines, numbers as numbersOf, answerLine, shownText};
-ghost use Rattle.printing.specs.Put.{Room, Put};
-
-// Words alone.
-fn words(text: &[u8], out: &mut [u8], at: usize) -> usize
-    requires { ⌜ Room (lineOf (now text) []) at (now out) ⌝ }
-    ensures { λ r. ⌜ Put (lineOf (now (text .entry)) []) at (now (out .entry)) (now (out .exit)) r ⌝ }
-{
-    let end = word(text, out, at);
-    put(b'\n', out, end)
-}
-
-// A number, which ends its line.
-fn last(n: u64, out: &mut [u8], at: usize) -> usize
-    requires { ⌜ Room (numberOf n ++ ascii "\n") at (now out) ⌝ }
-    ensures { λ r. ⌜ Put (numberOf n ++ ascii "\n") at (now (out .entry)) (now (out .exit)) r ⌝ }
-{
-    let end = number(n, out, at);
-    put(b'\n', out, end)
-}
-
-// Words and a number.
-pub fn line(text: &[u8], n: u64, out: &mut [u8], at: usize) -> usize
-    requires { ⌜ Room (lineOf (now text) (n ∷ [])) at (now out) ⌝ }
-    ensures { λ r. ⌜ Put (lineOf (now (text .entry)) (n ∷ [])) at (now (out .entry)) (now (out .exit)) r ⌝ }
-{
-    let end = word(text, out, at);
-    last(n, out, end)
-}
+ghost use Rattle.text.specs.Put.{Room, Put};
 
 // The first two lines: the verdict and tried.
 pub fn first_lines(text: &[u8], tried: u64, out: &mut [u8], at: usize) -> usize

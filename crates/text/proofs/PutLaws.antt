@@ -11,7 +11,7 @@ use lib.Seq.{paste, paste-zero, paste-suc, length-paste, take-paste, drop-paste,
 use Rattle.model.specs.Bytes.{writtenAtFront}
 use Rattle.model.specs.Text.{digit, decimal}
 use Rattle.model.proofs.Text.{decimal-one, decimal-more}
-use Rattle.printing.specs.Put.{Room, Put}
+use Rattle.text.specs.Put.{Room, Put}
 
 pub put-length : {text : List ℕ} {at : ℕ} {before after : List ℕ} {stop : ℕ} → Put text at before after stop → Room text at before → length after ≡ length before
 put-length {text} {at} {before} p h = ap length (p .buffer) ∙ length-paste before at text (length text) (h .fits) (omega arith)

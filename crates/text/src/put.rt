@@ -4,7 +4,7 @@ ghost use mathlib.Core.List.{[], _∷_};
 ghost use mathlib.Core.Path.{_≡_};
 ghost use Prim.Native.Nat.{_<_};
 ghost use Rattle.model.specs.Text.{digit as digitOf, decimal, number as numberOf};
-ghost use Rattle.printing.specs.Put.{Room, Put};
+ghost use Rattle.text.specs.Put.{Room, Put};
 
 // One byte.
 pub fn put(byte: u8, out: &mut [u8], at: usize) -> usize

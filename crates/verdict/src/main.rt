@@ -1,44 +1,16 @@
-// The verdict program: a case from standard input, its text on standard output. What it prints is `printing::verdict_text`; here is
-// reading and writing alone. A failed read or write is told on standard error: a program here has no exit status.
+// The verdict program: a case from standard input, its text on standard output. What it prints is `printing::verdict_text`, reading and
+// writing are `streams`.
 
 use printing::verdict_text;
-ghost use Rattle.io.specs.Counts.{Counts};
-
-// What reading gave: how many bytes stand at the front, and whether a read failed.
-struct Input {
-    count: usize,
-    failed: bool,
-}
-
-// Reads until the buffer is full, the input ends or a read fails.
-fn read_all(buffer: &mut [u8]) -> Input
-    ensures { λ r. ⌜ Counts (r .count) (now (buffer .exit)) ⌝ }
-{
-    let mut done = 0;
-    while done < buffer.len() {
-        let got = libc::read(0, &mut buffer[done..]);
-        let more = io::count(got, &buffer[done..]);
-        if more == 0 {
-            return Input {
-                count: done,
-                failed: got < 0,
-            };
-        }
-        done += more;
-    }
-    Input {
-        count: done,
-        failed: false,
-    }
-}
+use streams::read_all;
+use streams::write_err;
+use streams::write_out;
 
 // Writes the text of a case.
 fn tell(case: &[u8]) {
     let mut out = [0u8; 21263];
     let end = verdict_text(case, &mut out);
-    if !io::write_all(1, &out[..end]) {
-        io::write_all(2, b"verdict: the answer can't be written\n");
-    }
+    write_out(&out[..end], b"verdict: the answer can't be written\n");
 }
 
 // One byte more than a case may have is read, so that a longer one is refused and not cut.
@@ -46,7 +18,7 @@ fn main() {
     let mut case = [0u8; 65537];
     let input = read_all(&mut case);
     if input.failed {
-        io::write_all(2, b"verdict: the input can't be read\n");
+        write_err(b"verdict: the input can't be read\n");
         return;
     }
     let n = input.count;

@@ -1,4 +1,4 @@
--- `verdict::read_all` meets its contract: as many bytes as were read stand in the buffer. The measure is what is left of it. Assumes
+-- `streams::read_all` meets its contract: as many bytes as were read stand in the buffer. The measure is what is left of it. Assumes
 -- nothing.
 use Prim.Native.Nat.{_-_, _≤_}
 use mathlib.Core.Path.{_≡_, sym}
@@ -6,8 +6,8 @@ use native.Mathlib.Omega.{arith}
 use lib.ListN.{length}
 use lib.Seq.{length-take-le}
 use borrow.Author.Needs.{needs}
-use Rattle.verdict.proofs.read_all.Statement.{statement}
-use Rattle.verdict.proofs.read_all.Tie as tie
+use Rattle.streams.proofs.read_all.Statement.{statement}
+use Rattle.streams.proofs.read_all.Tie as tie
 
 abbrev Inv-loop : tie.InvT-loop
 Inv-loop buffer₀ done₀ buffer done = (done ≤ length buffer) × (length buffer ≡ length buffer₀)

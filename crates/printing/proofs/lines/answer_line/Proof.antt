@@ -1,6 +1,6 @@
 -- `printing::lines::answer_line` meets its contract: the word, the numbers, then a newline. Assumes nothing.
 use borrow.Author.Needs.{needs}
-use Rattle.printing.proofs.PutLaws.{both, room-first, room-rest, put-then}
+use Rattle.text.proofs.PutLaws.{both, room-first, room-rest, put-then}
 use Rattle.printing.proofs.LineLaws.{answer-parts}
 use Rattle.printing.proofs.lines.answer_line.Statement.{statement}
 use Rattle.printing.proofs.lines.answer_line.Tie as tie

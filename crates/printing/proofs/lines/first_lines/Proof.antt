@@ -1,6 +1,6 @@
 -- `printing::lines::first_lines` meets its contract: one line, then the other. Assumes nothing.
 use borrow.Author.Needs.{needs}
-use Rattle.printing.proofs.PutLaws.{room-first, room-rest, put-then}
+use Rattle.text.proofs.PutLaws.{room-first, room-rest, put-then}
 use Rattle.printing.proofs.LineLaws.{first-parts}
 use Rattle.printing.proofs.lines.first_lines.Statement.{statement}
 use Rattle.printing.proofs.lines.first_lines.Tie as tie

@@ -1,6 +1,6 @@
 -- `printing::lines::node` meets its contract: the word, then number after number. Assumes nothing.
 use borrow.Author.Needs.{needs}
-use Rattle.printing.proofs.PutLaws.{both, room-first, room-rest, put-then}
+use Rattle.text.proofs.PutLaws.{both, room-first, room-rest, put-then}
 use Rattle.printing.proofs.LineLaws.{node-parts}
 use Rattle.printing.proofs.lines.node.Statement.{statement}
 use Rattle.printing.proofs.lines.node.Tie as tie

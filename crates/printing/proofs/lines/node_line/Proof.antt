@@ -5,7 +5,7 @@ use denote.Ref.{now}
 use Rattle.model.specs.Bytes.{documentOf}
 use Rattle.model.specs.Text.{ascii, line, nodeLine}
 use borrow.Author.Needs.{needs}
-use Rattle.printing.proofs.PutLaws.{room-same, put-same}
+use Rattle.text.proofs.PutLaws.{room-same, put-same}
 use Rattle.printing.proofs.LineLaws.{node-same}
 use Rattle.printing.proofs.lines.node_line.Statement.{statement}
 use Rattle.printing.proofs.lines.node_line.Tie as tie

@@ -8,7 +8,7 @@ use native.Mathlib.Omega.{arith}
 use borrow.Author.Needs.{needs}
 use Rattle.model.specs.Bytes.{documentOf}
 use Rattle.model.specs.Text.{nodeLine}
-use Rattle.printing.proofs.PutLaws.{room-same, put-same}
+use Rattle.text.proofs.PutLaws.{room-same, put-same}
 use Rattle.printing.proofs.LineLaws.{ListedUpTo, listed-start, listed-room, listed-step, listed-end, nodes-listed}
 use Rattle.printing.proofs.lines.node_lines.Statement.{statement}
 use Rattle.printing.proofs.lines.node_lines.Tie as tie

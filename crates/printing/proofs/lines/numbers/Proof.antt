@@ -4,7 +4,7 @@ use mathlib.Core.Path.{sym, ap, _∙_}
 use Rattle.model.specs.Bytes.{field}
 use Rattle.model.specs.Text.{number}
 use borrow.Author.Needs.{needs}
-use Rattle.printing.proofs.PutLaws.{room-same, put-same}
+use Rattle.text.proofs.PutLaws.{room-same, put-same}
 use Rattle.printing.proofs.LineLaws.{ListedUpTo, listed-start, listed-room, listed-step, listed-end, numbers-listed}
 use Rattle.printing.proofs.lines.numbers.Statement.{statement}
 use Rattle.printing.proofs.lines.numbers.Tie as tie

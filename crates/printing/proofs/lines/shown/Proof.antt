@@ -1,6 +1,6 @@
 -- `printing::lines::shown` meets its contract: the first lines, the nodes, then the answer. Assumes nothing.
 use borrow.Author.Needs.{needs}
-use Rattle.printing.proofs.PutLaws.{both, room-first, room-rest, put-then}
+use Rattle.text.proofs.PutLaws.{both, room-first, room-rest, put-then}
 use Rattle.printing.proofs.LineLaws.{shown-parts}
 use Rattle.printing.proofs.lines.shown.Statement.{statement}
 use Rattle.printing.proofs.lines.shown.Tie as tie

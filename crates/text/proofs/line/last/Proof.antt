@@ -1,8 +1,8 @@
--- `printing::lines::last` meets its contract: the number, then a newline. Assumes nothing.
+-- `text::line::last` meets its contract: the number, then a newline. Assumes nothing.
 use borrow.Author.Needs.{needs}
-use Rattle.printing.proofs.PutLaws.{both, room-first, room-rest, put-then}
-use Rattle.printing.proofs.lines.last.Statement.{statement}
-use Rattle.printing.proofs.lines.last.Tie as tie
+use Rattle.text.proofs.PutLaws.{both, room-first, room-rest, put-then}
+use Rattle.text.proofs.line.last.Statement.{statement}
+use Rattle.text.proofs.line.last.Tie as tie
 
 number-requires : tie.Need-number-requires
 number-requires c κs = room-first (both _ _) (c .before .before .pre)

@@ -1,9 +1,9 @@
--- `printing::lines::line` meets its contract: the words, then the number. Assumes nothing.
+-- `text::line::line` meets its contract: the words, then the number. Assumes nothing.
 use borrow.Author.Needs.{needs}
-use Rattle.printing.proofs.PutLaws.{room-first, room-rest, put-then}
-use Rattle.printing.proofs.LineLaws.{line-parts}
-use Rattle.printing.proofs.lines.line.Statement.{statement}
-use Rattle.printing.proofs.lines.line.Tie as tie
+use Rattle.text.proofs.PutLaws.{room-first, room-rest, put-then}
+use Rattle.text.proofs.LineLaws.{line-parts}
+use Rattle.text.proofs.line.line.Statement.{statement}
+use Rattle.text.proofs.line.line.Tie as tie
 
 word-requires : tie.Need-word-requires
 word-requires c κs = room-first (line-parts _ _) (c .before .before .before .pre)

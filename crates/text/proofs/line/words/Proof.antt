@@ -1,9 +1,9 @@
--- `printing::lines::words` meets its contract: the words, then a newline. Assumes nothing.
+-- `text::line::words` meets its contract: the words, then a newline. Assumes nothing.
 use borrow.Author.Needs.{needs}
-use Rattle.printing.proofs.PutLaws.{room-first, room-rest, put-then}
-use Rattle.printing.proofs.LineLaws.{words-parts}
-use Rattle.printing.proofs.lines.words.Statement.{statement}
-use Rattle.printing.proofs.lines.words.Tie as tie
+use Rattle.text.proofs.PutLaws.{room-first, room-rest, put-then}
+use Rattle.text.proofs.LineLaws.{words-parts}
+use Rattle.text.proofs.line.words.Statement.{statement}
+use Rattle.text.proofs.line.words.Tie as tie
 
 word-requires : tie.Need-word-requires
 word-requires c κs = room-first (words-parts _) (c .before .before .before .pre)

@@ -5,14 +5,14 @@ use borrow.Author.Needs.{needs}
 use native.Mathlib.Omega.{arith}
 use borrow.Fn.Kinds.{In}
 use borrow.Fn.PlainCycle.{Measures, is, falls, and}
-use Rattle.printing.proofs.PutLaws.{put-length, put-digit, digit-room, digits-room, put-digits}
-use Rattle.printing.proofs.text.digits.Reads as digits
-use Rattle.printing.proofs.text.digits.Kinds as digits-kinds
-use Rattle.printing.proofs.text.+digits.Lts-digits as lts
-use Rattle.printing.proofs.text.digit.Reads as digit-reads
-use Rattle.printing.proofs.text.put.Reads as put-reads
-use Rattle.printing.proofs.text.+digits.{statement}
-use Rattle.printing.proofs.text.+digits.Tie.{close}
+use Rattle.text.proofs.PutLaws.{put-length, put-digit, digit-room, digits-room, put-digits}
+use Rattle.text.proofs.put.digits.Reads as digits
+use Rattle.text.proofs.put.digits.Kinds as digits-kinds
+use Rattle.text.proofs.put.+digits.Lts-digits as lts
+use Rattle.text.proofs.put.digit.Reads as digit-reads
+use Rattle.text.proofs.put.put.Reads as put-reads
+use Rattle.text.proofs.put.+digits.{statement}
+use Rattle.text.proofs.put.+digits.Tie.{close}
 
 abbrev μ-digits : Measures 1 digits-kinds.ps ℕ
 μ-digits κs a = a .0

@@ -1,9 +1,9 @@
--- `printing::text::number` meets its contract: a space, then the digits. Assumes nothing.
+-- `text::put::number` meets its contract: a space, then the digits. Assumes nothing.
 use borrow.Author.Needs.{needs}
-use Rattle.printing.proofs.PutLaws.{room-first, room-rest, put-then}
-use Rattle.printing.proofs.LineLaws.{number-parts}
-use Rattle.printing.proofs.text.number.Statement.{statement}
-use Rattle.printing.proofs.text.number.Tie as tie
+use Rattle.text.proofs.PutLaws.{room-first, room-rest, put-then}
+use Rattle.text.proofs.LineLaws.{number-parts}
+use Rattle.text.proofs.put.number.Statement.{statement}
+use Rattle.text.proofs.put.number.Tie as tie
 
 put-requires : tie.Need-put-requires
 put-requires c κs = room-first (number-parts _) (c .before .before .pre)

@@ -1,8 +1,8 @@
--- `printing::text::put` meets its contract: one store. Assumes nothing.
+-- `text::put::put` meets its contract: one store. Assumes nothing.
 use borrow.Author.Needs.{needs}
-use Rattle.printing.proofs.PutLaws.{put-byte}
-use Rattle.printing.proofs.text.put.Statement.{statement}
-use Rattle.printing.proofs.text.put.Tie as tie
+use Rattle.text.proofs.PutLaws.{put-byte}
+use Rattle.text.proofs.put.put.Statement.{statement}
+use Rattle.text.proofs.put.put.Tie as tie
 
 returns : tie.Need-returns
 returns c = put-byte _ _ _ (c .pre)

@@ -1,10 +1,10 @@
--- `printing::text::word` meets its contract: byte by byte. The measure is how many bytes are left. Assumes nothing.
+-- `text::put::word` meets its contract: byte by byte. The measure is how many bytes are left. Assumes nothing.
 use Prim.Native.Nat.{_-_}
 use mathlib.Core.Path.{refl}
 use borrow.Author.Needs.{needs}
-use Rattle.printing.proofs.PutLaws.{CopiedUpTo, copy-start, copy-step, copy-end}
-use Rattle.printing.proofs.text.word.Statement.{statement}
-use Rattle.printing.proofs.text.word.Tie as tie
+use Rattle.text.proofs.PutLaws.{CopiedUpTo, copy-start, copy-step, copy-end}
+use Rattle.text.proofs.put.word.Statement.{statement}
+use Rattle.text.proofs.put.word.Tie as tie
 
 abbrev Inv-loop : tie.InvT-loop
 Inv-loop text out₀ at i₀ i-end out i = CopiedUpTo text at out₀ out i-end i
