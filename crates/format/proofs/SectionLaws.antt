@@ -27,6 +27,10 @@ record-ends b at width i j w h k =
     let end : 2 * (at + 1 + width * field b at) ≤ length b = w .records in
     (omega arith, omega arith)
 
+-- the records that a count announces have few fields
+pub records-few : (width n : ℕ) → width ≤ patternWidth → n < 65_536 → width * n ≤ 262_140
+records-few width n h l = let more : width * n ≤ width * 65_535 = mul-le-mul-left width (omega arith) in omega arith
+
 module _ {A : Type 0} (read : List ℕ → ℕ → A) (width : ℕ) (b : List ℕ) (at : ℕ) where
   pub section-length : length (section read width b at) ≡ field b at
   unfolding section recordsAt

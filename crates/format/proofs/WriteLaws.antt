@@ -1,15 +1,19 @@
 -- Laws of the writers. Fields that are put one after another, from field 0 on, stand as bytes at the front of the buffer, and one
 -- more field adds its two bytes; so the loops write what the encodings say. Assumes nothing.
-use Prim.Native.Nat.{ℕ, _+_, _*_, _≤_, _<_}
+use Prim.Native.Nat.{ℕ, suc, _+_, _*_, _≤_, _<_}
 use mathlib.Core.Path.{_≡_, refl, sym, ap, ap₂, _∙_, subst}
-use mathlib.Core.List.{List, [], _∷_, _++_, flatMap, append-assoc}
+use mathlib.Core.List.{List, [], _∷_, _++_, map, flatMap, append-assoc, map-append}
 use native.Mathlib.Omega.{arith}
+use native.Mathlib.Nat.{add-zero, zero-add}
 use native.Mathlib.Numerals.{add-one}
-use lib.ListN.{length, getD, take, length-append}
+use lib.ListN.{length, getD, take, set, length-append}
 use lib.Seq.{sets, length-sets, take-suc, length-take-le}
+use Rattle.model.specs.Lists.{upFrom}
 use Rattle.model.specs.Tree.{Document}
-use Rattle.model.specs.Bytes.{fieldBytes, bytesOf, documentFields, sectionFields, encodeDocument, encodeCounted, writtenAtFront}
+use Rattle.model.specs.Bytes.{field, fieldBytes, bytesOf, fieldsAt, documentFields, sectionFields, encodeDocument, encodeCounted, writtenAtFront}
+use Rattle.model.proofs.ListLaws.{length-map-upFrom}
 use Rattle.model.proofs.Bytes.{length-bytes, front-none}
+use Rattle.format.proofs.RangeLaws.{upFrom-last}
 use Rattle.format.proofs.FrontLaws.{front-sets, front-over}
 
 -- ---- lists
@@ -19,10 +23,17 @@ unfolding flatMap
 flatMap-append f [] ys = refl
 flatMap-append f (x ∷ xs) ys = ap (λ (l : List _). f x ++ l) (flatMap-append f xs ys) ∙ sym (append-assoc (f x) (flatMap f xs) (flatMap f ys))
 
--- the bytes of one field more
-bytes-last : (fs : List ℕ) (v : ℕ) → bytesOf (fs ++ (v ∷ [])) ≡ bytesOf fs ++ fieldBytes v
-unfolding bytesOf flatMap fieldBytes
-bytes-last fs v = flatMap-append fieldBytes fs (v ∷ [])
+-- the bytes of more fields
+bytes-append : (fs gs : List ℕ) → bytesOf (fs ++ gs) ≡ bytesOf fs ++ bytesOf gs
+unfolding bytesOf
+bytes-append fs gs = flatMap-append fieldBytes fs gs
+
+-- stores that go on where the last ones ended
+sets-append : (l : List ℕ) (i : ℕ) (xs ys : List ℕ) → sets l i (xs ++ ys) ≡ sets (sets l i xs) (i + length xs) ys
+sets-append l i [] ys = ap (λ (k : ℕ). sets l k ys) (sym (add-zero i))
+sets-append l i (x ∷ xs) ys =
+    let e : suc i + length xs ≡ i + suc (length xs) = omega arith in
+    sets-append (set l i x) (suc i) xs ys ∙ ap (λ (k : ℕ). sets (sets (set l i x) (suc i) xs) k ys) e
 
 -- ---- fields put one after another
 
@@ -36,21 +47,27 @@ pub written-none : {b₀ : List ℕ} → Written [] b₀ b₀ 0
 unfolding bytesOf flatMap
 written-none {b₀} = record { count = refl; size = refl; bytes = sym (front-none b₀) }
 
+-- a run of fields more
+pub written-run : {fs b₀ b b′ : List ℕ} {at : ℕ} (gs : List ℕ) → Written fs b₀ b at → 2 * (at + length gs) ≤ length b₀ → b′ ≡ sets b (2 * at) (bytesOf gs)
+    → Written (fs ++ gs) b₀ b′ (at + length gs)
+written-run {fs} {b₀} {b} {b′} {at} gs w room e =
+    let f : length (bytesOf fs) ≡ 2 * length fs = length-bytes fs in
+    let g : length (bytesOf gs) ≡ 2 * length gs = length-bytes gs in
+    let there : 2 * at ≡ length (bytesOf fs) = omega arith in
+    record {
+      count = omega (arith, length-append fs gs);
+      size = ap length e ∙ length-sets b (2 * at) (bytesOf gs) ∙ w .size;
+      bytes =
+          e ∙ ap₂ (λ (l : List ℕ) (k : ℕ). sets l k (bytesOf gs)) (w .bytes) there
+          ∙ front-sets (bytesOf fs) b₀ (bytesOf gs) (omega arith)
+          ∙ ap (λ (l : List ℕ). writtenAtFront l b₀) (sym (bytes-append fs gs));
+    }
+
 -- one field more
 pub written-put : {fs b₀ b b′ : List ℕ} {at : ℕ} (v : ℕ) → Written fs b₀ b at → 2 * at + 1 < length b₀ → b′ ≡ sets b (2 * at) (fieldBytes v)
     → Written (fs ++ (v ∷ [])) b₀ b′ (at + 1)
-unfolding fieldBytes
-written-put {fs} {b₀} {b} {b′} {at} v w room e =
-    let len : length (bytesOf fs) ≡ 2 * length fs = length-bytes fs in
-    let there : 2 * at ≡ length (bytesOf fs) = omega arith in
-    record {
-      count = omega (arith, length-append fs (v ∷ []));
-      size = ap length e ∙ length-sets b (2 * at) (fieldBytes v) ∙ w .size;
-      bytes =
-          e ∙ ap₂ (λ (l : List ℕ) (k : ℕ). sets l k (fieldBytes v)) (w .bytes) there
-          ∙ front-sets (bytesOf fs) b₀ (fieldBytes v) (omega arith)
-          ∙ ap (λ (l : List ℕ). writtenAtFront l b₀) (sym (bytes-last fs v));
-    }
+unfolding bytesOf flatMap fieldBytes
+written-put v w room e = written-run (v ∷ []) w (omega arith) e
 
 -- what is written over a shorter front is written over what stood before it
 pub written-over : {fs gs b₀ b b′ : List ℕ} {at at′ : ℕ} → Written fs b₀ b at → Written gs b b′ at′ → at ≤ at′ → Written gs b₀ b′ at′
@@ -80,7 +97,7 @@ count-written b₀ n room e = written-put n written-none room e
 abbrev pub Out : List ℕ → List ℕ → List ℕ → ℕ → Type 0
 Out w b₀ b r = (r ≡ length w) × (b ≡ writtenAtFront w b₀)
 
-written-out : {fs b₀ b : List ℕ} {at : ℕ} → Written fs b₀ b at → (w : List ℕ) → bytesOf fs ≡ w → Out w b₀ b (2 * at)
+pub written-out : {fs b₀ b : List ℕ} {at : ℕ} → Written fs b₀ b at → (w : List ℕ) → bytesOf fs ≡ w → Out w b₀ b (2 * at)
 written-out {fs} {b₀} {b} {at} w v e =
     let f : length (bytesOf fs) ≡ 2 * length fs = length-bytes fs in
     let g : length (bytesOf fs) ≡ length v = ap length e in
@@ -131,3 +148,57 @@ module _ {nodes : List ℕ} {k : ℕ} where
       written-out (written-over count (w .written) (omega arith)) (bytesOf (length (take k nodes) ∷ take k nodes))
       (ap₂ (λ (m j : ℕ). bytesOf (m ∷ take j nodes)) (sym len) done) in
       (omega arith, o .1)
+
+-- ---- fields copied from one place to another
+
+pub fields-last : (b : List ℕ) (from n : ℕ) → fieldsAt b from (n + 1) ≡ fieldsAt b from n ++ (field b (from + n) ∷ [])
+fields-last b from n = ap (map (field b)) (upFrom-last from n) ∙ map-append (field b) (upFrom from n) ((from + n) ∷ [])
+
+pub fields-count : (b : List ℕ) (from n : ℕ) → length (fieldsAt b from n) ≡ n
+fields-count b from n = length-map-upFrom (field b) from n
+
+-- copied to the front, and after what is written
+pub copied-front : {b₀ b′ : List ℕ} (b : List ℕ) (from n : ℕ) → 2 * n ≤ length b₀ → b′ ≡ sets b₀ 0 (bytesOf (fieldsAt b from n)) → Written (fieldsAt b from n) b₀ b′ n
+copied-front {b₀} {b′} b from n room e =
+    let c : length (fieldsAt b from n) ≡ n = fields-count b from n in
+    subst (Written (fieldsAt b from n) b₀ b′) (zero-add (length (fieldsAt b from n)) ∙ c) (written-run (fieldsAt b from n) written-none (omega arith) e)
+
+pub copied-after : {fs b₀ out out′ : List ℕ} {at : ℕ} (b : List ℕ) (from n : ℕ) → Written fs b₀ out at → 2 * (at + n) ≤ length b₀
+    → out′ ≡ sets out (2 * at) (bytesOf (fieldsAt b from n)) → Written (fs ++ fieldsAt b from n) b₀ out′ (at + n)
+copied-after {fs} {b₀} {out} {out′} {at} b from n w room e =
+    let c : length (fieldsAt b from n) ≡ n = fields-count b from n in
+    subst (λ (k : ℕ). Written (fs ++ fieldsAt b from n) b₀ out′ (at + k)) c (written-run (fieldsAt b from n) w (omega arith) e)
+
+-- the loop that copies n of them to field `to` and on: i are copied
+pub record Copying (b : List ℕ) (from n to : ℕ) (b₀ out : List ℕ) (i : ℕ) : Type 0 where
+  pub turns : i ≤ n
+  pub size : length out ≡ length b₀
+  pub bytes : out ≡ sets b₀ (2 * to) (bytesOf (fieldsAt b from i))
+
+module _ {b : List ℕ} {from n to : ℕ} {b₀ : List ℕ} where
+  pub copying-start : Copying b from n to b₀ b₀ 0
+  unfolding upFrom bytesOf flatMap
+  copying-start = record { turns = omega arith; size = refl; bytes = refl }
+
+  pub copying-step : {out out′ : List ℕ} {i v : ℕ} → Copying b from n to b₀ out i → i < n → v ≡ field b (from + i)
+      → out′ ≡ sets out (2 * (to + i)) (fieldBytes v) → Copying b from n to b₀ out′ (i + 1)
+  unfolding bytesOf flatMap fieldBytes
+  copying-step {out} {out′} {i} {v} w h read e =
+      let fs : List ℕ = fieldsAt b from i in
+      let f : length (bytesOf fs) ≡ 2 * length fs = length-bytes fs in
+      let g : length fs ≡ i = fields-count b from i in
+      let there : 2 * (to + i) ≡ 2 * to + length (bytesOf fs) = omega arith in
+      record {
+        turns = omega arith;
+        size = ap length e ∙ length-sets out (2 * (to + i)) (fieldBytes v) ∙ w .size;
+        bytes =
+            e ∙ ap₂ (λ (l : List ℕ) (k : ℕ). sets l k (fieldBytes v)) (w .bytes) there
+            ∙ sym (sets-append b₀ (2 * to) (bytesOf fs) (fieldBytes v))
+            ∙ ap (λ (x : ℕ). sets b₀ (2 * to) (bytesOf fs ++ fieldBytes x)) read
+            ∙ ap (λ (l : List ℕ). sets b₀ (2 * to) l) (sym (ap bytesOf (fields-last b from i) ∙ bytes-append fs (field b (from + i) ∷ [])));
+      }
+
+  pub copying-end : {out : List ℕ} {i : ℕ} → Copying b from n to b₀ out i → n ≤ i → out ≡ sets b₀ (2 * to) (bytesOf (fieldsAt b from n))
+  copying-end {out} {i} w h =
+      let done : i ≡ n = let t : i ≤ n = w .turns in omega arith in
+      w .bytes ∙ ap (λ (k : ℕ). sets b₀ (2 * to) (bytesOf (fieldsAt b from k))) done

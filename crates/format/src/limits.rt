@@ -30,3 +30,9 @@ pub const SUMMARY_WIDTH: usize = 3;
 pub const PATTERN_WIDTH: usize = 4;
 
 pub const DOCUMENT_WIDTH: usize = 2;
+
+// Fields of an old pattern record, which stays as it was (document 02: the form of a case before sets).
+pub const OLD_WIDTH: usize = 4;
+
+// The most bytes of a case with a set of one: 1 + 3 x 64 fields, twice 1 + 4 x 16, and the set's count.
+pub const MAX_MOVED: usize = 648;

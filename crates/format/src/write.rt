@@ -1,10 +1,12 @@
-// The writers: each writes at the front of a lent slice of bytes, and the bytes after what it writes keep their contents.
+// The writers: each writes at the front of a lent slice of bytes, or from a field on, and the bytes that it does not write keep their
+// contents.
 
 ghost use mathlib.Core.Path.{_≡_};
 ghost use Prim.Native.Nat.{_+_, _*_, _≤_, _<_};
 ghost use lib.ListN.{length, take};
 ghost use lib.Seq.{sets};
-ghost use Rattle.model.specs.Bytes.{fieldBytes, encodeCounted, writtenAtFront};
+ghost use Rattle.model.specs.Bytes.{fieldBytes, bytesOf, fieldsAt, encodeCounted, writtenAtFront};
+use crate::field::field;
 
 // Field i becomes value, low byte first.
 pub fn put_field(out: &mut [u8], i: usize, value: u16)
@@ -26,4 +28,14 @@ pub fn write_counted(nodes: &[u16], k: usize, part: &mut [u8]) -> usize
         put_field(part, i + 1, nodes[i]);
     }
     2 + 2 * k
+}
+
+// n fields of b, from field `from` on, become those of out from field `to` on.
+pub fn copy_fields(b: &[u8], from: usize, n: usize, out: &mut [u8], to: usize)
+    requires { ⌜ (2 * (from + n) ≤ length (now b)) × (2 * (to + n) ≤ length (now out)) ⌝ }
+    ensures { λ _. ⌜ now (out .exit) ≡ sets (now (out .entry)) (2 * to) (bytesOf (fieldsAt (now (b .entry)) from n)) ⌝ }
+{
+    for i in 0..n {
+        put_field(out, to + i, field(b, from + i) as u16);
+    }
 }

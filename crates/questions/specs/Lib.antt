@@ -1,3 +1,4 @@
+pub mod Front
 pub mod Numbered
 pub mod Members
 pub mod Rules

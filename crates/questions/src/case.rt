@@ -5,8 +5,10 @@ ghost use mathlib.Core.Bool.{true};
 ghost use Prim.Native.Nat.{_+_, _*_, _/_, _≤_};
 ghost use lib.Dec.{eqb};
 ghost use lib.ListN.{length};
+ghost use Rattle.model.specs.Limits.{patternWidth};
 ghost use Rattle.model.specs.Bytes.{caseOf, isWholeCase, setEnd};
 ghost use Rattle.model.specs.Questions.{caseWhole, countsInRange, setInRange};
+ghost use Rattle.questions.specs.Front.{frontEnd};
 use crate::members::Asked;
 use crate::members::members_kept;
 use crate::pattern::count_in_range;
@@ -14,8 +16,10 @@ use crate::rules::between;
 use format::limits::MAX_CASE_BYTES;
 use format::limits::MAX_MEMBERS;
 use format::limits::MAX_SUMMARY;
+use format::limits::PATTERN_WIDTH;
 use format::sections::first_at;
 use format::sections::pattern_end;
+use format::sections::section_end;
 use format::sections::set_at;
 use format::set::set_count;
 use format::summary::summary_count;
@@ -38,28 +42,40 @@ fn set_ends(b: &[u8], on: usize) -> bool
     fields == at
 }
 
-// 3. Has the case at most 65,536 bytes, every count and announced record whole, and nothing after? A count is read only
-// where it is whole.
-pub fn case_whole(b: &[u8]) -> bool
-    ensures { λ r. ⌜ r ≡ caseWhole (now (b .entry)) ⌝ }
+// The field after the first pattern, whose records have that width: there another pattern's count stands, or the set's. 0 where there are
+// too many bytes, or they are odd in number or end before that field. A count is read only where it is whole.
+pub fn front_end(b: &[u8], width: usize) -> usize
+    requires { ⌜ width ≤ patternWidth ⌝ }
+    ensures { λ r. ⌜ r ≡ frontEnd width (now (b .entry)) ⌝ }
 {
     let bytes = b.len();
     if MAX_CASE_BYTES < bytes {
-        return false;
+        return 0;
     }
     if bytes % 2 != 0 {
-        return false;
+        return 0;
     }
     let fields = bytes / 2;
     if fields == 0 {
-        return false;
+        return 0;
     }
     let first = first_at(b);
     if fields <= first {
-        return false;
+        return 0;
     }
-    let set = pattern_end(b, first);
-    if fields <= set {
+    let end = section_end(b, first, width);
+    if fields <= end {
+        return 0;
+    }
+    end
+}
+
+// 3. Has the case at most 65,536 bytes, every count and announced record whole, and nothing after?
+pub fn case_whole(b: &[u8]) -> bool
+    ensures { λ r. ⌜ r ≡ caseWhole (now (b .entry)) ⌝ }
+{
+    let set = front_end(b, PATTERN_WIDTH);
+    if set == 0 {
         return false;
     }
     set_ends(b, set)
