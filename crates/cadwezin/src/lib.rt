@@ -12,10 +12,14 @@ use deciding::Answer;
 use deciding::verdict_call;
 use laying::laid::NodeRecord;
 use laying::laid::laid_out;
+use moving::answers::Moved;
+use moving::downgrade::downgrade_call;
+use moving::upgrade::upgrade_call;
 ghost use mathlib.Core.Path.{_≡_};
 ghost use Rattle.deciding.specs.Outcome.{valuesOf};
-ghost use Rattle.model.specs.Demands.{VerdictAnswered, FitsAnswered, ResultAnswered, NodesAnswered, PathsAnswered, LayoutAnswered};
+ghost use Rattle.model.specs.Demands.{VerdictAnswered, FitsAnswered, ResultAnswered, NodesAnswered, PathsAnswered, LayoutAnswered, UpgradeAnswered, DowngradeAnswered};
 ghost use Rattle.calls.specs.Answers.{testOf, nodesOf, pathsOf};
+ghost use Rattle.moving.specs.Answers.{movedOf};
 ghost use Rattle.cadwezin.specs.Table.{recordsIn, layoutOf};
 ghost use Rattle.cadwezin.specs.Verdict.{numbersOf, exportedOutcome};
 
@@ -143,4 +147,20 @@ pub extern "C" fn cadwezin_layout(
         refused: laid.refused,
         count: count as u64,
     }
+}
+
+// An old case, in document 01's form, becomes the same case with a set of one, at the front of the answer buffer.
+#[no_mangle]
+pub extern "C" fn cadwezin_upgrade(case: &[u8], answer: &mut [u8]) -> Moved
+    ensures { λ r. ⌜ UpgradeAnswered (now (case .entry)) (now (answer .entry)) (movedOf r (now (answer .exit))) ⌝ }
+{
+    upgrade_call(case, answer)
+}
+
+// A case with a set of one goes back to the old form, at the front of the answer buffer.
+#[no_mangle]
+pub extern "C" fn cadwezin_downgrade(case: &[u8], answer: &mut [u8]) -> Moved
+    ensures { λ r. ⌜ DowngradeAnswered (now (case .entry)) (now (answer .entry)) (movedOf r (now (answer .exit))) ⌝ }
+{
+    downgrade_call(case, answer)
 }

@@ -14,6 +14,8 @@ use deciding::verdict_call;
 use format::field::wide64;
 use laying::laid::NodeRecord;
 use laying::laid::laid_out;
+use moving::downgrade::downgrade_call;
+use moving::upgrade::upgrade_call;
 use read::Head;
 
 // A number of the vector as a length.
@@ -68,13 +70,31 @@ fn run_result(h: Head, case: &[u8], document: &[u8], list: &[u8]) {
     print::word(b"\n");
 }
 
+// An answer that is a count, and the answer buffer.
+fn print_count(refused: u64, count: u64, answer: &[u8]) {
+    print::word(b" refused");
+    print::number(refused);
+    print::word(b" count");
+    print::number(count);
+    print::lent(wide64(answer.len()), print::hash(answer));
+}
+
 fn run_nodes(h: Head, case: &[u8], document: &[u8], answer: &mut [u8]) {
     let r = nodes_call(case, h.number, document, h.position, answer);
-    print::word(b"nodes refused");
-    print::number(r.refused);
-    print::word(b" count");
-    print::number(r.count);
-    print::lent(wide64(answer.len()), print::hash(answer));
+    print::word(b"nodes");
+    print_count(r.refused, r.count, answer);
+}
+
+fn run_upgrade(case: &[u8], answer: &mut [u8]) {
+    let r = upgrade_call(case, answer);
+    print::word(b"upgrade");
+    print_count(r.refused, r.count, answer);
+}
+
+fn run_downgrade(case: &[u8], answer: &mut [u8]) {
+    let r = downgrade_call(case, answer);
+    print::word(b"downgrade");
+    print_count(r.refused, r.count, answer);
 }
 
 fn print_all(numbers: &[u64]) {
@@ -153,7 +173,15 @@ fn with_buffer(h: Head, case: &[u8], document: &[u8], answer: &mut [u8]) {
         run_verdict(h, case, answer);
         return;
     }
-    run_nodes(h, case, document, answer);
+    if call == 4 {
+        run_nodes(h, case, document, answer);
+        return;
+    }
+    if call == 7 {
+        run_upgrade(case, answer);
+        return;
+    }
+    run_downgrade(case, answer);
 }
 
 // A buffer filled with a pattern is lent. A length beyond the room here is cut to it.
@@ -190,10 +218,6 @@ fn with_table(h: Head, case: &[u8], list: &[u8]) {
 // The line of one vector.
 fn line(h: Head, case: &[u8], document: &[u8], list: &[u8]) {
     let call = h.call;
-    if call == 1 {
-        with_answer(h, case, document);
-        return;
-    }
     if call == 2 {
         run_fits(case, document);
         return;
@@ -202,15 +226,15 @@ fn line(h: Head, case: &[u8], document: &[u8], list: &[u8]) {
         run_result(h, case, document, list);
         return;
     }
-    if call == 4 {
-        with_answer(h, case, document);
-        return;
-    }
     if call == 5 {
         run_paths(h, case);
         return;
     }
-    with_table(h, case, list);
+    if call == 6 {
+        with_table(h, case, list);
+        return;
+    }
+    with_answer(h, case, document);
 }
 
 // One vector; false where there is no further one.

@@ -1,0 +1,74 @@
+-- What each arm of the two calls returns and leaves in the buffer is the model's outcome, which keeps the demands; what is written fits
+-- the buffer; and asking the set of one leads to the old form's refusal. Assumes nothing.
+use Prim.Native.Nat.{ℕ, _≤_}
+use mathlib.Core.Path.{_≡_, sym, ap, _∙_}
+use mathlib.Core.Bool.{true}
+use mathlib.Core.List.{List}
+use native.Mathlib.Omega.{arith}
+use lib.ListN.{length, take}
+use Rattle.model.specs.Bytes.{caseOf, isWholeCase}
+use Rattle.model.specs.Questions.{bufferLargeEnough, caseWhole, ask, refusal, caseQuestions}
+use Rattle.model.specs.OldForm.{oldCaseOf, oldWhole, oldCountsInRange, oldQuestions}
+use Rattle.model.specs.Moving.{goesBack, upgradeRefusal, downgradeRefusal, upgraded, downgraded, movedAccepted}
+use Rattle.model.specs.Demands.{UpgradeAnswered, DowngradeAnswered}
+use Rattle.model.proofs.Bytes.{front-written}
+use Rattle.model.proofs.ReadBack.{AreBytes}
+use Rattle.model.proofs.Refusals.{refusal-yes}
+use Rattle.model.proofs.Moving.{upgrade-refused, upgrade-accepted, accepted-upgrade, upgraded-small, upgraded-asked, downgrade-refused, downgrade-accepted, accepted-downgrade, downgraded-small}
+use Rattle.model.proofs.Demands.{upgrade-answered, downgrade-answered}
+use Rattle.format.proofs.WriteLaws.{Out}
+
+module _ (b : List ℕ) (small : AreBytes b) where
+  -- the set of one stands at the front of a table that held z, and is asked about
+  pub asked-as-new : oldWhole b ≡ true → oldCountsInRange (oldCaseOf b) ≡ true → (bytes : ℕ) → bufferLargeEnough bytes ≡ true → {end r : ℕ} {out : List ℕ} (z : List ℕ)
+      → Out (upgraded b) z out end → r ≡ refusal (caseQuestions (take end out)) → r ≡ upgradeRefusal b bytes
+  unfolding upgradeRefusal
+  asked-as-new whole counts bytes large z w e =
+      e ∙ ap (λ (l : List ℕ). refusal (caseQuestions l)) ((λ i. take (w .0 i) (w .1 i)) ∙ front-written (upgraded b) z)
+      ∙ upgraded-asked b small whole counts ∙ sym (refusal-yes (ask 2 (bufferLargeEnough bytes)) (oldQuestions b) large)
+
+  -- ---- old to new
+
+  module _ (buffer : List ℕ) {number : ℕ} (e : number ≡ upgradeRefusal b (length buffer)) where
+    pub upgrade-no : (number ≡ 0 → ⊥) → UpgradeAnswered b buffer (record { answer = record { refused = number; count = 0 }; buffer = buffer })
+    upgrade-no f =
+        upgrade-answered b small buffer
+        ((λ i. record { answer = record { refused = e i; count = 0 }; buffer = buffer }) ∙ sym (upgrade-refused b buffer (λ z. f (e ∙ z))))
+
+    module _ (z : number ≡ 0) where
+      pub upgrade-fits : (oldWhole b ≡ true) × (length (upgraded b) ≤ length buffer)
+      unfolding oldQuestions
+      upgrade-fits =
+          let f = accepted-upgrade b (length buffer) (sym e ∙ z) in
+          let few : length (upgraded b) ≤ 648 = upgraded-small b small (f .asked .0) (f .asked .1 .0) in
+          (f .asked .0, omega (arith, f .buffer))
+
+      pub upgrade-yes : {count : ℕ} {after : List ℕ} → Out (upgraded b) buffer after count
+          → UpgradeAnswered b buffer (record { answer = record { refused = 0; count = count }; buffer = after })
+      unfolding movedAccepted
+      upgrade-yes w =
+          upgrade-answered b small buffer
+          ((λ i. record { answer = record { refused = 0; count = w .0 i }; buffer = w .1 i }) ∙ sym (upgrade-accepted b buffer (sym e ∙ z)))
+
+  -- ---- new to old
+
+  module _ (buffer : List ℕ) {number : ℕ} (e : number ≡ downgradeRefusal b (length buffer)) where
+    pub downgrade-no : (number ≡ 0 → ⊥) → DowngradeAnswered b buffer (record { answer = record { refused = number; count = 0 }; buffer = buffer })
+    downgrade-no f =
+        downgrade-answered b small buffer
+        ((λ i. record { answer = record { refused = e i; count = 0 }; buffer = buffer }) ∙ sym (downgrade-refused b buffer (λ z. f (e ∙ z))))
+
+    module _ (z : number ≡ 0) where
+      pub downgrade-fits : (isWholeCase b ≡ true) × ((goesBack (caseOf b) ≡ true) × (length (downgraded b) ≤ length buffer))
+      unfolding caseQuestions caseWhole
+      downgrade-fits =
+          let f = accepted-downgrade b (length buffer) (sym e ∙ z) in
+          let few : length (downgraded b) ≤ 646 = downgraded-small b small (f .asked) (f .one) in
+          (f .asked .0, (f .one, omega (arith, f .buffer)))
+
+      pub downgrade-yes : {count : ℕ} {after : List ℕ} → Out (downgraded b) buffer after count
+          → DowngradeAnswered b buffer (record { answer = record { refused = 0; count = count }; buffer = after })
+      unfolding movedAccepted
+      downgrade-yes w =
+          downgrade-answered b small buffer
+          ((λ i. record { answer = record { refused = 0; count = w .0 i }; buffer = w .1 i }) ∙ sym (downgrade-accepted b buffer (sym e ∙ z)))

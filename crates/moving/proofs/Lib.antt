@@ -1,0 +1,3 @@
+pub mod OldLaws
+pub mod FormLaws
+pub mod CallLaws
