@@ -1,4 +1,4 @@
-/* Tree pattern containment under a path summary: the six calls of the proved library, for C99 and C++ on x86-64.
+/* Tree pattern containment under a path summary: the eight calls of the proved library, for C99 and C++ on x86-64.
  *
  * Link with libcadwezin.a, which `rt staticlib cadwezin` writes to target/staticlib/. It needs memcpy and memset and nothing else.
  *
@@ -7,7 +7,8 @@
  * (parent, label or 0 for any, edge 0 child or 1 descendant, position or 0); and the set: a count of patterns, its members, and as many
  * sections like the first pattern's. A document (document 01: volume) is one section, records (parent, label). A list is bare fields
  * with no count. Record 0 is the root, with parent 0; any other parent number is below its record's own. Patterns have numbers: 1 is
- * the first pattern, 1 + i the set's i-th member.
+ * the first pattern, 1 + i the set's i-th member. A case in the old form, which only cadwezin_upgrade takes, has one second pattern's
+ * section right after the first's, with no count of patterns between.
  *
  * Any bytes, any numbers and buffers and tables of any length may be given. Each call asks its questions in the order that its
  * paragraph gives, and the first one answered no refuses the call:
@@ -16,7 +17,7 @@
  *    2  Has the answer buffer 4,096 bytes or more, or the table 1,024 records or more?
  *    3  Has the case at most 65,536 bytes, every count, announced record and announced member whole, and nothing after?
  *    4  Is the summary's count 1 to 64, and the first pattern's and every member's 1 to 16?
- *   14  Is the set's count 1 to 8? (Each call that asks question 4 asks this one right after it.)
+ *   14  Is the set's count 1 to 8? (Each call that asks question 4 asks this one right after it, but for cadwezin_upgrade.)
  *    5  Do all summary records keep the rules for parent, label (not 0) and strong (0 on the root)?
  *    6  Do siblings in the summary have different labels?
  *    7  Do all records of all patterns keep the rules for parent and edge (0 on the root), with positions at most 8?
@@ -26,6 +27,7 @@
  *   11  Is the list k fields, each below the document's count?
  *   12  Is the pattern's number 1 to 1 + the set's count and, where given, the position 1 to k?
  *   13  Is the list a placement of that pattern?
+ *   15  Has the set one member and no more?
  *
  * A refusal holds the question's number in `refused` and zero in every other field, and alters no lent byte, record or tally. Where a
  * call is accepted `refused` is 0, and what lies after what it writes keeps its contents.
@@ -139,6 +141,15 @@ struct cadwezin_paths_answer cadwezin_paths(const uint8_t *case_bytes, size_t ca
  * front of the table. */
 struct cadwezin_count_answer cadwezin_layout(const uint8_t *case_bytes, size_t case_length, uint64_t number, const uint8_t *list,
                                              size_t list_length, struct cadwezin_node_record *table, size_t table_length);
+
+/* From the old form to today's. Takes a case in the old form and an answer buffer. Question 2, then 3 to 8 about the two patterns that
+ * the old form has; it has no set, so 14 is not asked. Answers how many bytes the case has as a set of one, two more than it had, at
+ * most 648, and writes them to the front of the answer buffer. cadwezin_downgrade gives the old bytes back. */
+struct cadwezin_count_answer cadwezin_upgrade(const uint8_t *case_bytes, size_t case_length, uint8_t *answer, size_t answer_length);
+
+/* From today's form back to the old one. Takes a case and an answer buffer. Questions 2 to 8, 15. Answers how many bytes the case has in
+ * the old form, two fewer than it had, and writes them to the front of the answer buffer. cadwezin_upgrade gives the case back. */
+struct cadwezin_count_answer cadwezin_downgrade(const uint8_t *case_bytes, size_t case_length, uint8_t *answer, size_t answer_length);
 
 #ifdef __cplusplus
 }

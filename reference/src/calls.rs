@@ -1,10 +1,11 @@
-//! The six calls, each with its questions in the order document 01 lists them;
+//! The eight calls, each with its questions in the order that the documents give;
 //! question 14 comes with those about the case, right after question 4.
 //!
 //! "A refusal holds its number and zero in every other field. No lent byte,
 //! record or tally is altered."
 
 use crate::embedding::{has, is_embedding, Shape};
+use crate::old::{old_case, read_old_case, OldCase};
 use crate::records::{
     ask, holder, read_case, read_list, read_volume, Case, OutlineNode, SelectionNode, VolumeNode,
 };
@@ -192,6 +193,19 @@ pub fn layout(
     }
 }
 
+/// Old to new: "One tool turns an old case into a set of one". The count is how
+/// many bytes are written. Question 2, then 3 to 8 of the old form.
+pub fn upgrade(case: &[u8], answer: &mut [u8]) -> CountAnswer {
+    let old = upgrade_questions(case, answer.len());
+    write_moved(old.map(|old| old.with_set_of_one().bytes()), answer)
+}
+
+/// New to old: "another turns a set of one back". Questions 2 to 8, 15.
+pub fn downgrade(case: &[u8], answer: &mut [u8]) -> CountAnswer {
+    let old = downgrade_questions(case, answer.len());
+    write_moved(old.map(|old| old.bytes()), answer)
+}
+
 /// The verdict's refusal alone, 0 where it is accepted; so for each call.
 pub fn verdict_refusal(case: &[u8], limit: u64, tally: u64, answer_len: usize) -> u64 {
     refusal(verdict_questions(case, limit, tally, answer_len))
@@ -223,6 +237,14 @@ pub fn paths_refusal(case: &[u8], selection: u64) -> u64 {
 
 pub fn layout_refusal(case: &[u8], selection: u64, placement_list: &[u8], table_len: usize) -> u64 {
     refusal(layout_questions(case, selection, placement_list, table_len))
+}
+
+pub fn upgrade_refusal(case: &[u8], answer_len: usize) -> u64 {
+    refusal(upgrade_questions(case, answer_len))
+}
+
+pub fn downgrade_refusal(case: &[u8], answer_len: usize) -> u64 {
+    refusal(downgrade_questions(case, answer_len))
 }
 
 fn refusal<T>(questions: Result<T, u64>) -> u64 {
@@ -304,6 +326,19 @@ fn layout_questions(
     Ok((case, selection, list))
 }
 
+fn upgrade_questions(case: &[u8], answer_len: usize) -> Result<OldCase, u64> {
+    ask(2, answer_len >= ANSWER_BYTES)?;
+    read_old_case(case)
+}
+
+fn downgrade_questions(case: &[u8], answer_len: usize) -> Result<OldCase, u64> {
+    ask(2, answer_len >= ANSWER_BYTES)?;
+    let case = read_case(case)?;
+    // "15, going back, the set has more than one selection; decided after all
+    // questions on the case"
+    old_case(&case).ok_or(15)
+}
+
 /// Question 12, as far as it is about the selection.
 fn chosen(case: &Case, selection: u64) -> Result<Vec<SelectionNode>, u64> {
     case.selection(selection).cloned().ok_or(12)
@@ -372,6 +407,24 @@ fn write_trial(case: &Case, trial: &Trial, answer: &mut [u8]) {
     put(answer, &mut at, result.len());
     for v in result {
         put(answer, &mut at, v);
+    }
+}
+
+/// "each at the front of an answer buffer": at most 648 bytes, with 64, 16 and
+/// 16 records.
+fn write_moved(case: Result<Vec<u8>, u64>, answer: &mut [u8]) -> CountAnswer {
+    match case {
+        Ok(bytes) => {
+            answer[..bytes.len()].copy_from_slice(&bytes);
+            CountAnswer {
+                refused: 0,
+                count: bytes.len() as u64,
+            }
+        }
+        Err(refused) => CountAnswer {
+            refused,
+            ..Default::default()
+        },
     }
 }
 

@@ -1,11 +1,13 @@
-//! Document 01 as a plain program, with sets as in document 02's request #101:
-//! outlines, selections and the inclusion verdict. It follows the documents'
-//! sentences one by one and shares nothing with the program it is compared with.
+//! Document 01 as a plain program, with document 02's requests #101, sets, and
+//! #102, moving the filed cases over: outlines, selections and the inclusion
+//! verdict. It follows the documents' sentences one by one and shares nothing
+//! with the program it is compared with.
 //!
 //! * `records`: sections, records and the questions about bytes.
+//! * `old`: the old form of a case, and what it is today.
 //! * `embedding`: embeddings of a selection into a volume.
 //! * `trials`: placements in order, and the trial volume of each.
-//! * `calls`: the six calls and their questions in order.
+//! * `calls`: the eight calls and their questions in order.
 //! * `vectors`: test vectors, and running one.
 //! * `generate`: test vectors at every boundary, and random ones.
 
@@ -14,12 +16,13 @@
 pub mod calls;
 pub mod embedding;
 pub mod generate;
+pub mod old;
 pub mod records;
 pub mod trials;
 pub mod vectors;
 
 pub use calls::{
-    fits, fits_refusal, is_result, layout, layout_refusal, nodes_at, nodes_refusal, paths,
-    paths_refusal, result_refusal, verdict, verdict_refusal, CountAnswer, NodeRecord, PathsAnswer,
-    TestAnswer, VerdictAnswer,
+    downgrade, downgrade_refusal, fits, fits_refusal, is_result, layout, layout_refusal, nodes_at,
+    nodes_refusal, paths, paths_refusal, result_refusal, upgrade, upgrade_refusal, verdict,
+    verdict_refusal, CountAnswer, NodeRecord, PathsAnswer, TestAnswer, VerdictAnswer,
 };

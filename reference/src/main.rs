@@ -1,15 +1,19 @@
-//! `reference verdict`, `reference refusals`, `reference calls` and
-//! `reference case N`, each reading standard input.
+//! `reference verdict`, `reference upgrade`, `reference downgrade`, `reference
+//! refusals`, `reference calls` and `reference case N`, each reading standard
+//! input.
 
 #![forbid(unsafe_code)]
 
 use reference::calls::{INCLUDED, NOT_INCLUDED};
 use reference::vectors::read_all;
+use reference::CountAnswer;
 use std::fmt::Write as _;
 use std::io::{self, Read, Write};
 use std::process::ExitCode;
 
 const USAGE: &str = "usage: reference verdict < CASE
+       reference upgrade < OLD-CASE
+       reference downgrade < CASE
        reference refusals < VECTORS
        reference calls < VECTORS
        reference case NUMBER < VECTORS";
@@ -19,6 +23,8 @@ fn main() -> ExitCode {
     let words: Vec<&str> = words.iter().map(String::as_str).collect();
     let output = match words[..] {
         ["verdict"] => input().map(|case| verdict_lines(&case).into_bytes()),
+        ["upgrade"] => input().map(|case| moved(&case, reference::upgrade)),
+        ["downgrade"] => input().map(|case| moved(&case, reference::downgrade)),
         ["refusals"] => lines(|vector| vector.refusal().to_string()),
         ["calls"] => lines(|vector| vector.outcome()),
         ["case", number] => nth_case(number),
@@ -84,6 +90,18 @@ fn verdict_lines(case: &[u8]) -> String {
         write_answer(&mut text, &answer);
     }
     text
+}
+
+/// The case in the other form. A refusal is a line on standard error, since
+/// standard output has a case or nothing.
+fn moved(case: &[u8], call: fn(&[u8], &mut [u8]) -> CountAnswer) -> Vec<u8> {
+    let mut answer = vec![0; 4_096];
+    let got = call(case, &mut answer);
+    if got.refused != 0 {
+        eprintln!("refused {}", got.refused);
+    }
+    answer.truncate(got.count as usize);
+    answer
 }
 
 /// "A node line has number, parent, label; the answer line lists the result by

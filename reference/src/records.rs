@@ -43,7 +43,7 @@ pub struct VolumeNode {
 }
 
 /// A case that questions 3 to 8 do not refuse.
-#[derive(Clone, Debug)]
+#[derive(Clone, Debug, PartialEq, Eq)]
 pub struct Case {
     pub outline: Vec<OutlineNode>,
     pub first: Vec<SelectionNode>,
@@ -62,6 +62,17 @@ impl Case {
             1 => Some(&self.first),
             _ => self.set.get(usize::try_from(number - 2).ok()?),
         }
+    }
+
+    /// What `read_case` reads it from.
+    pub fn bytes(&self) -> Vec<u8> {
+        let mut out = section_bytes(self.outline.iter().map(outline_row));
+        out.extend(section_bytes(self.first.iter().map(selection_row)));
+        out.extend((self.set.len() as u16).to_le_bytes());
+        for member in &self.set {
+            out.extend(section_bytes(member.iter().map(selection_row)));
+        }
+        out
     }
 }
 
@@ -136,8 +147,8 @@ pub fn selection_nodes(rows: &[[u16; 4]]) -> Vec<SelectionNode> {
 }
 
 /// What is left to be read of some bytes.
-struct Fields<'a> {
-    rest: &'a [u8],
+pub(crate) struct Fields<'a> {
+    pub(crate) rest: &'a [u8],
 }
 
 impl Fields<'_> {
@@ -149,7 +160,7 @@ impl Fields<'_> {
     }
 
     /// A count and as many whole records of N fields, or `None`.
-    fn section<const N: usize>(&mut self) -> Option<Vec<[u16; N]>> {
+    pub(crate) fn section<const N: usize>(&mut self) -> Option<Vec<[u16; N]>> {
         let count = self.next()?;
         let mut rows = Vec::new();
         for _ in 0..count {
@@ -161,6 +172,15 @@ impl Fields<'_> {
         }
         Some(rows)
     }
+}
+
+/// A count and as many records.
+pub(crate) fn section_bytes<const N: usize>(
+    rows: impl ExactSizeIterator<Item = [u16; N]>,
+) -> Vec<u8> {
+    let count = [rows.len() as u16];
+    let fields = count.into_iter().chain(rows.flatten());
+    fields.flat_map(u16::to_le_bytes).collect()
 }
 
 type SelectionRows = Vec<[u16; 4]>;
@@ -190,7 +210,7 @@ fn volume_section(bytes: &[u8]) -> Option<Vec<[u16; 2]>> {
 
 /// "Record 0 is the root, with parent 0 [...]. Any other parent number is
 /// below its record's own."
-fn parent_rule(number: usize, parent: u16) -> bool {
+pub(crate) fn parent_rule(number: usize, parent: u16) -> bool {
     if number == 0 {
         parent == 0
     } else {
@@ -199,7 +219,7 @@ fn parent_rule(number: usize, parent: u16) -> bool {
 }
 
 /// Strong and edge are 0 or 1, and 0 on the root.
-fn flag_rule(number: usize, flag: u16) -> bool {
+pub(crate) fn flag_rule(number: usize, flag: u16) -> bool {
     if number == 0 {
         flag == 0
     } else {
@@ -208,7 +228,7 @@ fn flag_rule(number: usize, flag: u16) -> bool {
 }
 
 /// Question 5; "Labels are 1 to 65,535."
-fn outline_rules(rows: &[[u16; 3]]) -> bool {
+pub(crate) fn outline_rules(rows: &[[u16; 3]]) -> bool {
     rows.iter()
         .enumerate()
         .all(|(number, &[parent, label, strong])| {
@@ -218,7 +238,7 @@ fn outline_rules(rows: &[[u16; 3]]) -> bool {
 
 /// Question 6: "Do siblings in the outline have different labels?" The root,
 /// whose parent field is 0 too, is nobody's sibling.
-fn siblings_differ(rows: &[[u16; 3]]) -> bool {
+pub(crate) fn siblings_differ(rows: &[[u16; 3]]) -> bool {
     (1..rows.len()).all(|i| (1..i).all(|j| rows[i][0] != rows[j][0] || rows[i][1] != rows[j][1]))
 }
 
@@ -250,12 +270,25 @@ fn held_positions(rows: &[[u16; 4]]) -> Vec<u16> {
     held
 }
 
-fn outline_node(&[parent, label, strong]: &[u16; 3]) -> OutlineNode {
+pub(crate) fn outline_node(&[parent, label, strong]: &[u16; 3]) -> OutlineNode {
     OutlineNode {
         parent: parent.into(),
         label,
         strong: strong == 1,
     }
+}
+
+pub(crate) fn outline_row(node: &OutlineNode) -> [u16; 3] {
+    [node.parent as u16, node.label, node.strong.into()]
+}
+
+fn selection_row(node: &SelectionNode) -> [u16; 4] {
+    [
+        node.parent as u16,
+        node.label,
+        node.descendant.into(),
+        node.position as u16,
+    ]
 }
 
 fn volume_node(&[parent, label]: &[u16; 2]) -> VolumeNode {

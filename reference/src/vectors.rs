@@ -1,7 +1,7 @@
 //! Test vectors: one call each, with its numbers and byte strings. The format
 //! is described in README.md.
 
-use crate::calls::{self, NodeRecord};
+use crate::calls::{self, CountAnswer, NodeRecord};
 
 pub const VERDICT: u32 = 1;
 pub const FITS: u32 = 2;
@@ -9,6 +9,8 @@ pub const IS_RESULT: u32 = 3;
 pub const NODES_AT: u32 = 4;
 pub const PATHS: u32 = 5;
 pub const LAYOUT: u32 = 6;
+pub const UPGRADE: u32 = 7;
+pub const DOWNGRADE: u32 = 8;
 
 /// Lent bytes begin with this; lent table fields with it twice.
 pub const FILLING: u8 = 0xAA;
@@ -61,7 +63,7 @@ impl Vector {
         let case = read_bytes(rest)?;
         let volume = read_bytes(rest)?;
         let list = read_bytes(rest)?;
-        let known = (VERDICT..=LAYOUT).contains(&call) && length <= LENT_MOST;
+        let known = (VERDICT..=DOWNGRADE).contains(&call) && length <= LENT_MOST;
         known.then_some(Vector {
             call,
             limit,
@@ -92,6 +94,8 @@ impl Vector {
                 length,
             ),
             PATHS => calls::paths_refusal(&self.case, self.selection),
+            UPGRADE => calls::upgrade_refusal(&self.case, length),
+            DOWNGRADE => calls::downgrade_refusal(&self.case, length),
             _ => calls::layout_refusal(&self.case, self.selection, &self.list, length),
         }
     }
@@ -144,6 +148,8 @@ impl Vector {
                     got.refused
                 )
             }
+            UPGRADE => self.moved("upgrade", calls::upgrade),
+            DOWNGRADE => self.moved("downgrade", calls::downgrade),
             _ => {
                 let filling = u16::from_le_bytes([FILLING, FILLING]);
                 let record = NodeRecord {
@@ -162,6 +168,13 @@ impl Vector {
                 format!("layout refused {} count {} {seen}", got.refused, got.count)
             }
         }
+    }
+
+    fn moved(&self, name: &str, call: fn(&[u8], &mut [u8]) -> CountAnswer) -> String {
+        let mut answer = vec![FILLING; self.length as usize];
+        let got = call(&self.case, &mut answer);
+        let seen = seen(&answer, answer.len());
+        format!("{name} refused {} count {} {seen}", got.refused, got.count)
     }
 }
 

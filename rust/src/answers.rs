@@ -84,7 +84,7 @@ impl Refusal {
         }
     }
 
-    /// The question's number, 1 to 14.
+    /// The question's number, 1 to 15.
     pub fn number(self) -> u64 {
         self.0
     }
@@ -105,7 +105,8 @@ impl Refusal {
             11 => "the list is not one document node for each position",
             12 => "there is no such pattern or position",
             13 => "the list is not a placement of the pattern",
-            _ => "the set has not 1 to 8 members",
+            14 => "the set has not 1 to 8 members",
+            _ => "the set has more than one member",
         }
     }
 }

@@ -1,4 +1,4 @@
-//! The six calls as the archive exports them: plain numbers in, answers in C's layout out. The only
+//! The eight calls as the archive exports them: plain numbers in, answers in C's layout out. The only
 //! module with unsafe code.
 //!
 //! Why the calls below are sound: the exported functions are proved for any bytes, any numbers and
@@ -100,6 +100,20 @@ mod archive {
             table: *mut NodeRecord,
             table_length: usize,
         ) -> CountAnswer;
+
+        pub fn cadwezin_upgrade(
+            case: *const u8,
+            case_length: usize,
+            answer: *mut u8,
+            answer_length: usize,
+        ) -> CountAnswer;
+
+        pub fn cadwezin_downgrade(
+            case: *const u8,
+            case_length: usize,
+            answer: *mut u8,
+            answer_length: usize,
+        ) -> CountAnswer;
     }
 }
 
@@ -176,5 +190,19 @@ pub fn layout(case: &[u8], number: u64, list: &[u8], table: &mut [NodeRecord]) -
             table.as_mut_ptr(),
             table.len(),
         )
+    }
+}
+
+pub fn upgrade(case: &[u8], answer: &mut [u8]) -> CountAnswer {
+    // SAFETY: as in `verdict`.
+    unsafe {
+        archive::cadwezin_upgrade(case.as_ptr(), case.len(), answer.as_mut_ptr(), answer.len())
+    }
+}
+
+pub fn downgrade(case: &[u8], answer: &mut [u8]) -> CountAnswer {
+    // SAFETY: as in `verdict`.
+    unsafe {
+        archive::cadwezin_downgrade(case.as_ptr(), case.len(), answer.as_mut_ptr(), answer.len())
     }
 }

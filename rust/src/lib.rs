@@ -122,3 +122,18 @@ pub fn layout(
     let got = ffi::layout(case, pattern.number(), list, table);
     Refusal::or(got.refused, || got.count)
 }
+
+/// Moves a case in the old form over: there one second pattern stands in the place of the set. The same
+/// case with a set of one is written to the front of `answer`, and is the answer. [`downgrade`] gives
+/// the old bytes back. Question 2, then 3 to 8 about the old form's two patterns.
+pub fn upgrade<'a>(case: &[u8], answer: &'a mut [u8]) -> Result<&'a [u8], Refusal> {
+    let got = ffi::upgrade(case, answer);
+    Refusal::or(got.refused, || &answer[..got.count as usize])
+}
+
+/// Moves a case back whose set has one member: in the old form it is written to the front of `answer`,
+/// and is the answer. [`upgrade`] gives the case back. Questions 2 to 8, 15.
+pub fn downgrade<'a>(case: &[u8], answer: &'a mut [u8]) -> Result<&'a [u8], Refusal> {
+    let got = ffi::downgrade(case, answer);
+    Refusal::or(got.refused, || &answer[..got.count as usize])
+}

@@ -1,9 +1,9 @@
-//! E1 to E10 of document 01 through the library, sets, and each call's way to refuse.
+//! E1 to E10 of document 01 through the library, sets, the old form, and each call's way to refuse.
 
 use cadwezin::{
-    fits, is_result, layout, nodes_at, nodes_shown, paths, verdict, DocumentNode, NodeRecord,
-    Pattern, PatternNode, Shown, ShownNode, SummaryNode, Tally, Verdict, ANSWER_BYTES, LIMIT_MOST,
-    MEMBERS_MOST, TABLE_RECORDS, TALLY_MOST,
+    downgrade, fits, is_result, layout, nodes_at, nodes_shown, paths, upgrade, verdict,
+    DocumentNode, NodeRecord, Pattern, PatternNode, Shown, ShownNode, SummaryNode, Tally, Verdict,
+    ANSWER_BYTES, LIMIT_MOST, MEMBERS_MOST, TABLE_RECORDS, TALLY_MOST,
 };
 
 const E1: &[u8] = include_bytes!("../../tests/examples/e1.case");
@@ -16,6 +16,26 @@ const E7: &[u8] = include_bytes!("../../tests/examples/e7.case");
 const E8_SAME: &[u8] = include_bytes!("../../tests/examples/e8-same.case");
 const E8_OTHER: &[u8] = include_bytes!("../../tests/examples/e8-other.case");
 const E9: &[u8] = include_bytes!("../../tests/examples/e9.case");
+
+/// E1 to E9 in the old form and with a set of one.
+const FILED: [(&[u8], &[u8]); 10] = [
+    (include_bytes!("../../tests/old/examples/e1.case"), E1),
+    (include_bytes!("../../tests/old/examples/e2.case"), E2),
+    (include_bytes!("../../tests/old/examples/e3.case"), E3),
+    (include_bytes!("../../tests/old/examples/e4.case"), E4),
+    (include_bytes!("../../tests/old/examples/e5.case"), E5),
+    (include_bytes!("../../tests/old/examples/e6.case"), E6),
+    (include_bytes!("../../tests/old/examples/e7.case"), E7),
+    (
+        include_bytes!("../../tests/old/examples/e8-same.case"),
+        E8_SAME,
+    ),
+    (
+        include_bytes!("../../tests/old/examples/e8-other.case"),
+        E8_OTHER,
+    ),
+    (include_bytes!("../../tests/old/examples/e9.case"), E9),
+];
 
 const FILLING: u8 = 0xAA;
 
@@ -207,6 +227,32 @@ fn a_set_has_one_to_eight_members() {
     assert_eq!(refused(count(MEMBERS_MOST + 1)), 14);
 }
 
+#[test]
+fn filed_cases_there_and_back() {
+    for (old, new) in FILED {
+        let mut answer = [FILLING; ANSWER_BYTES];
+        assert_eq!(upgrade(old, &mut answer), Ok(new));
+        assert!(answer[new.len()..].iter().all(|&byte| byte == FILLING));
+        let mut answer = [FILLING; ANSWER_BYTES + 1];
+        assert_eq!(downgrade(new, &mut answer), Ok(old));
+        assert!(answer[old.len()..].iter().all(|&byte| byte == FILLING));
+    }
+}
+
+#[test]
+fn a_set_of_one_alone_goes_back() {
+    let mut answer = [FILLING; ANSWER_BYTES];
+    let mut back = |members: u64| {
+        let case = with_set(&vec![[0, 0, 0, 1]; members as usize]);
+        downgrade(&case, &mut answer).map(<[u8]>::len)
+    };
+    assert_eq!(back(1), Ok(56));
+    assert_eq!(refused(back(0)), 14);
+    assert_eq!(refused(back(2)), 15);
+    assert_eq!(refused(back(MEMBERS_MOST)), 15);
+    assert_eq!(refused(back(MEMBERS_MOST + 1)), 14);
+}
+
 /// The number of a refusal.
 fn refused<T: std::fmt::Debug>(got: Result<T, cadwezin::Refusal>) -> u64 {
     got.expect_err("a refusal").number()
@@ -247,6 +293,13 @@ fn refusals_alter_nothing() {
         refused(layout(E6, Pattern::First, &bytes(&[0, 1]), &mut table[1..])),
         2
     );
+    let (old, _) = FILED[5];
+    assert_eq!(refused(upgrade(old, short)), 2);
+    assert_eq!(refused(upgrade(E6, &mut answer)), 3);
+    assert_eq!(refused(downgrade(E6, short)), 2);
+    assert_eq!(refused(downgrade(old, &mut answer)), 3);
+    let two = with_set(&[[0, 0, 0, 1]; 2]);
+    assert_eq!(refused(downgrade(&two, &mut answer)), 15);
     assert_eq!(tally.count, TALLY_MOST);
     assert!(answer
         .iter()
@@ -264,5 +317,12 @@ fn a_refusal_says_what_is_wrong() {
     assert_eq!(
         refusal.to_string(),
         "refused 14: the set has not 1 to 8 members"
+    );
+    let two = with_set(&[[0, 0, 0, 1]; 2]);
+    let mut answer = [0; ANSWER_BYTES];
+    let refusal = downgrade(&two, &mut answer).expect_err("a refusal");
+    assert_eq!(
+        refusal.to_string(),
+        "refused 15: the set has more than one member"
     );
 }

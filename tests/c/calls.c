@@ -1,5 +1,5 @@
-/* The six calls from C, by include/cadwezin.h: E6 and E10 of document 01, a set of two, empty slices with a null pointer, and refusals,
- * which alter nothing. Prints how many answers were as they should be. */
+/* The eight calls from C, by include/cadwezin.h: E6 and E10 of document 01, a set of two, E6 out of the old form and back, empty slices
+ * with a null pointer, and refusals, which alter nothing. Prints how many answers were as they should be. */
 #include "cadwezin.h"
 #include <stdio.h>
 #include <stdlib.h>
@@ -15,6 +15,7 @@
 #define BELOW 2, 0, 0, 0, 1, 0, 0, 0, 0, 0, 0, 0, 3, 0, 1, 0, 1, 0
 static const uint8_t e6[] = {SUMMARY, FIRST, 1, 0, CHILD};
 static const uint8_t two[] = {SUMMARY, FIRST, 2, 0, CHILD, BELOW};
+static const uint8_t old[] = {SUMMARY, FIRST, CHILD};
 static const uint8_t none[] = {SUMMARY, FIRST, 0, 0};
 static const uint8_t document[] = {3, 0, 0, 0, 1, 0, 0, 0, 2, 0, 1, 0, 3, 0};
 static const uint8_t node_2[] = {2, 0};
@@ -117,6 +118,31 @@ static void sets(void) {
   hold(untouched(0, 0, 9), "what the calls about sets leave alone");
 }
 
+/* One call of the two that move a case: what it answers, and what it writes or leaves alone. */
+static void moved(struct cadwezin_count_answer got, uint64_t refused, const uint8_t *wanted, size_t length, const char *what) {
+  hold(got.refused == refused && got.count == length, what);
+  hold(length == 0 || memcmp(answer, wanted, length) == 0, "the case that is moved");
+  hold(untouched(length, 0, 7), "what moving a case leaves alone");
+  fill();
+}
+
+/* An old case becomes a set of one and goes back; neither call takes what the other does, and only a set of one goes back. */
+static void moves(void) {
+  const size_t short_by_one = CADWEZIN_ANSWER_BYTES - 1;
+  fill();
+  moved(cadwezin_upgrade(old, sizeof old, answer, sizeof answer), 0, e6, sizeof e6, "an old case");
+  moved(cadwezin_upgrade(old, sizeof old, answer, CADWEZIN_ANSWER_BYTES), 0, e6, sizeof e6, "an old case and the least buffer");
+  moved(cadwezin_downgrade(e6, sizeof e6, answer, sizeof answer), 0, old, sizeof old, "a set of one");
+  moved(cadwezin_downgrade(e6, sizeof e6, answer, CADWEZIN_ANSWER_BYTES), 0, old, sizeof old, "a set of one and the least buffer");
+  moved(cadwezin_upgrade(old, sizeof old, answer, short_by_one), 2, NULL, 0, "an old case and too short a buffer");
+  moved(cadwezin_downgrade(e6, sizeof e6, answer, short_by_one), 2, NULL, 0, "a set of one and too short a buffer");
+  moved(cadwezin_upgrade(e6, sizeof e6, answer, sizeof answer), 3, NULL, 0, "no old case");
+  moved(cadwezin_downgrade(old, sizeof old, answer, sizeof answer), 3, NULL, 0, "an old case that would go back");
+  moved(cadwezin_downgrade(two, sizeof two, answer, sizeof answer), 15, NULL, 0, "a set of two");
+  moved(cadwezin_downgrade(none, sizeof none, answer, sizeof answer), 14, NULL, 0, "a set of none that would go back");
+  moved(cadwezin_upgrade(none, sizeof none, answer, sizeof answer), 4, NULL, 0, "an old case with an empty pattern");
+}
+
 /* Each call with empty slices that have no address, then with only its last slice so. */
 static void empty(void) {
   fill();
@@ -140,6 +166,14 @@ static void empty(void) {
   hold(count.refused == 2 && count.count == 0, "a layout of nothing");
   count = cadwezin_layout(e6, sizeof e6, 1, NULL, 0, table, COUNT(table));
   hold(count.refused == 13 && count.count == 0, "a layout of no placement");
+  count = cadwezin_upgrade(NULL, 0, NULL, 0);
+  hold(count.refused == 2 && count.count == 0, "nothing, without a buffer");
+  count = cadwezin_upgrade(NULL, 0, answer, sizeof answer);
+  hold(count.refused == 3 && count.count == 0, "nothing in the old form");
+  count = cadwezin_downgrade(e6, sizeof e6, NULL, 0);
+  hold(count.refused == 2 && count.count == 0, "a set of one without a buffer");
+  count = cadwezin_downgrade(NULL, 0, answer, sizeof answer);
+  hold(count.refused == 3 && count.count == 0, "nothing to go back");
   const struct cadwezin_paths_answer paths = cadwezin_paths(NULL, 0, 1);
   hold(paths.refused == 3, "paths of nothing");
   for (size_t i = 0; i < CADWEZIN_PATTERN_NODES_MOST; i++) {
@@ -151,6 +185,7 @@ static void empty(void) {
 int main(void) {
   accepted();
   sets();
+  moves();
   empty();
   printf("calls: %u answers from C as they should be\n", held);
   return 0;

@@ -1,4 +1,4 @@
-/* The stack that each of the six calls takes. Each call has a stack of its own, painted beforehand, on which it runs with the heaviest
+/* The stack that each of the eight calls takes. Each call has a stack of its own, painted beforehand, on which it runs with the heaviest
  * inputs there are and with every refusal; the lowest byte that has lost its paint tells how far down it went. Each answer is held to
  * what it should be, so that the heavy ways are really taken. Prints a line, and fails above what include/cadwezin.h promises. */
 #define _XOPEN_SOURCE 700
@@ -13,8 +13,8 @@
 #define PAINT 0xC5
 #define SHOWN_MOST 946
 
-enum call { VERDICT, FITS, RESULT, NODES, PATHS, LAYOUT, CALLS };
-static const char *const names[CALLS] = {"verdict", "fits", "result", "nodes", "paths", "layout"};
+enum call { VERDICT, FITS, RESULT, NODES, PATHS, LAYOUT, UPGRADE, DOWNGRADE, CALLS };
+static const char *const names[CALLS] = {"verdict", "fits", "result", "nodes", "paths", "layout", "upgrade", "downgrade"};
 
 /* Bytes in the making. */
 struct bytes {
@@ -59,6 +59,12 @@ static void make_call(void) {
   } else if (asked.call == PATHS) {
     paths = cadwezin_paths(given, length, asked.number);
     asked.refused = paths.refused, asked.value = paths.counts[15];
+  } else if (asked.call == UPGRADE) {
+    const struct cadwezin_count_answer got = cadwezin_upgrade(given, length, answer, asked.answer_length);
+    asked.refused = got.refused, asked.value = got.count;
+  } else if (asked.call == DOWNGRADE) {
+    const struct cadwezin_count_answer got = cadwezin_downgrade(given, length, answer, asked.answer_length);
+    asked.refused = got.refused, asked.value = got.count;
   } else {
     const struct cadwezin_count_answer got =
         cadwezin_layout(given, length, asked.number, list, list_length, table, asked.table_length);
@@ -251,6 +257,27 @@ static void documents(void) {
   }
 }
 
+/* What the call takes in the place of the set: the old form has a second pattern alone, and one member goes back to it. */
+static void put_set_for(enum call call) {
+  if (call == UPGRADE) {
+    put_pattern(0, 0);
+  } else {
+    put_set(call == DOWNGRADE ? 1 : CADWEZIN_MEMBERS_MOST, 0, 0);
+  }
+}
+
+/* The largest case there is, out of the old form and back. */
+static void moved(void) {
+  static const uint64_t old_length = 2 + 64 * 6 + 2 * (2 + 16 * 8);
+  ask_whole();
+  for (enum call call = UPGRADE; call <= DOWNGRADE; call++) {
+    put_line(0);
+    put_pattern(0, 0);
+    put_set_for(call);
+    expect(call, 0, call == UPGRADE ? old_length + 2 : old_length, "64, 16 and 16 nodes");
+  }
+}
+
 /* Alters what is asked so that this question is the first one answered no. */
 static void break_question(unsigned question) {
   uint8_t *second_node = asked.given.at + 2 + 2 * 6, *pattern_root = asked.given.at + 2 + 64 * 6 + 2;
@@ -267,7 +294,12 @@ static void break_question(unsigned question) {
   case 9: asked.tally = CADWEZIN_TALLY_MOST; break;
   case 10: asked.document.length--; break;
   case 12: asked.number = 2 + CADWEZIN_MEMBERS_MOST; break;
-  case 14: pattern_root[16 * 8]++, put_pattern(0, 0); break;
+  case 14:
+    for (; pattern_root[16 * 8] <= CADWEZIN_MEMBERS_MOST; pattern_root[16 * 8]++) {
+      put_pattern(0, 0);
+    }
+    break;
+  case 15: pattern_root[16 * 8]++, put_pattern(0, 0); break;
   default: asked.list.length -= 2;
   }
 }
@@ -276,13 +308,14 @@ static void break_question(unsigned question) {
 static void refusals(void) {
   static const unsigned questions[CALLS][11] = {
       {1, 2, 3, 4, 14, 5, 6, 7, 8, 9},   {3, 4, 14, 5, 6, 7, 8, 10}, {3, 4, 14, 5, 6, 7, 8, 10, 12, 11},
-      {2, 3, 4, 14, 5, 6, 7, 8, 10, 12}, {3, 4, 14, 5, 6, 7, 8, 12}, {2, 3, 4, 14, 5, 6, 7, 8, 12, 13}};
+      {2, 3, 4, 14, 5, 6, 7, 8, 10, 12}, {3, 4, 14, 5, 6, 7, 8, 12}, {2, 3, 4, 14, 5, 6, 7, 8, 12, 13},
+      {2, 3, 4, 5, 6, 7, 8},             {2, 3, 4, 14, 5, 6, 7, 8, 15}};
   for (enum call call = 0; call < CALLS; call++) {
     for (const unsigned *question = questions[call]; *question != 0; question++) {
       ask_whole();
       put_line(0);
       put_pattern(0, 0);
-      put_set(CADWEZIN_MEMBERS_MOST, 0, 0);
+      put_set_for(call);
       put_document(63);
       put_list(call == LAYOUT ? 16 : 8, 0, 1);
       break_question(*question);
@@ -307,6 +340,7 @@ int main(void) {
   shown(1, 1);
   stepped();
   documents();
+  moved();
   refusals();
   printf("stack: %u answers;", held);
   for (enum call call = 0; call < CALLS; call++) {

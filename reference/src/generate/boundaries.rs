@@ -1,8 +1,8 @@
-//! Every boundary of every question, through all six calls.
+//! Every boundary of every question, through all eight calls.
 
 use super::changes::{changes, lone_changes, long_changes, Change};
 use super::layouts::layouts;
-use super::plan::{put_section, questions, OutlineRow, Plan, SelectionRow, CALLS};
+use super::plan::{questions, OutlineRow, Plan, SelectionRow, CALLS, MOVES};
 use crate::records::{read_case, SET_SELECTIONS};
 use crate::trials::each_placement;
 use crate::vectors::{Vector, FITS, IS_RESULT, LAYOUT, NODES_AT};
@@ -47,10 +47,11 @@ pub fn stored() -> Vec<Vector> {
     out
 }
 
-/// Every plan as it is, about each of its selections and in the old form.
+/// Every plan as it is, about each of its selections, and in the form that the
+/// call does not take. One that is moved comes with the whole of its set too.
 fn unbroken(call: u32) -> Vec<Vector> {
     let mut out = Vec::new();
-    for plan in [
+    for whole in [
         rich(),
         alone(),
         example(),
@@ -61,9 +62,14 @@ fn unbroken(call: u32) -> Vec<Vector> {
         in_turn(),
         old_and_whole(),
     ] {
-        let plan = plan.for_call(call);
-        out.extend((1..=plan.last_selection()).map(|number| about(&plan, number)));
-        out.push(old_form(&plan));
+        let plan = whole.for_call(call);
+        if MOVES.contains(&call) {
+            out.push(plan.vector());
+            out.push(whole.given_to(call).vector());
+        } else {
+            out.extend((1..=plan.last_selection()).map(|number| about(&plan, number)));
+        }
+        out.push(other_form(&whole.given_to(call)));
     }
     out
 }
@@ -85,17 +91,17 @@ fn about(plan: &Plan, selection: u64) -> Vector {
     plan.vector()
 }
 
-/// The case as it was written before there were sets: the set's only member
-/// follows the first selection with no count between.
-fn old_form(plan: &Plan) -> Vector {
-    let mut case = Vec::new();
-    put_section(&mut case, &plan.outline, 0);
-    put_section(&mut case, &plan.first, 0);
-    put_section(&mut case, &plan.set[0], 0);
-    Vector {
-        case,
-        ..plan.vector()
+/// A case with a set in the old form, with the first member alone; an old case
+/// as it is today, with all members.
+fn other_form(plan: &Plan) -> Vector {
+    let mut other = Plan {
+        old: !plan.old,
+        ..plan.clone()
+    };
+    if other.old {
+        other.set.truncate(1);
     }
+    other.vector()
 }
 
 fn singly(call: u32, plan: &Plan, changes: &[Change]) -> Vec<Vector> {
@@ -144,7 +150,7 @@ fn long_pairs(call: u32, small: &[Change], long: &[Change]) -> Vec<Vector> {
             .iter()
             .find(|c| c.question == question && c.concerns(call));
         if let Some(other) = other {
-            for long in &long[..4] {
+            for long in long[..4].iter().filter(|c| c.concerns(call)) {
                 out.push(changed(&rich(), call, &[other, long]));
             }
         }
@@ -414,6 +420,7 @@ fn chain(label: fn(u16) -> u16) -> Vec<OutlineRow> {
 #[cfg(test)]
 mod tests {
     use super::*;
+    use crate::vectors::{DOWNGRADE, UPGRADE};
 
     #[test]
     fn plans_are_accepted() {
@@ -440,11 +447,29 @@ mod tests {
 
     #[test]
     fn the_old_form_is_not_taken() {
-        for call in CALLS {
+        for call in CALLS.into_iter().filter(|&call| call != UPGRADE) {
             for plan in [rich(), example(), least(), most(), no_placement()] {
-                assert_eq!(old_form(&plan.for_call(call)).refusal(), 3);
+                assert_eq!(other_form(&plan.given_to(call)).refusal(), 3);
             }
-            assert_eq!(old_form(&old_and_whole().for_call(call)).refusal(), 4);
+            assert_eq!(other_form(&old_and_whole().given_to(call)).refusal(), 4);
+        }
+    }
+
+    #[test]
+    fn todays_form_is_not_moved_over() {
+        for plan in [rich(), alone(), example(), most(), old_and_whole()] {
+            assert_eq!(other_form(&plan.given_to(UPGRADE)).refusal(), 3);
+        }
+    }
+
+    #[test]
+    fn a_set_of_one_alone_is_moved_back() {
+        for plan in [rich(), alone(), example(), least(), most(), crossed()] {
+            for (count, refused) in [(0, 14), (1, 0), (2, 15), (8, 15), (9, 14)] {
+                let mut plan = plan.given_to(DOWNGRADE);
+                plan.resize_set(count);
+                assert_eq!(plan.vector().refusal(), refused);
+            }
         }
     }
 
@@ -454,9 +479,14 @@ mod tests {
         for call in CALLS {
             for change in all.iter().flatten().filter(|c| c.concerns(call)) {
                 for plan in [rich(), alone()] {
-                    let refused = changed(&plan, call, &[change]).refusal();
-                    // A change meant to be accepted may leave no placement.
-                    if change.question != 0 || ![IS_RESULT, LAYOUT].contains(&call) {
+                    let mut plan = plan.for_call(call);
+                    (change.apply)(&mut plan);
+                    let refused = plan.vector().refusal();
+                    // A change meant to be accepted may leave no placement, or
+                    // more members than are moved back.
+                    if call == DOWNGRADE && change.question == 0 && plan.set.len() > 1 {
+                        assert_eq!(refused, 15);
+                    } else if change.question != 0 || ![IS_RESULT, LAYOUT].contains(&call) {
                         assert_eq!(refused, change.question, "call {call}");
                     }
                 }

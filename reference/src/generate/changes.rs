@@ -3,40 +3,59 @@
 
 use super::plan::{least_length, questions, Plan, SelectionRow};
 use crate::records::{CASE_BYTES, OUTLINE_NODES, SELECTION_NODES, SET_SELECTIONS, VOLUME_NODES};
-use crate::vectors::{IS_RESULT, LAYOUT, NODES_AT};
+use crate::vectors::{IS_RESULT, LAYOUT, NODES_AT, UPGRADE};
 
 const TALLY_MOST: u64 = 1_000_000_000_000;
 
-/// `question` is the one that the change breaks, 0 where it breaks none; some
-/// concern one call only. A change that does not find what it would alter
-/// leaves the plan alone.
+/// `question` is the one that the change breaks, 0 where it breaks none. A
+/// change that does not find what it would alter leaves the plan alone.
 pub struct Change {
     pub question: u64,
-    only: Option<u32>,
+    calls: Calls,
     pub apply: Box<dyn Fn(&mut Plan)>,
+}
+
+/// The calls that a change is for, of those that ask its question.
+#[derive(Clone, Copy)]
+enum Calls {
+    All,
+    /// Those on cases with a set: all but `upgrade`, which takes the old form.
+    WithSet,
+    Only(u32),
 }
 
 impl Change {
     /// Whether the call asks the question, or takes what is altered.
     pub fn concerns(&self, call: u32) -> bool {
         let asked = self.question == 0 || questions(call).contains(&self.question);
-        asked && self.only.is_none_or(|only| only == call)
+        let meant = match self.calls {
+            Calls::All => true,
+            Calls::WithSet => call != UPGRADE,
+            Calls::Only(only) => only == call,
+        };
+        asked && meant
+    }
+
+    fn with_set(self) -> Change {
+        Change {
+            calls: Calls::WithSet,
+            ..self
+        }
     }
 }
 
 fn change(question: u64, apply: impl Fn(&mut Plan) + 'static) -> Change {
     Change {
         question,
-        only: None,
+        calls: Calls::All,
         apply: Box::new(apply),
     }
 }
 
 fn change_of(call: u32, question: u64, apply: impl Fn(&mut Plan) + 'static) -> Change {
     Change {
-        question,
-        only: Some(call),
-        apply: Box::new(apply),
+        calls: Calls::Only(call),
+        ..change(question, apply)
     }
 }
 
@@ -68,7 +87,8 @@ pub fn changes() -> Vec<Change> {
     let mut all = numbers();
     all.extend(case_bytes());
     all.extend(counts());
-    all.extend(sets());
+    all.extend(sets().into_iter().map(Change::with_set));
+    all.extend(old_sections());
     all.extend(outline_records());
     for which in [FIRST, LAST] {
         all.extend(selection_counts(which));
@@ -88,6 +108,8 @@ pub fn lone_changes() -> Vec<Change> {
     all.extend(selection_counts(MIDDLE));
     all.extend(selection_records(MIDDLE));
     all.extend(positions(MIDDLE));
+    let mut all: Vec<Change> = all.into_iter().map(Change::with_set).collect();
+    all.push(change(2, |plan| plan.length = 1));
     all
 }
 
@@ -159,7 +181,17 @@ fn case_bytes() -> Vec<Change> {
         change(3, |plan| announce_last(plan, u16::MAX)),
         change(3, |plan| plan.excess.outline = 40_000),
         change(3, |plan| plan.excess.first = 40_000),
-        change(3, |plan| plan.excess.set = 1),
+        change(3, |plan| plan.excess.set = 1).with_set(),
+    ]
+}
+
+/// Question 3 in the old form, which has a second selection and nothing after.
+fn old_sections() -> Vec<Change> {
+    vec![
+        change_of(UPGRADE, 3, |plan| plan.set.clear()),
+        change_of(UPGRADE, 3, |plan| plan.resize_set(2)),
+        change_of(UPGRADE, 3, |plan| plan.set.push(vec![])),
+        change_of(UPGRADE, 3, |plan| plan.old = false),
     ]
 }
 
@@ -181,21 +213,34 @@ pub fn long_changes() -> Vec<Change> {
         // Whole but two bytes too long.
         change(3, |plan| long_case(plan, 2, 8_190)),
         // As many empty members as there is room for.
-        change(4, |plan| fill_set(plan, 2, &[])),
+        change(4, |plan| fill_set(plan, 2, &[])).with_set(),
         change(3, |plan| {
             fill_set(plan, 2, &[]);
             plan.set.push(vec![]);
-        }),
+        })
+        .with_set(),
         change(3, |plan| {
             fill_set(plan, 2, &[]);
             plan.excess.set = 1;
-        }),
+        })
+        .with_set(),
         // As many members of one node; a low byte of 1 is not a set of one.
         change(14, |plan| fill_set(plan, 10, &[[0, 0, 0, 1]])),
         change(14, |plan| plan.set = vec![vec![[0, 0, 0, 1]]; 257]),
         change(3, |plan| fill_case(plan, CASE_BYTES)),
         change(3, |plan| fill_case(plan, CASE_BYTES + 1)),
+        // The second selection is the long one.
+        change_of(UPGRADE, 4, long_second),
+        change_of(UPGRADE, 3, |plan| {
+            long_second(plan);
+            plan.case_ending.after = vec![0];
+        }),
     ]
+}
+
+fn long_second(plan: &mut Plan) {
+    long_case(plan, 3, 0);
+    plan.set = vec![vec![[0, 0, 0, 0]; 8_189]];
 }
 
 /// Members all alike, of so many bytes each, as far as 65,536 bytes go.
@@ -207,7 +252,16 @@ fn fill_set(plan: &mut Plan, bytes: usize, member: &[SelectionRow]) {
 fn long_case(plan: &mut Plan, outline: usize, first: usize) {
     plan.outline.resize(outline, [0, 77, 0]);
     plan.first.resize(first, [0, 0, 0, 0]);
+    end_in_0(plan);
+}
+
+/// The count 0 is the last: the set's or, in the old form, the second
+/// selection's.
+fn end_in_0(plan: &mut Plan) {
     plan.set.clear();
+    if plan.old {
+        plan.set.push(vec![]);
+    }
 }
 
 /// The case as it is, with zeros after it up to a length.
@@ -225,7 +279,7 @@ fn counts() -> Vec<Change> {
         change(4, |plan| {
             plan.outline.clear();
             plan.first.clear();
-            plan.set.clear();
+            end_in_0(plan);
         }),
         change(0, |plan| grow_outline(plan, OUTLINE_NODES)),
     ]
@@ -242,11 +296,14 @@ fn selection_counts(which: usize) -> Vec<Change> {
     ]
 }
 
-/// Question 14, and the questions 3 and 4 that come before it.
+/// Questions 14 and 15, and the questions 3 and 4 that come before 14.
 fn sets() -> Vec<Change> {
     vec![
         change(14, |plan| plan.set.clear()),
         change(14, |plan| plan.resize_set(SET_SELECTIONS + 1)),
+        change(15, |plan| plan.resize_set(2)),
+        change(15, |plan| plan.set.push(plan.first.clone())),
+        change(15, |plan| plan.resize_set(SET_SELECTIONS)),
         change(4, |plan| {
             plan.resize_set(SET_SELECTIONS);
             plan.set.push(vec![]);

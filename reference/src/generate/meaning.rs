@@ -3,12 +3,14 @@
 
 use super::plan::{put_fields, put_section, Plan, Set};
 use super::prng::Prng;
-use super::random::{around_embedding, result, selections};
+use super::random::{around_embedding, random, result, selections};
 use super::sets::rearrange;
 use super::trees;
 use crate::calls::{INCLUDED, NOT_INCLUDED, STOPPED};
+use crate::old::read_old_case;
 use crate::records::{holder, read_case};
 use crate::trials::{each_placement, lay_out};
+use crate::vectors::UPGRADE;
 use crate::*;
 
 fn volume_bytes(rows: &[[u16; 2]]) -> Vec<u8> {
@@ -193,6 +195,59 @@ fn with_one_position_the_nodes_are_the_results() {
         assert_eq!(&answer[..wanted.len()], wanted);
         assert!(answer[wanted.len()..].iter().all(|&byte| byte == 0xAA));
         seen += 1;
+    }
+    assert!(seen > 100);
+}
+
+/// What a call that moves a case writes, or its refusal.
+fn moved(call: fn(&[u8], &mut [u8]) -> CountAnswer, case: &[u8]) -> Result<Vec<u8>, u64> {
+    let mut answer = [0xAA; 4_096];
+    let got = call(case, &mut answer);
+    let (written, rest) = answer.split_at(got.count as usize);
+    assert!(rest.iter().all(|&byte| byte == 0xAA));
+    match got.refused {
+        0 => Ok(written.to_vec()),
+        refused => Err(refused),
+    }
+}
+
+/// "Old to new to old gives the same bytes, and so does the other way round, for
+/// every accepted case": vectors of both calls, many of them damaged.
+#[test]
+fn there_and_back_gives_the_same_bytes() {
+    let (mut over, mut back) = (0, 0);
+    for vector in random(16, 8_000) {
+        let case = vector.case;
+        if let Ok(new) = moved(upgrade, &case) {
+            assert_eq!(moved(downgrade, &new), Ok(case.clone()));
+            assert_eq!(new.len(), case.len() + 2);
+            let read = read_old_case(&case).map(|old| old.with_set_of_one());
+            assert_eq!(read_case(&new), read);
+            over += 1;
+        }
+        if let Ok(old) = moved(downgrade, &case) {
+            assert_eq!(moved(upgrade, &old), Ok(case.clone()));
+            assert_eq!(moved(upgrade, &case), Err(3));
+            back += 1;
+        }
+    }
+    assert!(over > 500 && back > 500, "{over} over, {back} back");
+}
+
+/// "A set of one gives the old verdicts": document 01's verdict asks one second
+/// selection.
+#[test]
+fn an_old_case_moved_over_is_judged_by_its_second_selection() {
+    let mut prng = Prng::new(17);
+    let mut seen = 0;
+    for _ in 0..300 {
+        let mut plan = selections(&mut prng).for_call(UPGRADE);
+        let new = moved(upgrade, &plan.case_bytes()).expect("the plan is accepted");
+        plan.old = false;
+        assert_eq!(new, plan.case_bytes());
+        let got = verdict(&new, 100, &mut 0, &mut [0; 4_096]);
+        assert_eq!((got.kind, got.tried), worked_out(&plan, 100));
+        seen += u32::from(got.tried > 0);
     }
     assert!(seen > 100);
 }

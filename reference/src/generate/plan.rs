@@ -1,9 +1,15 @@
 //! A call being built: rows of numbers that still can be spoilt, and how they
 //! become a vector.
 
-use crate::vectors::{Vector, FITS, IS_RESULT, LAYOUT, NODES_AT, PATHS, VERDICT};
+use crate::vectors::{
+    Vector, DOWNGRADE, FITS, IS_RESULT, LAYOUT, NODES_AT, PATHS, UPGRADE, VERDICT,
+};
 
-pub const CALLS: [u32; 6] = [VERDICT, FITS, IS_RESULT, NODES_AT, PATHS, LAYOUT];
+pub const CALLS: [u32; 8] = [
+    VERDICT, FITS, IS_RESULT, NODES_AT, PATHS, LAYOUT, UPGRADE, DOWNGRADE,
+];
+/// Those that move a case from one form to the other.
+pub const MOVES: [u32; 2] = [UPGRADE, DOWNGRADE];
 
 pub type OutlineRow = [u16; 3];
 pub type SelectionRow = [u16; 4];
@@ -18,6 +24,8 @@ pub fn questions(call: u32) -> &'static [u64] {
         IS_RESULT => &[3, 4, 14, 5, 6, 7, 8, 10, 12, 11],
         NODES_AT => &[2, 3, 4, 14, 5, 6, 7, 8, 10, 12],
         PATHS => &[3, 4, 14, 5, 6, 7, 8, 12],
+        UPGRADE => &[2, 3, 4, 5, 6, 7, 8],
+        DOWNGRADE => &[2, 3, 4, 14, 5, 6, 7, 8, 15],
         _ => &[2, 3, 4, 14, 5, 6, 7, 8, 12, 13],
     }
 }
@@ -25,11 +33,14 @@ pub fn questions(call: u32) -> &'static [u64] {
 /// The least length of the lent buffer or table, 0 where nothing is lent.
 pub fn least_length(call: u32) -> u64 {
     match call {
-        VERDICT | NODES_AT => 4_096,
+        VERDICT | NODES_AT | UPGRADE | DOWNGRADE => 4_096,
         LAYOUT => 1_024,
         _ => 0,
     }
 }
+
+/// The calls that are lent a buffer or a table.
+const LENDING: [u32; 5] = [VERDICT, NODES_AT, LAYOUT, UPGRADE, DOWNGRADE];
 
 /// What becomes of bytes after they are written: some are cut off the end,
 /// then others follow.
@@ -71,6 +82,9 @@ pub struct Plan {
     pub outline: Vec<OutlineRow>,
     pub first: Vec<SelectionRow>,
     pub set: Set,
+    /// Whether the case is written in the old form, in which the set has no
+    /// count: its only member is the second selection.
+    pub old: bool,
     pub volume: Vec<VolumeRow>,
     pub result: Vec<u16>,
     pub placement: Vec<u16>,
@@ -85,7 +99,9 @@ impl Plan {
         let mut out = Vec::new();
         put_section(&mut out, &self.outline, self.excess.outline);
         put_section(&mut out, &self.first, self.excess.first);
-        put_count(&mut out, self.set.len(), self.excess.set);
+        if !self.old {
+            put_count(&mut out, self.set.len(), self.excess.set);
+        }
         if let Some((last, others)) = self.set.split_last() {
             for member in others {
                 put_section(&mut out, member, 0);
@@ -159,20 +175,31 @@ impl Plan {
             tally: given(&[VERDICT], self.tally),
             selection: given(&[IS_RESULT, NODES_AT, PATHS, LAYOUT], self.selection),
             position: given(&[NODES_AT], self.position),
-            length: given(&[VERDICT, NODES_AT, LAYOUT], self.length),
+            length: given(&LENDING, self.length),
             case: self.case_bytes(),
             volume: bytes(&[FITS, IS_RESULT, NODES_AT], self.volume_bytes()),
             list: bytes(&[IS_RESULT, LAYOUT], self.list_bytes()),
         }
     }
 
-    /// The same plan for another call, with a buffer or table just long enough.
-    pub fn for_call(&self, call: u32) -> Plan {
+    /// The same plan for another call, with a buffer or table just long enough
+    /// and the case in the form that the call takes.
+    pub fn given_to(&self, call: u32) -> Plan {
         Plan {
             call,
             length: least_length(call),
+            old: call == UPGRADE,
             ..self.clone()
         }
+    }
+
+    /// The same so that the call accepts it: a case that is moved has one member.
+    pub fn for_call(&self, call: u32) -> Plan {
+        let mut plan = self.given_to(call);
+        if MOVES.contains(&call) {
+            plan.set.truncate(1);
+        }
+        plan
     }
 }
 

@@ -1,11 +1,11 @@
 //! Random calls, accepted and nearly accepted.
 
 use super::changes::{changes, Change};
-use super::plan::{least_length, OutlineRow, Plan, SelectionRow, VolumeRow, CALLS};
+use super::plan::{OutlineRow, Plan, SelectionRow, VolumeRow, CALLS};
 use super::prng::Prng;
 use super::sets;
 use super::trees::{self, Freedom};
-use crate::vectors::{Vector, LAYOUT, VERDICT};
+use crate::vectors::{Vector, DOWNGRADE, LAYOUT, VERDICT};
 
 /// Verdicts that would take more trials than this get a limit below it, so
 /// that thousands of vectors take seconds.
@@ -19,9 +19,9 @@ pub fn random(seed: u64, count: usize) -> Vec<Vector> {
 
 fn one(prng: &mut Prng, changes: &[Change]) -> Vector {
     let call = CALLS[prng.below(CALLS.len())];
-    let mut plan = selections(prng);
-    plan.call = call;
-    plan.length = least_length(call) + [0, 0, 1, 904][prng.below(4)];
+    let mut plan = selections(prng).given_to(call);
+    plan.length += [0, 0, 1, 904][prng.below(4)];
+    take_form(prng, &mut plan);
     plan.selection = prng.between(1, plan.last_selection() as usize) as u64;
     plan.position = prng.between(1, plan.positions() as usize) as u64;
     plan.volume = volume(prng, &plan);
@@ -47,6 +47,15 @@ fn one(prng: &mut Prng, changes: &[Change]) -> Vector {
         spoil_bytes(prng, &mut vector);
     }
     vector
+}
+
+/// Mostly one member where the case is moved, and now and then the form that is
+/// not taken.
+fn take_form(prng: &mut Prng, plan: &mut Plan) {
+    plan.old ^= prng.percent(3);
+    if plan.old || plan.call == DOWNGRADE && prng.percent(60) {
+        plan.set.truncate(1);
+    }
 }
 
 /// An outline, a first selection and a set, all with the same positions.

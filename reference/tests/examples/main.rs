@@ -1,6 +1,7 @@
 //! E1 to E10 with sets of one, the misreadings to catch, and the readings where
-//! two differ; those about sets are in `sets`.
+//! two differ; those about sets are in `sets`, those about the old form in `moving`.
 
+mod moving;
 mod notation;
 mod sets;
 

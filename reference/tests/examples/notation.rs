@@ -93,6 +93,15 @@ pub fn set_case(outline: &str, first: &str, set: &[&str]) -> Vec<u8> {
     out
 }
 
+/// The same in the old form: the second selection follows the first.
+pub fn old_case(outline: &str, first: &str, second: &str) -> Vec<u8> {
+    let mut out = Vec::new();
+    put_section(&mut out, outline, 3);
+    put_section(&mut out, first, 4);
+    put_section(&mut out, second, 4);
+    out
+}
+
 pub fn volume(text: &str) -> Vec<u8> {
     let mut out = Vec::new();
     put_section(&mut out, text, 2);

@@ -1,14 +1,16 @@
 //! One call of the library and one of the reference, held to each other whole: the answer, the tally,
 //! and the lent buffer or table with what stands around it. A refusal also has zero in every other
-//! field and leaves everything as it was.
+//! field and leaves everything as it was. A case that is moved is also moved back.
 
 use crate::lent::{Lent, Loans};
-use cadwezin::{ffi, NodeRecord, Tally};
-use reference::vectors::{Vector, FITS, IS_RESULT, NODES_AT, PATHS, VERDICT};
+use cadwezin::{ffi, NodeRecord, Tally, ANSWER_BYTES};
+use reference::vectors::{
+    fnv1a, Vector, DOWNGRADE, FITS, IS_RESULT, NODES_AT, PATHS, UPGRADE, VERDICT,
+};
 use reference::NodeRecord as ReferenceRecord;
 
 /// What a call answered, as far as it is counted: for a verdict its kind, for a test whether it holds,
-/// and how many trials, nodes or paths there were.
+/// and how many trials, nodes, paths or bytes there were.
 #[derive(Clone, Copy, Debug, PartialEq, Eq)]
 pub struct Answered {
     pub refused: u64,
@@ -26,6 +28,17 @@ pub fn compare(vector: &Vector, loans: &mut Loans) -> Result<Answered, Differenc
         IS_RESULT => is_result(vector),
         NODES_AT => nodes_at(vector, loans),
         PATHS => paths(vector),
+        UPGRADE => {
+            let answered = moved(vector, loans, ffi::upgrade, reference::upgrade)?;
+            returns(vector, loans, answered, ffi::downgrade)?;
+            judged_alike(vector, loans, answered)?;
+            Ok(answered)
+        }
+        DOWNGRADE => {
+            let answered = moved(vector, loans, ffi::downgrade, reference::downgrade)?;
+            returns(vector, loans, answered, ffi::upgrade)?;
+            Ok(answered)
+        }
         _ => layout(vector, loans),
     }
 }
@@ -136,6 +149,61 @@ fn layout(vector: &Vector, loans: &mut Loans) -> Result<Answered, Difference> {
     rest("the table", &loans.records, count)?;
     rest("the reference's table", &loans.reference_records, count)?;
     Ok(answered)
+}
+
+type Move<A> = fn(&[u8], &mut [u8]) -> A;
+
+fn moved(
+    vector: &Vector,
+    loans: &mut Loans,
+    ours: Move<ffi::CountAnswer>,
+    theirs: Move<reference::CountAnswer>,
+) -> Result<Answered, Difference> {
+    let length = vector.length as usize;
+    let ours = ours(&vector.case, loans.bytes.lend(length));
+    let theirs = theirs(&vector.case, loans.reference_bytes.lend(length));
+    let answered = counted(ours, theirs)?;
+    buffers(loans, ours.count as usize)?;
+    Ok(answered)
+}
+
+/// "Old to new to old gives the same bytes, and so does the other way round, for every accepted case":
+/// what was written is given to the library's other call.
+fn returns(
+    vector: &Vector,
+    loans: &mut Loans,
+    answered: Answered,
+    back: Move<ffi::CountAnswer>,
+) -> Result<(), Difference> {
+    if answered.refused != 0 {
+        return Ok(());
+    }
+    let written = loans.bytes.now()[..answered.size as usize].to_vec();
+    let got = back(&written, loans.bytes.lend(ANSWER_BYTES));
+    let whole = (0, vector.case.len() as u64);
+    same("the way back", (got.refused, got.count), whole)?;
+    let returned = loans.bytes.now().get(..vector.case.len());
+    hold(returned == Some(&vector.case[..]), || {
+        "the case does not come back".to_string()
+    })?;
+    rest("the way back's buffer", &loans.bytes, vector.case.len())
+}
+
+/// Of one accepted old case in sixteen the verdict, on what it has become.
+fn judged_alike(vector: &Vector, loans: &mut Loans, answered: Answered) -> Result<(), Difference> {
+    if answered.refused != 0 || fnv1a(&vector.case) & 15 != 0 {
+        return Ok(());
+    }
+    let case = loans.reference_bytes.now()[..answered.size as usize].to_vec();
+    let judged = Vector {
+        call: VERDICT,
+        limit: 100,
+        length: ANSWER_BYTES as u64,
+        case,
+        ..Vector::default()
+    };
+    let got = verdict(&judged, loans)?;
+    same("the refusal of a case moved over", got.refused, 0)
 }
 
 fn numbers(record: &NodeRecord) -> (usize, usize, u16) {

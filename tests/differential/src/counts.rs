@@ -1,19 +1,23 @@
 //! How many calls there were, by call and answer.
 
 use crate::compare::Answered;
-use reference::vectors::{Vector, FITS, IS_RESULT, LAYOUT, NODES_AT, PATHS, VERDICT};
+use reference::vectors::{
+    Vector, DOWNGRADE, FITS, IS_RESULT, LAYOUT, NODES_AT, PATHS, UPGRADE, VERDICT,
+};
 use std::fmt;
 
-const NAMES: [(u32, &str); 6] = [
+const NAMES: [(u32, &str); 8] = [
     (VERDICT, "verdict"),
     (FITS, "fits"),
     (IS_RESULT, "is it a result"),
     (NODES_AT, "nodes at a position"),
     (PATHS, "paths"),
     (LAYOUT, "lay out a trial"),
+    (UPGRADE, "old to new"),
+    (DOWNGRADE, "new to old"),
 ];
 
-const QUESTIONS: usize = 14;
+const QUESTIONS: usize = 15;
 
 /// One row of the table.
 #[derive(Clone, Copy, Debug, Default)]
@@ -22,13 +26,13 @@ struct Row {
     refused: [u64; QUESTIONS + 1],
     /// Accepted ones by kind, or by whether the test holds.
     values: [u64; 4],
-    /// The most trials, nodes or paths of one.
+    /// The most trials, nodes, paths or bytes of one.
     most: u64,
 }
 
 #[derive(Clone, Debug, Default)]
 pub struct Counts {
-    rows: [Row; 7],
+    rows: [Row; NAMES.len() + 1],
     /// The longest case, document and list given, and the longest buffer or table lent.
     longest: [usize; 4],
 }
@@ -113,6 +117,12 @@ impl fmt::Display for Counts {
             "at most {} nodes at a position, {} nodes laid out",
             row(NODES_AT).most,
             row(LAYOUT).most
+        )?;
+        let moved = |call: u32| (row(call).refused[0], row(call).most);
+        let ((over, most_over), (back, most_back)) = (moved(UPGRADE), moved(DOWNGRADE));
+        writeln!(
+            out,
+            "moved: {over} old to new, at most {most_over} bytes, {back} new to old, at most {most_back}, each there and back again"
         )?;
         let [case, document, list, lent] = self.longest;
         writeln!(

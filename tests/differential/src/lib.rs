@@ -3,6 +3,7 @@
 //! * `compare`: one call of both, and everything that it answers and leaves behind held to be equal.
 //! * `lent`: what is lent to a call: buffers and tables filled with a pattern.
 //! * `vary`: many calls made of one drawn vector.
+//! * `old`: the filed cases of `tests/old`, moved over and back.
 //! * `counts`: how many calls there were, by call and answer.
 
 #![forbid(unsafe_code)]
@@ -10,4 +11,5 @@
 pub mod compare;
 pub mod counts;
 pub mod lent;
+pub mod old;
 pub mod vary;

@@ -1,11 +1,12 @@
 //! `differential SEED COUNT`: calls the library and the reference on COUNT inputs, on all cores, after
-//! the fixed ones at every boundary; prints what was called, or the first difference.
+//! the filed cases and the fixed ones at every boundary; prints what was called, or the first difference.
 
 #![forbid(unsafe_code)]
 
 use differential::compare::compare;
 use differential::counts::Counts;
 use differential::lent::Loans;
+use differential::old::filed;
 use differential::vary::vary;
 use reference::generate::{boundaries, cases, layouts, random, Prng};
 use reference::vectors::Vector;
@@ -42,6 +43,7 @@ fn run(seed: u64, count: u64) -> Result<Counts, String> {
     let start = Instant::now();
     let mut counts = Counts::default();
     let mut loans = Loans::default();
+    println!("differential: {}", filed(&mut loans)?);
     for vector in boundaries() {
         call(&vector, &mut loans, &mut counts)?;
     }

@@ -1,15 +1,21 @@
-//! Many calls made of few drawn vectors: another call on the same case, numbers at their bounds,
-//! damaged bytes and sets, lengths of all kinds. Drawing a vector takes far longer than altering one.
+//! Many calls made of few drawn vectors: another call on the same case, in either form, numbers at their
+//! bounds, damaged bytes and sets, lengths of all kinds. Drawing a vector takes far longer than altering
+//! one.
 
 use crate::lent::LENT_MOST;
 use reference::calls::STOPPED;
 use reference::embedding::{has, Shape};
 use reference::generate::Prng;
+use reference::old::read_old_case;
 use reference::records::{holder, read_case, read_volume, Case};
 use reference::trials::{each_placement, lay_out};
-use reference::vectors::{Vector, FITS, IS_RESULT, LAYOUT, NODES_AT, PATHS, VERDICT};
+use reference::vectors::{
+    Vector, DOWNGRADE, FITS, IS_RESULT, LAYOUT, NODES_AT, PATHS, UPGRADE, VERDICT,
+};
 
-const CALLS: [u32; 6] = [VERDICT, FITS, IS_RESULT, NODES_AT, PATHS, LAYOUT];
+const CALLS: [u32; 8] = [
+    VERDICT, FITS, IS_RESULT, NODES_AT, PATHS, LAYOUT, UPGRADE, DOWNGRADE,
+];
 const TALLY_MOST: u64 = 1_000_000_000_000;
 /// A limit below which the reference is quick on any case.
 const QUICK: u64 = 60;
@@ -54,6 +60,9 @@ fn for_call(prng: &mut Prng, drawn: &[Vector], vector: Vector) -> Vector {
         length: least + [0, 0, 1, 904][prng.below(4)],
         ..vector
     };
+    if prng.percent(97) {
+        vector.case = in_form(prng, call, &vector.case);
+    }
     let Ok(case) = read_case(&vector.case) else {
         return vector;
     };
@@ -69,6 +78,26 @@ fn for_call(prng: &mut Prng, drawn: &[Vector], vector: Vector) -> Vector {
         vector.list = fields(&placement(prng, &case, vector.selection));
     }
     vector
+}
+
+/// The case in the form that the call takes, with one member where it is moved, but for some that are to
+/// go back; as it is where it is not accepted in either form.
+fn in_form(prng: &mut Prng, call: u32, case: &[u8]) -> Vec<u8> {
+    if let Ok(old) = read_old_case(case) {
+        return match call {
+            UPGRADE => case.to_vec(),
+            _ => old.with_set_of_one().bytes(),
+        };
+    }
+    let Some((at, members)) = set_of(case) else {
+        return case.to_vec();
+    };
+    let count: &[u8] = match call {
+        UPGRADE => &[],
+        DOWNGRADE if prng.percent(70) => &[1, 0],
+        _ => return case.to_vec(),
+    };
+    [&case[..at], count, &members[prng.below(members.len())]].concat()
 }
 
 /// The number of the first pattern, or as often that of a member.

@@ -10,7 +10,9 @@ use differential::compare::compare;
 use differential::lent::Loans;
 use differential::vary::set_of;
 use reference::generate::{cases, layouts, random};
-use reference::vectors::{Vector, FITS, IS_RESULT, LAYOUT, NODES_AT, PATHS, VERDICT};
+use reference::vectors::{
+    Vector, DOWNGRADE, FITS, IS_RESULT, LAYOUT, NODES_AT, PATHS, UPGRADE, VERDICT,
+};
 use std::hint::black_box;
 use std::process::ExitCode;
 use std::time::{Duration, Instant};
@@ -138,6 +140,8 @@ impl Ours {
                 black_box(got);
             }
             PATHS => drop(black_box(ffi::paths(&v.case, v.selection))),
+            UPGRADE => drop(black_box(ffi::upgrade(&v.case, answer))),
+            DOWNGRADE => drop(black_box(ffi::downgrade(&v.case, answer))),
             _ => drop(black_box(ffi::layout(&v.case, v.selection, &v.list, table))),
         }
     }
@@ -174,6 +178,8 @@ impl Theirs {
                 black_box(got);
             }
             PATHS => drop(black_box(reference::paths(&v.case, v.selection))),
+            UPGRADE => drop(black_box(reference::upgrade(&v.case, answer))),
+            DOWNGRADE => drop(black_box(reference::downgrade(&v.case, answer))),
             _ => {
                 let got = reference::layout(&v.case, v.selection, &v.list, table);
                 black_box(got);
@@ -183,10 +189,15 @@ impl Theirs {
 }
 
 fn rows() -> Vec<Row> {
-    [questions(), verdicts(), documents(), others(), drawn()]
-        .into_iter()
-        .flatten()
-        .collect()
+    let all = [
+        questions(),
+        verdicts(),
+        documents(),
+        others(),
+        moves(),
+        drawn(),
+    ];
+    all.into_iter().flatten().collect()
 }
 
 fn row(call: &'static str, input: &str, vectors: Vec<Vector>) -> Row {
@@ -216,8 +227,12 @@ fn both(call: &'static str, input: &str, vectors: Vec<Vector>) -> [Row; 2] {
 }
 
 /// The same call with seven members before the only one. They are as large, and their last node, a
-/// leaf, has a label that is nowhere: so each is tried to its end, and no answer changes.
+/// leaf, has a label that is nowhere: so each is tried to its end, and no answer changes. A case that goes
+/// back to the old form stays, since it has one member.
 fn with_eight(vector: &Vector) -> Vector {
+    if vector.call == DOWNGRADE {
+        return vector.clone();
+    }
     with_set(vector, |member| {
         let mut set: Vec<Vec<u8>> = (0..7u16).map(|i| ending_in(member, NOWHERE + i)).collect();
         set.push(member.to_vec());
@@ -305,11 +320,6 @@ fn questions() -> Vec<Row> {
 
 /// Verdicts, of one trial and of 1,000.
 fn verdicts() -> Vec<Row> {
-    let e6 = case(
-        &[[0, 1, 0], [0, 2, 0], [1, 3, 0]],
-        &[[0, 1, 0, 0], [0, 0, 1, 1]],
-        &[vec![[0, 1, 0, 0], [0, 0, 0, 1]]],
-    );
     let mut nowhere = star(14, 1);
     nowhere.push([0, 60_000, 1, 0]);
     let none = vec![verdict(case(&line(0), &nowhere, &[star(0, 1)]), 1_000)];
@@ -317,7 +327,7 @@ fn verdicts() -> Vec<Row> {
     rows.extend(both(
         "verdict",
         "E6: 2 trials of 3 nodes",
-        vec![verdict(e6, 1_000_000)],
+        vec![verdict(e6(), 1_000_000)],
     ));
     rows.extend(both(
         "verdict",
@@ -337,6 +347,14 @@ fn verdicts() -> Vec<Row> {
         none,
     ));
     rows
+}
+
+fn e6() -> Vec<u8> {
+    case(
+        &[[0, 1, 0], [0, 2, 0], [1, 3, 0]],
+        &[[0, 1, 0, 0], [0, 0, 1, 1]],
+        &[vec![[0, 1, 0, 0], [0, 0, 0, 1]]],
+    )
 }
 
 /// A root and so many children.
@@ -432,6 +450,48 @@ fn others() -> Vec<Row> {
     ]
 }
 
+/// Cases out of the old form and back, the smallest and the largest, and refusals by the last question.
+fn moves() -> Vec<Row> {
+    let largest = in_itself(&line(1), star(15, 8));
+    let mut unheld = old_form(&largest);
+    let end = unheld.len() - 8 * 8;
+    unheld[end - 2..end].fill(0);
+    let two = case(&line(1), &star(15, 8), &vec![star(15, 8); 2]);
+    let (over, back) = ("old to new", "new to old");
+    let nodes = "64 + 16 + 16 nodes";
+    vec![
+        row(over, "E6", vec![moving(UPGRADE, old_form(&e6()))]),
+        row(over, nodes, vec![moving(UPGRADE, old_form(&largest))]),
+        row(
+            over,
+            &format!("{nodes}, a position missing: refused 8"),
+            vec![moving(UPGRADE, unheld)],
+        ),
+        row(back, "E6", vec![moving(DOWNGRADE, e6())]),
+        row(back, nodes, vec![moving(DOWNGRADE, largest)]),
+        row(
+            back,
+            "64 + 16 nodes, two members of 16: refused 15",
+            vec![moving(DOWNGRADE, two)],
+        ),
+    ]
+}
+
+fn moving(call: u32, case: Vec<u8>) -> Vector {
+    Vector {
+        call,
+        length: 4_096,
+        case,
+        ..Vector::default()
+    }
+}
+
+/// A case with a set of one as it was written before there were sets.
+fn old_form(case: &[u8]) -> Vec<u8> {
+    let (at, members) = set_of(case).expect("the case is accepted");
+    [&case[..at], &members.concat()].concat()
+}
+
 /// Calls as the generators draw them, but for their sets; their mean.
 fn drawn() -> Vec<Row> {
     let alone = |vectors: Vec<Vector>| vectors.iter().map(alone).collect();
@@ -446,9 +506,9 @@ fn drawn() -> Vec<Row> {
         "80 near the limits, sets as they are drawn",
         cases(1, 80),
     ));
-    rows.extend(both("all six", "1,000 random", alone(random(1, 1_000))));
+    rows.extend(both("all eight", "1,000 random", alone(random(1, 1_000))));
     rows.push(row(
-        "all six",
+        "all eight",
         "1,000 random, sets as they are drawn",
         random(1, 1_000),
     ));
