@@ -1,5 +1,5 @@
 -- What a program that moves a case writes: bytes at the front of a lent array, how many they are, and the stream that they go to.
-use Prim.Native.Nat.{ℕ, _≤_}
+use Prim.Native.Nat.{ℕ}
 use mathlib.Core.Path.{_≡_}
 use mathlib.Core.List.{List}
 use lib.ListN.{length}
@@ -13,7 +13,6 @@ pub record Filed (t : model.Told) (before after : List ℕ) (r : Told) : Type 0 
   pub stream : r .stream ≡ t .stream
   pub counted : r .count ≡ length (t .bytes)
   pub bytes : after ≡ writtenAtFront (t .bytes) before
-  pub fits : r .count ≤ length after
 
 -- of the answer of a call that left `before`: a refusal's line is written, and what was moved stays as it is
 pub record Answered (m : Moved) (before after : List ℕ) (r : Told) : Type 0 where

@@ -22,8 +22,8 @@ use Rattle.model.specs.Bytes.{Case, caseOf, documentOf, listOf, document
 use Rattle.model.specs.Questions.{selected, caseQuestions, verdictRefusal, fitsRefusal, resultRefusal, nodesRefusal, pathsRefusal, layoutRefusal}
 use Rattle.model.specs.Calls.{kindIncluded, kindNotIncluded, kindStopped, kindOf, shown, VerdictOutcome, verdictAccepted, verdictCall, TestAnswer, fitsCall, resultCall, CountOutcome, nodesAccepted, nodesCall, PathsAnswer, pathsAccepted, pathsCall, LaidRecord, laidRecord, LayoutOutcome, layoutAccepted, layoutCall}
 use Rattle.model.specs.Facts.{SummaryFacts, PatternFacts, MemberFacts, CaseFacts}
-use Rattle.model.specs.Moving.{upgradeCall, downgradeCall}
-use Rattle.model.specs.Demands.{TestTold, FitsTold, ResultTold, NodesTold, PathsTold, LayoutTold, SomeCounterExample, AllEmbeddingsPass, SomeEmbeddingFails, Shown, ReadsBack, Demand3, FitsAnswered, ResultAnswered, NodesAnswered, PathsAnswered, LayoutAnswered, VerdictAnswered, Upgraded, Downgraded, UpgradeAnswered, DowngradeAnswered}
+use Rattle.model.specs.Moving.{upgradeRefusal, downgradeRefusal, upgraded, downgraded, movedCall, upgradeCall, downgradeCall}
+use Rattle.model.specs.Demands.{TestTold, FitsTold, ResultTold, NodesTold, PathsTold, LayoutTold, SomeCounterExample, AllEmbeddingsPass, SomeEmbeddingFails, Shown, ReadsBack, Demand3, FitsAnswered, ResultAnswered, NodesAnswered, PathsAnswered, LayoutAnswered, VerdictAnswered, MoveAnswered, UpgradeAnswered, DowngradeAnswered}
 use Rattle.model.proofs.ListLaws.{length-map-upFrom, getD-map-upFrom}
 use Rattle.model.proofs.ReturnNodes.{length-returnNodes}
 use Rattle.model.proofs.Results.{result-exact, nodes-at-exact, nodes-at-ascending, path-mask-exact, path-mask-beyond, path-count-ones}
@@ -35,7 +35,7 @@ use Rattle.model.proofs.CallFacts.{accepted-verdict, accepted-fits, acc
 use Rattle.model.proofs.CaseFacts.{selected-facts, labels-some}
 use Rattle.model.proofs.Calls.{verdict-refused, verdict-accepted, fits-refused, fits-accepted, result-refused, result-accepted, nodes-refused, nodes-accepted, paths-refused, paths-accepted, layout-refused, layout-accepted, length-counted, verdict-length}
 use Rattle.model.proofs.Bytes.{FitFields, front-none, length-document}
-use Rattle.model.proofs.Moving.{upgrade-refused, downgrade-refused, upgrade-moved, downgrade-moved}
+use Rattle.model.proofs.Moving.{moved-refused, upgrade-moved, downgrade-moved}
 use Rattle.model.proofs.ReadBack.{AreBytes, label-small, canonical-labels, canonical-fields, reads-back}
 
 -- ---- Demand 2: fits, results, nodes at a position and paths are told exactly by the definitions
@@ -333,21 +333,20 @@ verdict-answered b small L tally before e =
       demand3 = λ z. subst (Demand3 b L tally before) (sym e) (demand-3 b small L tally before z);
     }
 
-pub upgrade-answered : (b : List ℕ) → AreBytes b → (before : List ℕ) {o : CountOutcome} → o ≡ upgradeCall b before → UpgradeAnswered b before o
-upgrade-answered b small before e =
+pub move-answered : (number : ℕ) (written : List ℕ) {Kept : CountOutcome → Type 0} (before : List ℕ) {o : CountOutcome} → (number ≡ 0 → Kept (movedCall number written before))
+    → o ≡ movedCall number written before → MoveAnswered number written Kept before o
+move-answered number written {Kept} before keeps e =
     record {
       outcome = e;
-      demand1 = λ f. e ∙ upgrade-refused b before f;
-      moved = λ z. subst (Upgraded b before) (sym e) (upgrade-moved b small before z);
+      demand1 = λ f. e ∙ moved-refused number written before f;
+      moved = λ z. subst Kept (sym e) (keeps z);
     }
 
+pub upgrade-answered : (b : List ℕ) → AreBytes b → (before : List ℕ) {o : CountOutcome} → o ≡ upgradeCall b before → UpgradeAnswered b before o
+upgrade-answered b small before e = move-answered (upgradeRefusal b (length before)) (upgraded b) before (upgrade-moved b small before) e
+
 pub downgrade-answered : (b : List ℕ) → AreBytes b → (before : List ℕ) {o : CountOutcome} → o ≡ downgradeCall b before → DowngradeAnswered b before o
-downgrade-answered b small before e =
-    record {
-      outcome = e;
-      demand1 = λ f. e ∙ downgrade-refused b before f;
-      moved = λ z. subst (Downgraded b before) (sym e) (downgrade-moved b small before z);
-    }
+downgrade-answered b small before e = move-answered (downgradeRefusal b (length before)) (downgraded b) before (downgrade-moved b small before) e
 
 -- ---- What is lent keeps its length: what a call writes fits
 

@@ -8,7 +8,6 @@ use mathlib.Core.Logic.{_⊎_, inl, inr, _≢_}
 use mathlib.Core.List.{List, [], _∷_, _++_, append-nil, List·Memᴰ, List·Memᴰ·head, List·Memᴰ·tail, List·Memᴰ·append-cases}
 use native.Mathlib.Omega.{arith}
 use native.Mathlib.Nat.{zero-add, le-refl}
-use lib.Dec.{eqb}
 use lib.ListN.{length, getD, length-append}
 use borrow.Author.Tests.{eqb-true, leb-true, le-leb}
 use Rattle.model.specs.Lists.{allOf}
@@ -17,12 +16,12 @@ use Rattle.model.specs.Pattern.{Pattern}
 use Rattle.model.specs.Bytes.{field, fieldsAt, recordsAt, summaryRecordAt, patternRecordAt, section, memberAt, setOf, setAt, caseEnd, Case, caseOf, summaryFields, sectionFields, caseFields, encodeCase}
 use Rattle.model.specs.Questions.{between, bufferLargeEnough, caseWhole, countInRange, countsInRange, setInRange, Question, ask, refusal, caseQuestions}
 use Rattle.model.specs.Calls.{CountOutcome, countRefused, verdictCall}
-use Rattle.model.specs.OldForm.{OldPattern, OldCase, oldWidth, oldRecordAt, oldRecordFields, secondAt, oldEnd, oldCaseOf, oldFields, encodeOldCase, newPattern, oneOf, oldPattern, oldOf, oldWhole, oldCountsInRange, oldQuestions, SetOfOne, oldVerdictCall}
-use Rattle.model.specs.Moving.{goesBack, upgradeRefusal, downgradeRefusal, upgraded, downgraded, movedAccepted, upgradeCall, downgradeCall}
+use Rattle.model.specs.OldForm.{OldCase, oldWidth, oldRecordAt, oldRecordFields, secondAt, oldEnd, oldCaseOf, oldFields, encodeOldCase, newPattern, oneOf, oldPattern, oldOf, oldWhole, oldCountsInRange, oldQuestions, SetOfOne, oldVerdictCall}
+use Rattle.model.specs.Moving.{goesBack, upgradeRefusal, downgradeRefusal, upgraded, downgraded, movedAccepted, movedCall, upgradeCall, downgradeCall}
 use Rattle.model.specs.Demands.{Upgraded, Downgraded}
 use Rattle.model.proofs.ListLaws.{and-left, and-right, all-elim, mem-at, length-map-upFrom, getD-map-upFrom}
 use Rattle.model.proofs.Bytes.{FitFields, length-bytes, length-section, summary-readable, old-readable, member-first, member-next, whole-set-ends, whole-case, case-back, case-whole}
-use Rattle.model.proofs.Refusals.{AllYes, Numbered, refusal-none, accepted-all-yes, all-yes-append}
+use Rattle.model.proofs.Refusals.{AllYes, refusal-none, accepted-all-yes, all-yes-append}
 use Rattle.model.proofs.CaseFacts.{between-facts, all-asked}
 use Rattle.model.proofs.Calls.{chosen-accepted, chosen-refused}
 use Rattle.model.proofs.ReadBack.{AreBytes}
@@ -31,24 +30,14 @@ use Rattle.model.proofs.WriteBack.{old-new, new-old, new-fields, one-fi
 
 -- ---- the calls go by their refusals
 
-module _ (b buffer : List ℕ) where
-  pub upgrade-refused : upgradeRefusal b (length buffer) ≢ 0
-      → upgradeCall b buffer ≡ record { answer = record { refused = upgradeRefusal b (length buffer); count = 0 }; buffer = buffer }
-  unfolding upgradeCall countRefused
-  upgrade-refused f = let number : ℕ = upgradeRefusal b (length buffer) in chosen-refused number (movedAccepted (upgraded b) buffer) (countRefused number buffer) f
+module _ (number : ℕ) (written buffer : List ℕ) where
+  pub moved-refused : number ≢ 0 → movedCall number written buffer ≡ record { answer = record { refused = number; count = 0 }; buffer = buffer }
+  unfolding movedCall countRefused
+  moved-refused f = chosen-refused number (movedAccepted written buffer) (countRefused number buffer) f
 
-  pub upgrade-accepted : upgradeRefusal b (length buffer) ≡ 0 → upgradeCall b buffer ≡ movedAccepted (upgraded b) buffer
-  unfolding upgradeCall
-  upgrade-accepted e = let number : ℕ = upgradeRefusal b (length buffer) in chosen-accepted number (movedAccepted (upgraded b) buffer) (countRefused number buffer) e
-
-  pub downgrade-refused : downgradeRefusal b (length buffer) ≢ 0
-      → downgradeCall b buffer ≡ record { answer = record { refused = downgradeRefusal b (length buffer); count = 0 }; buffer = buffer }
-  unfolding downgradeCall countRefused
-  downgrade-refused f = let number : ℕ = downgradeRefusal b (length buffer) in chosen-refused number (movedAccepted (downgraded b) buffer) (countRefused number buffer) f
-
-  pub downgrade-accepted : downgradeRefusal b (length buffer) ≡ 0 → downgradeCall b buffer ≡ movedAccepted (downgraded b) buffer
-  unfolding downgradeCall
-  downgrade-accepted e = let number : ℕ = downgradeRefusal b (length buffer) in chosen-accepted number (movedAccepted (downgraded b) buffer) (countRefused number buffer) e
+  pub moved-accepted : number ≡ 0 → movedCall number written buffer ≡ movedAccepted written buffer
+  unfolding movedCall
+  moved-accepted e = chosen-accepted number (movedAccepted written buffer) (countRefused number buffer) e
 
 -- ---- what an accepted call has
 
@@ -182,14 +171,14 @@ module _ (b : List ℕ) (small : AreBytes b) where
       refused-one one (ask 2 (bufferLargeEnough (length lent)) ∷ []) (ask 15 (goesBack (caseOf (upgraded b))) ∷ [])
       ∙ refusal-none (ask 2 (bufferLargeEnough (length lent)) ∷ (oldQuestions b ++ (ask 15 (goesBack (caseOf (upgraded b))) ∷ [])))
       (large, all-yes-append (oldQuestions b) (ask 15 (goesBack (caseOf (upgraded b))) ∷ []) y (single, tt)) in
-      downgrade-accepted (upgraded b) lent none ∙ ap (λ (w : List ℕ). movedAccepted w lent) (upgraded-back (y .0) (y .1 .0))
+      moved-accepted (downgradeRefusal (upgraded b) (length lent)) (downgraded (upgraded b)) lent none ∙ ap (λ (w : List ℕ). movedAccepted w lent) (upgraded-back (y .0) (y .1 .0))
 
   -- Old to new to old gives the same bytes, for every accepted case
   pub upgrade-moved : (before : List ℕ) → upgradeRefusal b (length before) ≡ 0 → Upgraded b before (upgradeCall b before)
   unfolding movedAccepted oldQuestions
   upgrade-moved before e =
       let f = accepted-upgrade b (length before) e in
-      let q : upgradeCall b before ≡ movedAccepted (upgraded b) before = upgrade-accepted b before e in
+      let q : upgradeCall b before ≡ movedAccepted (upgraded b) before = moved-accepted (upgradeRefusal b (length before)) (upgraded b) before e in
       let y : AllYes (oldQuestions b) = f .asked in
       record {
         accepted = ap (λ (o : CountOutcome). o .answer .refused) q;
@@ -264,14 +253,14 @@ module _ (b : List ℕ) (small : AreBytes b) (y : AllYes (caseQuestions b)) (sin
       let none : upgradeRefusal (downgraded b) (length lent) ≡ 0 =
       ap (λ (qs : List Question). refusal (front ∷ qs)) (sym (append-nil (oldQuestions (downgraded b)))) ∙ sym (refused-one downgraded-one (front ∷ []) [])
       ∙ refusal-none (front ∷ (caseQuestions b ++ [])) (large, all-yes-append (caseQuestions b) [] y tt) in
-      upgrade-accepted (downgraded b) lent none ∙ ap (λ (w : List ℕ). movedAccepted w lent) downgraded-back
+      moved-accepted (upgradeRefusal (downgraded b) (length lent)) (upgraded (downgraded b)) lent none ∙ ap (λ (w : List ℕ). movedAccepted w lent) downgraded-back
 
 -- New to old to new gives the same bytes, for every accepted case
 pub downgrade-moved : (b : List ℕ) → AreBytes b → (before : List ℕ) → downgradeRefusal b (length before) ≡ 0 → Downgraded b before (downgradeCall b before)
 unfolding movedAccepted
 downgrade-moved b small before e =
     let f = accepted-downgrade b (length before) e in
-    let q : downgradeCall b before ≡ movedAccepted (downgraded b) before = downgrade-accepted b before e in
+    let q : downgradeCall b before ≡ movedAccepted (downgraded b) before = moved-accepted (downgradeRefusal b (length before)) (downgraded b) before e in
     record {
       accepted = ap (λ (o : CountOutcome). o .answer .refused) q;
       written = downgraded b;

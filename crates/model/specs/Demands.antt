@@ -18,7 +18,7 @@ use Rattle.model.specs.Bytes.{field, sectionEnd, caseOf, documentOf, lis
 use Rattle.model.specs.Questions.{selected, verdictRefusal, fitsRefusal, resultRefusal, nodesRefusal, pathsRefusal, layoutRefusal}
 use Rattle.model.specs.Calls.{refusedAnswer, VerdictOutcome, kindIncluded, kindNotIncluded, kindStopped, verdictCall, TestAnswer, yesAnswer, noAnswer, fitsCall, resultCall, CountOutcome, nodesCall, PathsAnswer, pathsCall, LaidRecord, laidRecord, LayoutOutcome, layoutCall}
 use Rattle.model.specs.OldForm.{SetOfOne}
-use Rattle.model.specs.Moving.{upgradeRefusal, downgradeRefusal, movedAccepted, upgradeCall, downgradeCall}
+use Rattle.model.specs.Moving.{upgradeRefusal, downgradeRefusal, upgraded, downgraded, movedAccepted, movedCall, upgradeCall, downgradeCall}
 
 -- ---- Demand 1
 
@@ -204,14 +204,16 @@ pub record VerdictAnswered (b : List ℕ) (L tally : ℕ) (before : List ℕ) (o
   pub demand1 : Demand1 (verdictRefusal b L tally (length before)) o (λ n. record { answer = refusedAnswer n; buffer = before; tally = tally })
   pub demand3 : verdictRefusal b L tally (length before) ≡ 0 → Demand3 b L tally before o
 
+-- A tool of #102 whose refusal has this number, or 0, and which then writes this and keeps that
+pub record MoveAnswered (number : ℕ) (written : List ℕ) (Kept : CountOutcome → Type 0) (before : List ℕ) (o : CountOutcome) : Type 0 where
+  pub outcome : o ≡ movedCall number written before
+  pub demand1 : Demand1 number o (λ n. record { answer = record { refused = n; count = 0 }; buffer = before })
+  pub moved : number ≡ 0 → Kept o
+
 -- Old to new: case, answer buffer
-pub record UpgradeAnswered (b before : List ℕ) (o : CountOutcome) : Type 0 where
-  pub outcome : o ≡ upgradeCall b before
-  pub demand1 : Demand1 (upgradeRefusal b (length before)) o (λ n. record { answer = record { refused = n; count = 0 }; buffer = before })
-  pub moved : upgradeRefusal b (length before) ≡ 0 → Upgraded b before o
+abbrev pub UpgradeAnswered : List ℕ → List ℕ → CountOutcome → Type 0
+UpgradeAnswered b before o = MoveAnswered (upgradeRefusal b (length before)) (upgraded b) (Upgraded b before) before o
 
 -- New to old: case, answer buffer
-pub record DowngradeAnswered (b before : List ℕ) (o : CountOutcome) : Type 0 where
-  pub outcome : o ≡ downgradeCall b before
-  pub demand1 : Demand1 (downgradeRefusal b (length before)) o (λ n. record { answer = record { refused = n; count = 0 }; buffer = before })
-  pub moved : downgradeRefusal b (length before) ≡ 0 → Downgraded b before o
+abbrev pub DowngradeAnswered : List ℕ → List ℕ → CountOutcome → Type 0
+DowngradeAnswered b before o = MoveAnswered (downgradeRefusal b (length before)) (downgraded b) (Downgraded b before) before o

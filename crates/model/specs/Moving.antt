@@ -33,14 +33,14 @@ downgraded b = encodeOldCase (oldOf (caseOf b))
 unfoldable pub movedAccepted : List ℕ → List ℕ → CountOutcome
 movedAccepted written buffer = record { answer = record { refused = 0; count = length written }; buffer = writtenAtFront written buffer }
 
+-- where the refusal's number is not 0, nothing is written
+unfoldable pub movedCall : ℕ → List ℕ → List ℕ → CountOutcome
+movedCall number written buffer = elim (eqb number 0) [ true ↦ movedAccepted written buffer | false ↦ countRefused number buffer ]
+
 -- Old to new: case, answer buffer
-unfoldable pub upgradeCall : List ℕ → List ℕ → CountOutcome
-upgradeCall b buffer =
-    let number : ℕ = upgradeRefusal b (length buffer) in
-    elim (eqb number 0) [ true ↦ movedAccepted (upgraded b) buffer | false ↦ countRefused number buffer ]
+abbrev pub upgradeCall : List ℕ → List ℕ → CountOutcome
+upgradeCall b buffer = movedCall (upgradeRefusal b (length buffer)) (upgraded b) buffer
 
 -- New to old: case, answer buffer
-unfoldable pub downgradeCall : List ℕ → List ℕ → CountOutcome
-downgradeCall b buffer =
-    let number : ℕ = downgradeRefusal b (length buffer) in
-    elim (eqb number 0) [ true ↦ movedAccepted (downgraded b) buffer | false ↦ countRefused number buffer ]
+abbrev pub downgradeCall : List ℕ → List ℕ → CountOutcome
+downgradeCall b buffer = movedCall (downgradeRefusal b (length buffer)) (downgraded b) buffer

@@ -9,14 +9,29 @@ use lib.ListN.{length, take}
 use Rattle.model.specs.Bytes.{caseOf, isWholeCase}
 use Rattle.model.specs.Questions.{bufferLargeEnough, caseWhole, ask, refusal, caseQuestions}
 use Rattle.model.specs.OldForm.{oldCaseOf, oldWhole, oldCountsInRange, oldQuestions}
-use Rattle.model.specs.Moving.{goesBack, upgradeRefusal, downgradeRefusal, upgraded, downgraded, movedAccepted}
-use Rattle.model.specs.Demands.{UpgradeAnswered, DowngradeAnswered}
+use Rattle.model.specs.Calls.{CountOutcome}
+use Rattle.model.specs.Moving.{goesBack, upgradeRefusal, downgradeRefusal, upgraded, downgraded, movedAccepted, movedCall}
+use Rattle.model.specs.Demands.{MoveAnswered, UpgradeAnswered, DowngradeAnswered}
 use Rattle.model.proofs.Bytes.{front-written}
 use Rattle.model.proofs.ReadBack.{AreBytes}
 use Rattle.model.proofs.Refusals.{refusal-yes}
-use Rattle.model.proofs.Moving.{upgrade-refused, upgrade-accepted, accepted-upgrade, upgraded-small, upgraded-asked, downgrade-refused, downgrade-accepted, accepted-downgrade, downgraded-small}
-use Rattle.model.proofs.Demands.{upgrade-answered, downgrade-answered}
+use Rattle.model.proofs.Moving.{moved-refused, moved-accepted, accepted-upgrade, upgraded-small, upgraded-asked, upgrade-moved, accepted-downgrade, downgraded-small, downgrade-moved}
+use Rattle.model.proofs.Demands.{move-answered}
 use Rattle.format.proofs.WriteLaws.{Out}
+
+-- what a tool answers where its refusal's number is n, and what it leaves
+module _ (number : ℕ) (written : List ℕ) {Kept : CountOutcome → Type 0} (buffer : List ℕ) (keeps : number ≡ 0 → Kept (movedCall number written buffer)) {n : ℕ} (e : n ≡ number) where
+  answered-no : (n ≡ 0 → ⊥) → MoveAnswered number written Kept buffer (record { answer = record { refused = n; count = 0 }; buffer = buffer })
+  answered-no f =
+      move-answered number written buffer keeps
+      ((λ i. record { answer = record { refused = e i; count = 0 }; buffer = buffer }) ∙ sym (moved-refused number written buffer (λ z. f (e ∙ z))))
+
+  answered-yes : n ≡ 0 → {count : ℕ} {after : List ℕ} → Out written buffer after count
+      → MoveAnswered number written Kept buffer (record { answer = record { refused = 0; count = count }; buffer = after })
+  unfolding movedAccepted
+  answered-yes z w =
+      move-answered number written buffer keeps
+      ((λ i. record { answer = record { refused = 0; count = w .0 i }; buffer = w .1 i }) ∙ sym (moved-accepted number written buffer (sym e ∙ z)))
 
 module _ (b : List ℕ) (small : AreBytes b) where
   -- the set of one stands at the front of a table that held z, and is asked about
@@ -29,46 +44,34 @@ module _ (b : List ℕ) (small : AreBytes b) where
 
   -- ---- old to new
 
-  module _ (buffer : List ℕ) {number : ℕ} (e : number ≡ upgradeRefusal b (length buffer)) where
-    pub upgrade-no : (number ≡ 0 → ⊥) → UpgradeAnswered b buffer (record { answer = record { refused = number; count = 0 }; buffer = buffer })
-    upgrade-no f =
-        upgrade-answered b small buffer
-        ((λ i. record { answer = record { refused = e i; count = 0 }; buffer = buffer }) ∙ sym (upgrade-refused b buffer (λ z. f (e ∙ z))))
+  module _ (buffer : List ℕ) {n : ℕ} (e : n ≡ upgradeRefusal b (length buffer)) where
+    pub upgrade-no : (n ≡ 0 → ⊥) → UpgradeAnswered b buffer (record { answer = record { refused = n; count = 0 }; buffer = buffer })
+    upgrade-no = answered-no (upgradeRefusal b (length buffer)) (upgraded b) buffer (upgrade-moved b small buffer) e
 
-    module _ (z : number ≡ 0) where
-      pub upgrade-fits : (oldWhole b ≡ true) × (length (upgraded b) ≤ length buffer)
-      unfolding oldQuestions
-      upgrade-fits =
-          let f = accepted-upgrade b (length buffer) (sym e ∙ z) in
-          let few : length (upgraded b) ≤ 648 = upgraded-small b small (f .asked .0) (f .asked .1 .0) in
-          (f .asked .0, omega (arith, f .buffer))
+    pub upgrade-fits : n ≡ 0 → (oldWhole b ≡ true) × (length (upgraded b) ≤ length buffer)
+    unfolding oldQuestions
+    upgrade-fits z =
+        let f = accepted-upgrade b (length buffer) (sym e ∙ z) in
+        let few : length (upgraded b) ≤ 648 = upgraded-small b small (f .asked .0) (f .asked .1 .0) in
+        (f .asked .0, omega (arith, f .buffer))
 
-      pub upgrade-yes : {count : ℕ} {after : List ℕ} → Out (upgraded b) buffer after count
-          → UpgradeAnswered b buffer (record { answer = record { refused = 0; count = count }; buffer = after })
-      unfolding movedAccepted
-      upgrade-yes w =
-          upgrade-answered b small buffer
-          ((λ i. record { answer = record { refused = 0; count = w .0 i }; buffer = w .1 i }) ∙ sym (upgrade-accepted b buffer (sym e ∙ z)))
+    pub upgrade-yes : n ≡ 0 → {count : ℕ} {after : List ℕ} → Out (upgraded b) buffer after count
+        → UpgradeAnswered b buffer (record { answer = record { refused = 0; count = count }; buffer = after })
+    upgrade-yes = answered-yes (upgradeRefusal b (length buffer)) (upgraded b) buffer (upgrade-moved b small buffer) e
 
   -- ---- new to old
 
-  module _ (buffer : List ℕ) {number : ℕ} (e : number ≡ downgradeRefusal b (length buffer)) where
-    pub downgrade-no : (number ≡ 0 → ⊥) → DowngradeAnswered b buffer (record { answer = record { refused = number; count = 0 }; buffer = buffer })
-    downgrade-no f =
-        downgrade-answered b small buffer
-        ((λ i. record { answer = record { refused = e i; count = 0 }; buffer = buffer }) ∙ sym (downgrade-refused b buffer (λ z. f (e ∙ z))))
+  module _ (buffer : List ℕ) {n : ℕ} (e : n ≡ downgradeRefusal b (length buffer)) where
+    pub downgrade-no : (n ≡ 0 → ⊥) → DowngradeAnswered b buffer (record { answer = record { refused = n; count = 0 }; buffer = buffer })
+    downgrade-no = answered-no (downgradeRefusal b (length buffer)) (downgraded b) buffer (downgrade-moved b small buffer) e
 
-    module _ (z : number ≡ 0) where
-      pub downgrade-fits : (isWholeCase b ≡ true) × ((goesBack (caseOf b) ≡ true) × (length (downgraded b) ≤ length buffer))
-      unfolding caseQuestions caseWhole
-      downgrade-fits =
-          let f = accepted-downgrade b (length buffer) (sym e ∙ z) in
-          let few : length (downgraded b) ≤ 646 = downgraded-small b small (f .asked) (f .one) in
-          (f .asked .0, (f .one, omega (arith, f .buffer)))
+    pub downgrade-fits : n ≡ 0 → (isWholeCase b ≡ true) × ((goesBack (caseOf b) ≡ true) × (length (downgraded b) ≤ length buffer))
+    unfolding caseQuestions caseWhole
+    downgrade-fits z =
+        let f = accepted-downgrade b (length buffer) (sym e ∙ z) in
+        let few : length (downgraded b) ≤ 646 = downgraded-small b small (f .asked) (f .one) in
+        (f .asked .0, (f .one, omega (arith, f .buffer)))
 
-      pub downgrade-yes : {count : ℕ} {after : List ℕ} → Out (downgraded b) buffer after count
-          → DowngradeAnswered b buffer (record { answer = record { refused = 0; count = count }; buffer = after })
-      unfolding movedAccepted
-      downgrade-yes w =
-          downgrade-answered b small buffer
-          ((λ i. record { answer = record { refused = 0; count = w .0 i }; buffer = w .1 i }) ∙ sym (downgrade-accepted b buffer (sym e ∙ z)))
+    pub downgrade-yes : n ≡ 0 → {count : ℕ} {after : List ℕ} → Out (downgraded b) buffer after count
+        → DowngradeAnswered b buffer (record { answer = record { refused = 0; count = count }; buffer = after })
+    downgrade-yes = answered-yes (downgradeRefusal b (length buffer)) (downgraded b) buffer (downgrade-moved b small buffer) e

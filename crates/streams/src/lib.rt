@@ -1,4 +1,4 @@
-// A program's standard input and output, read and written whole. A failed read or write is told, since a program here has no exit status.
+// A program's standard input, read whole; a failed read is told from the input's end.
 
 ghost use Rattle.io.specs.Counts.{Counts};
 
@@ -28,25 +28,4 @@ pub fn read_all(buffer: &mut [u8]) -> Input
         count: done,
         failed: false,
     }
-}
-
-// The bytes go to standard output; where they can't, the trouble is told on standard error.
-pub fn write_out(bytes: &[u8], trouble: &[u8]) {
-    if !io::write_all(1, bytes) {
-        io::write_all(2, trouble);
-    }
-}
-
-// The bytes go to standard error.
-pub fn write_err(bytes: &[u8]) {
-    io::write_all(2, bytes);
-}
-
-// The bytes go to the stream that the number names: 2 is standard error, another standard output.
-pub fn write_to(stream: u64, bytes: &[u8], trouble: &[u8]) {
-    if stream == 2 {
-        write_err(bytes);
-        return;
-    }
-    write_out(bytes, trouble);
 }

@@ -15,8 +15,7 @@ returns : tie.Need-returns
 unfolding refusedText
 returns c =
     let l = c .before .before in
-    let p = l .before .before .before .before .before .before .pre in
-    record { refused = λ f. line-filed _ (line-room _ (p .0) (p .1)) (l .line .ensures); moved = λ z. absurd (l .before .before .before .if1 .taken z) }
+    record { refused = λ f. line-filed _ (l .line .ensures); moved = λ z. absurd (l .before .before .before .if1 .taken z) }
 
 returns-2 : tie.Need-returns-2
 returns-2 c = record { refused = λ f. absurd (f (c .if1 .left)); moved = λ z. (refl, refl, refl) }

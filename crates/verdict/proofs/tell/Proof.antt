@@ -7,5 +7,5 @@ use Rattle.verdict.proofs.tell.Tie as tie
 
 pub tell-spec : {M : Type 1} → statement M
 tell-spec =
-    tie.close (tie.spec (λ c κs. search needs) (λ c. c .verdict-text .ensures .fits) (λ c. sym (length-take-le _ _ (c .before .verdict-text .ensures .fits))) (λ c. search needs)
-    (λ c κs. search needs) (λ c. search needs))
+    tie.close (tie.spec (λ c κs. search needs) (λ c. c .verdict-text .ensures .fits) (λ c. sym (length-take-le _ _ (c .before .verdict-text .ensures .fits))) (λ c κs. search needs) (λ c. search needs)
+    (λ c κs. search needs) (λ c. search needs) (λ c. search needs))
