@@ -1,1 +1,2 @@
 pub mod MaskLaws
+pub mod MaskMembers

@@ -2,7 +2,7 @@
 // one of summary nodes. A union is `a | b`, an intersection `a & b`.
 
 ghost use mathlib.Core.Path.{_≡_};
-ghost use Prim.Native.Nat.{_<_, _^_};
+ghost use Prim.Native.Nat.{_-_, _^_, _≤_, _<_};
 ghost use lib.Bits.{bitAnd, bitOr};
 ghost use lib.Count.{ones, trailingZeros};
 ghost use lib.Dec.{eqb};
@@ -52,6 +52,14 @@ pub fn insert_if64(m: u64, i: usize, t: bool) -> u64
     ensures { λ r. ⌜ r ≡ insertIf t m i ⌝ }
 {
     if t { insert64(m, i) } else { m }
+}
+
+// The set without i, which is in it.
+pub fn without64(m: u64, i: usize) -> u64
+    requires { ⌜ (i < 64) × (2 ^ i ≤ m) ⌝ }
+    ensures { λ r. ⌜ r ≡ m - 2 ^ i ⌝ }
+{
+    m - (1u64 << i)
 }
 
 // Every member of a is one of b.

@@ -2,6 +2,7 @@
 
 use crate::answers::TestAnswer;
 use questions::refusals::fits_refusal;
+use strong::strong_table;
 ghost use Rattle.model.specs.Demands.{FitsAnswered};
 ghost use Rattle.calls.specs.Answers.{testOf};
 
@@ -13,7 +14,8 @@ pub fn fits_call(case: &[u8], document: &[u8]) -> TestAnswer
     if refused != 0 {
         return TestAnswer { refused, holds: 0 };
     }
-    if fitting::fits(case, document) {
+    let strong = strong_table(case);
+    if fitting::fits(case, &strong, document) {
         return TestAnswer {
             refused: 0,
             holds: 1,

@@ -1,6 +1,5 @@
--- What the steps of the test of fitting leave to one another. Three tables: `path` has each document node's summary node; a row of
--- `kids`, one for each document node, has the paths of its children; a row of `needed`, one for each summary node, has its strong
--- children.
+-- What the steps of the test of fitting leave to one another. Two tables: `path` has each document node's summary node; a row of `kids`,
+-- one for each document node, has the paths of its children. `strong` is the table of strong children.
 use Prim.Native.Nat.{ℕ, _≤_, _<_}
 use mathlib.Core.Path.{_≡_}
 use mathlib.Core.Bool.{Bool, true, false, _&&_}
@@ -10,7 +9,7 @@ use lib.Dec.{eqb}
 use lib.ListN.{length, getD}
 use Rattle.model.specs.Lists.{upFrom, anyOf, has}
 use Rattle.model.specs.Tree.{Document}
-use Rattle.model.specs.Summary.{Summary, summaryParent, summaryLabel, noSummaryRecord}
+use Rattle.model.specs.Summary.{Summary, summaryParent, summaryLabel}
 use Rattle.model.specs.Embeddings.{childTest}
 use Rattle.model.specs.Fitting.{pathIn}
 
@@ -38,18 +37,10 @@ pub record PathsFilled (S : Summary) (W : Document) (path : List ℕ) (found : B
   pub all : found ≡ true → OnPaths S W path (length W)
   pub none : found ≡ false → (v : ℕ) × (v < length W) × (length S ≤ pathIn S W v)
 
--- each node of a tree but the root has put what it gives into its parent's row: bit t of row k says that some child of k gives t
-pub record Gathered (T : Document) (gives : ℕ → ℕ → Bool) (masks : List ℕ) : Type 0 where
-  pub row : (k t : ℕ) → has (getD masks k 0) t ≡ anyOf (λ j. childTest T k j && gives j t) (upFrom 0 (length T))
-
--- a document node gives its path
-abbrev pub givesPath : List ℕ → ℕ → ℕ → Bool
-givesPath path j t = eqb t (getD path j 0)
-
--- a summary node gives itself, where the edge to it is strong
-abbrev pub givesStrong : Summary → ℕ → ℕ → Bool
-givesStrong S j t = eqb (getD S j noSummaryRecord .strong) 1 && eqb t j
+-- each node of a document but the root has put its path into its parent's row: bit t of row k says that some child of k is on t
+pub record Gathered (W : Document) (path masks : List ℕ) : Type 0 where
+  pub row : (k t : ℕ) → has (getD masks k 0) t ≡ anyOf (λ j. childTest W k j && eqb t (getD path j 0)) (upFrom 0 (length W))
 
 -- what the path of document node v needs is among the paths of its children
 abbrev pub strongKeptIn : List ℕ → List ℕ → List ℕ → ℕ → Bool
-strongKeptIn path kids needed v = eqb (bitAnd (getD needed (getD path v 0) 0) (getD kids v 0)) (getD needed (getD path v 0) 0)
+strongKeptIn path kids strong v = eqb (bitAnd (getD strong (getD path v 0) 0) (getD kids v 0)) (getD strong (getD path v 0) 0)

@@ -1,4 +1,5 @@
 pub mod ListLaws
+pub mod KeepLaws
 pub mod Ascending
 pub mod Counting
 pub mod Masks
@@ -6,6 +7,7 @@ pub mod TreeLaws
 pub mod TreeChoice
 pub mod Paths
 pub mod Fitting
+pub mod Strong
 pub mod Embeddings
 pub mod ReturnNodes
 pub mod Results

@@ -1,6 +1,6 @@
 -- A set of numbers below n as a mask: bit i says whether i is in it, the mask is below 2 ^ n, its set bits are counted by the
 -- members, and its trailing zeros give the least one. True digit by digit. Assumes nothing.
-use Prim.Native.Nat.{ℕ, zero, suc, _+_, _*_, _/_, _%_, _^_, _≤_, _<_}
+use Prim.Native.Nat.{ℕ, zero, suc, _+_, _-_, _*_, _/_, _%_, _^_, _≤_, _<_}
 use mathlib.Core.Path.{_≡_, refl, sym, ap, _∙_, subst}
 use mathlib.Core.Bool.{Bool, true, false}
 use native.Mathlib.Omega.{arith}
@@ -10,7 +10,9 @@ use lib.Pow.{pow-mono, shr-shr, high}
 use lib.Bits.{block-half, block-odd}
 use lib.Count.{ones, ones-cat, trailingZeros, under}
 use borrow.Author.Tests.{eq-eqb, ltb-true, ltb-false}
-use Rattle.model.specs.Lists.{has, maskBelow, countBelow}
+use Rattle.model.specs.Lists.{upFrom, keep, has, maskBelow, countBelow, members}
+use Rattle.model.proofs.ListLaws.{upFrom-mem}
+use Rattle.model.proofs.KeepLaws.{keep-agree, keep-past}
 
 -- ---- digits
 
@@ -116,3 +118,14 @@ trailing-at (suc k) m h = go (m % 2) refl h (λ l. trailing-at k (m / 2) l)
         → has m (under d (trailingZeros k (m / 2))) ≡ true
     go zero e l rest = has-suc m (trailingZeros k (m / 2)) ∙ rest (le-of-suc-le-suc l)
     go (suc d) e l rest = has-zero m ∙ eq-eqb (m % 2) 1 (omega arith)
+
+-- ---- members
+
+-- the members of the mask of a set are the set's
+pub members-mask : (test : ℕ → Bool) (n : ℕ) → n ≤ 64 → members (maskBelow test n) ≡ keep test (upFrom 0 n)
+unfolding members
+members-mask test n h =
+    let e : 64 ≡ n + (64 - n) = omega arith in
+    ap (λ (k : ℕ). keep (has (maskBelow test n)) (upFrom 0 k)) e
+    ∙ keep-past (has (maskBelow test n)) 0 n (64 - n) (λ i l. mask-past test n i (omega arith))
+    ∙ keep-agree (has (maskBelow test n)) test (upFrom 0 n) (λ i m. mask-below test n i (let l = upFrom-mem 0 n i m in omega arith))

@@ -18,9 +18,13 @@ parentRule (suc i) p = ltb p (suc i)
 unfoldable pub isRooted : ℕ → (ℕ → ℕ) → Bool
 isRooted n parent = ltb 0 n && allOf (λ i. parentRule i (parent i)) (upFrom 0 n)
 
+-- a strong edge leads from outline node s to t
+abbrev pub strongTest : Summary → ℕ → ℕ → Bool
+strongTest S s t = childTest (asDocument S) s t && eqb (getD S t noSummaryRecord .strong) 1
+
 -- the strong children of an outline node, in outline order
 unfoldable pub strongChildren : Summary → ℕ → List ℕ
-strongChildren S s = keep (λ t. childTest (asDocument S) s t && eqb (getD S t noSummaryRecord .strong) 1) (upFrom 0 (length S))
+strongChildren S s = keep (strongTest S s) (upFrom 0 (length S))
 
 -- the child of outline node s with label l; the outline's count where there is none
 unfoldable pub childLabelled : Summary → ℕ → ℕ → ℕ

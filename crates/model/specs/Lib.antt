@@ -9,6 +9,7 @@ pub mod Verdict
 pub mod Quick
 pub mod Skipping
 pub mod Limits
+pub mod Strong
 pub mod Bytes
 pub mod Questions
 pub mod Calls

@@ -61,3 +61,7 @@ maskBelow test (suc n) = elim (test n) [ true ↦ 2 ^ n + maskBelow test n | fal
 unfoldable pub countBelow : (ℕ → Bool) → ℕ → ℕ
 countBelow test zero = 0
 countBelow test (suc n) = elim (test n) [ true ↦ suc (countBelow test n) | false ↦ countBelow test n ]
+
+-- the members of a mask of 64 bits, ascending
+unfoldable pub members : ℕ → List ℕ
+members m = keep (has m) (upFrom 0 64)

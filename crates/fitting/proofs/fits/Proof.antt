@@ -7,46 +7,35 @@ use Rattle.fitting.proofs.fits.Statement.{statement}
 use Rattle.fitting.proofs.fits.Tie as tie
 
 fill-paths-requires : tie.Need-fill-paths-requires
-fill-paths-requires c κs = let start = c .before .before .before in (start .pre .0, start .pre .1, cleared 1024)
+fill-paths-requires c κs = let start = c .before .before .before in (start .pre .0 .0, start .pre .0 .1, cleared 1024)
 
 returns : tie.Need-returns
 returns c =
     let start = c .before .before .before .before .before in
-    not-inside _ _ (start .pre .1 .tree) (c .before .fill-paths .ensures .none (not-true _ (c .if1 .taken)))
+    not-inside _ _ (start .pre .0 .1 .tree) (c .before .fill-paths .ensures .none (not-true _ (c .if1 .taken)))
 
 child-paths-requires : tie.Need-child-paths-requires
 child-paths-requires c κs =
     let found = c .before .before in
     let start = found .before .before .before .before .before in
     let on = found .before .fill-paths .ensures .all (not-false _ (found .if1 .left)) in
-    ((start .pre .1, cleared 1024), λ v h. omega (arith, on .inside v h, start .pre .0 .few))
-
-strong-children-requires : tie.Need-strong-children-requires
-strong-children-requires c κs = let start = c .before .before .before .before .before .before .before .before .before in (start .pre .0, cleared 64)
+    ((start .pre .0 .1, cleared 1024), λ v h. omega (arith, on .inside v h, start .pre .0 .0 .few))
 
 all-kept-requires : tie.Need-all-kept-requires
 all-kept-requires c κs =
-    let found = c .before .before .before .before .before .before .before .before in
+    let found = c .before .before .before .before .before in
     let start = found .before .before .before .before .before in
     let on = found .before .fill-paths .ensures .all (not-false _ (found .if1 .left)) in
-    (start .pre .1, λ v h. omega (arith, on .inside v h, start .pre .0 .few))
+    (start .pre .0 .1, λ v h. omega (arith, on .inside v h, start .pre .0 .0 .few))
 
 returns-2 : tie.Need-returns-2
 returns-2 c =
-    let strong = c .before .before .before .before in
-    let rows = strong .before .before in
+    let rows = c .before .before .before in
     let found = rows .before .before .before in
     let start = found .before .before .before .before .before in
     let on = found .before .fill-paths .ensures .all (not-false _ (found .if1 .left)) in
-    all-inside _ _ (start .pre .1 .tree) on (rows .child-paths .ensures) (strong .strong-children .ensures) (c .all-kept .ensures)
+    all-inside _ _ (start .pre .0 .1 .tree) (start .pre .0 .0 .few) on (rows .child-paths .ensures) (start .pre .1) (c .all-kept .ensures)
 
 pub fits-spec : {M : Type 1} → statement M
 fits-spec =
-    tie.close
-    (tie.spec
-    fill-paths-requires
-    returns
-    child-paths-requires
-    strong-children-requires
-    all-kept-requires
-    returns-2)
+    tie.close (tie.spec fill-paths-requires returns child-paths-requires all-kept-requires returns-2)

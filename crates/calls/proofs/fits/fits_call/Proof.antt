@@ -6,7 +6,7 @@ use mathlib.Core.Bool.{Bool, true, false}
 use denote.Ref.{now}
 use borrow.Author.Needs.{needs}
 use Rattle.model.specs.Demands.{FitsAnswered}
-use Rattle.model.proofs.CallFacts.{accepted-fits}
+use Rattle.model.proofs.CallFacts.{FitsFacts, accepted-fits}
 use Rattle.model.proofs.Calls.{fits-refused, fits-accepted}
 use Rattle.model.proofs.Demands.{fits-answered}
 use Rattle.format.proofs.GivenLaws.{given-summary, given-document}
@@ -19,18 +19,22 @@ returns c =
     let a = c .before .before .before .before .args in
     fits-answered _ _ (answer-refused _ (fits-refused (now (a .case)) (now (a .document))) (c .before .fits-refusal .ensures) (c .if1 .taken))
 
+-- what the accepted call has
+facts : (c : tie.Else1) → FitsFacts (now (c .before .before .before .before .args .case)) (now (c .before .before .before .before .args .document))
+facts c = accepted-fits _ _ (sym (c .before .fits-refusal .ensures) ∙ c .if1 .left)
+
+strong-table-requires : tie.Need-strong-table-requires
+strong-table-requires c κs = given-summary (facts c .case)
+
 fits-requires : tie.Need-fits-requires
-fits-requires c κs =
-    let a = c .before .before .before .before .args in
-    let F = accepted-fits (now (a .case)) (now (a .document)) (sym (c .before .fits-refusal .ensures) ∙ c .if1 .left) in
-    (given-summary (F .case), given-document (F .document))
+fits-requires c κs = let F = facts (c .before .before) in ((given-summary (F .case), given-document (F .document)), c .before .strong-table .ensures)
 
 -- the test's answer is the call's
 told : (c : tie.After-fits2) {v : Bool} → c .fits2 .result ≡ v
-    → (let a = c .before .before .before .before .before .args in
+    → (let a = c .before .before .before .before .before .before .before .args in
     FitsAnswered (now (a .case)) (now (a .document)) (record { refused = 0; holds = elim v as (λ _. ℕ) [ true ↦ 1 | false ↦ 0 ] }))
 told c p =
-    let e = c .before in
+    let e = c .before .before .before in
     let a = e .before .before .before .before .args in
     fits-answered _ _ (answer-given _ _ (fits-accepted (now (a .case)) (now (a .document))) (e .before .fits-refusal .ensures) (e .if1 .left) (c .fits2 .ensures) p)
 
@@ -42,4 +46,4 @@ returns-3 c = told (c .before) (c .if2 .left)
 
 pub fits-call-spec : {M : Type 1} → statement M
 fits-call-spec =
-    tie.close (tie.spec (λ c κs. search needs) returns fits-requires returns-2 returns-3)
+    tie.close (tie.spec (λ c κs. search needs) returns strong-table-requires fits-requires returns-2 returns-3)

@@ -1,18 +1,15 @@
--- `fitting::strong::child_paths` meets its contract: after the turns below v each of those nodes has put its path into its parent's
+-- `fitting::edges::child_paths` meets its contract: after the turns below v each of those nodes has put its path into its parent's
 -- row. The measure is what is left of count. Assumes nothing.
 use Prim.Native.Nat.{_-_, _<_}
-use mathlib.Core.Path.{sym, ap}
 use native.Mathlib.Omega.{arith}
-use lib.Dec.{eqb}
 use borrow.Author.Needs.{needs}
 use Rattle.model.specs.Bytes.{documentOf}
-use Rattle.fitting.specs.Steps.{givesPath}
-use Rattle.fitting.proofs.GatherLaws.{Gathering, gathering-start, gathering-up, gathering-put, gathering-end}
-use Rattle.fitting.proofs.strong.child_paths.Statement.{statement}
-use Rattle.fitting.proofs.strong.child_paths.Tie as tie
+use Rattle.fitting.proofs.GatherLaws.{Gathering, gathering-start, gathering-up, gathering-step, gathering-end}
+use Rattle.fitting.proofs.edges.child_paths.Statement.{statement}
+use Rattle.fitting.proofs.edges.child_paths.Tie as tie
 
 abbrev Inv-loop : tie.InvT-loop
-Inv-loop w path kids₀ count v₀ kids v = Gathering (documentOf w) (givesPath path) kids v
+Inv-loop w path kids₀ count v₀ kids v = Gathering (documentOf w) path kids v
 
 abbrev μ-loop : tie.MeasureT-loop
 μ-loop w path kids₀ count v₀ kids v = count - v
@@ -50,8 +47,8 @@ loop-again c =
     let parent = c .before .before .before .before in
     let turn = parent .before .before in
     let start = turn .before .before .before in
-    gathering-put _ (turn .loop .inv) (start .pre .0 .0 .tree) (omega arith) (parent .document-parent .ensures) (c .insert64 .ensures)
-    (λ t. ap (eqb t) (sym (c .before .summary-of .ensures)))
+    gathering-step (turn .loop .inv) (start .pre .0 .0 .tree) (omega arith) (parent .document-parent .ensures) (c .before .summary-of .ensures)
+    (c .insert64 .ensures)
 
 returns : tie.Need-returns Inv-loop μ-loop
 returns c = gathering-end (c .before .loop .inv) (omega arith)
