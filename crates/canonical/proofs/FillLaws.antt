@@ -1,41 +1,29 @@
--- Filling up node by node: a visit goes through the summary's nodes in order, and each visit leaves the visits to come to reach the
--- same end. No table on the way is longer than the last. Assumes nothing.
-use Prim.Native.Nat.{ℕ, zero, suc, _+_, _-_, _≤_, _<_}
-use mathlib.Core.Path.{_≡_, refl, sym, ap, ap₂, _∙_, subst}
-use mathlib.Core.Bool.{Bool, true, false, _&&_}
-use mathlib.Core.List.{List, [], _∷_, _++_}
+-- Filling up node by node: a visit takes the strong children off their mask in order, and each visit leaves the visits to come to
+-- reach the same end. No table on the way is longer than the last. Assumes nothing.
+use Prim.Native.Nat.{ℕ, zero, suc, _+_, _-_, _^_, _≤_, _<_}
+use mathlib.Core.Path.{_≡_, refl, sym, ap, _∙_, subst}
+use mathlib.Core.Bool.{Bool, true, false}
+use mathlib.Core.List.{List, [], _∷_, _++_, append-nil, append-assoc, List·Memᴰ, List·Memᴰ·head, Memᴰ·append-right}
 use native.Mathlib.Omega.{arith}
-use native.Mathlib.Nat.{zero-add}
 use native.Mathlib.Numerals.{add-one}
-use lib.Dec.{eqb, ltb}
+use lib.Count.{trailingZeros}
+use lib.Dec.{ltb}
 use lib.ListN.{length, getD}
-use borrow.Author.Tests.{lt-ltb, le-ltb, eq-eqb, ne-eqb}
+use borrow.Author.Tests.{lt-ltb, le-ltb}
 use Rattle.model.specs.Limits.{maxSummary, maxCanonical}
-use Rattle.model.specs.Lists.{upFrom, keep, has}
-use Rattle.model.specs.Tree.{IsTree}
-use Rattle.model.specs.Summary.{Summary, asDocument, noSummaryRecord, summaryParent}
-use Rattle.model.specs.Embeddings.{childTest}
+use Rattle.model.specs.Lists.{has, members}
+use Rattle.model.specs.Summary.{Summary}
 use Rattle.model.specs.Fitting.{strongChildren}
+use Rattle.model.specs.Strong.{strongTable}
 use Rattle.model.specs.Canonical.{Spot, rootSpot, spotAt, hasChildOn, addMissing, addAll, fillNode, fillFrom}
-use Rattle.model.proofs.ListLaws.{by-bool, length-snoc}
-use Rattle.model.proofs.TreeLaws.{length-asDocument, test-child-and, child-lt}
-use Rattle.format.proofs.RangeLaws.{upFrom-last}
+use Rattle.model.proofs.ListLaws.{length-snoc}
+use Rattle.model.proofs.TreeLaws.{length-asDocument}
+use Rattle.model.proofs.Fitting.{strong-children-exact}
+use Rattle.model.proofs.Strong.{strong-members}
+use Rattle.bits.proofs.MaskMembers.{members-none, first-left}
 use Rattle.canonical.specs.Draft.{Draft, Drafted, appended}
-use Rattle.canonical.specs.Given.{strongTest, Missing, Visitable, Fillable}
+use Rattle.canonical.specs.Given.{Missing, Visitable, Fillable}
 use Rattle.canonical.proofs.DraftLaws.{drafted-on, drafted-child, drafted-append}
-
--- ---- lists
-
-keep-append : (test : ℕ → Bool) (xs ys : List ℕ) → keep test (xs ++ ys) ≡ keep test xs ++ keep test ys
-unfolding keep
-keep-append test [] ys = refl
-keep-append test (x ∷ xs) ys = go (test x) (keep-append test xs ys)
-  where
-    go : (t : Bool) → keep test (xs ++ ys) ≡ keep test xs ++ keep test ys
-        → (elim t as (λ _. List ℕ) [ true ↦ x ∷ keep test (xs ++ ys) | false ↦ keep test (xs ++ ys) ])
-        ≡ (elim t as (λ _. List ℕ) [ true ↦ x ∷ keep test xs | false ↦ keep test xs ]) ++ keep test ys
-    go true e = ap (λ (l : List ℕ). x ∷ l) e
-    go false e = e
 
 -- ---- missing children
 
@@ -82,108 +70,39 @@ fill-grows (suc k) S spots v = go (ltb v (length spots)) (fill-node-grows S spot
 
 -- ---- one child
 
-module _ (spots : List Spot) (v t : ℕ) (test : ℕ → Bool) where
-  -- not asked for, or there already
-  add-unasked : test t ≡ false → addAll spots v (keep test (t ∷ [])) ≡ spots
-  unfolding keep addAll
-  add-unasked e = rw (e, keep)
+module _ (spots : List Spot) (v t : ℕ) where
+  -- there already
+  add-there : hasChildOn spots v t ≡ true → addMissing spots v t ≡ spots
+  unfolding addMissing
+  add-there h = rw (h, addMissing)
 
-  add-there : test t ≡ true → hasChildOn spots v t ≡ true → addAll spots v (keep test (t ∷ [])) ≡ spots
-  unfolding keep addAll addMissing
-  add-there e h = rw (e, keep, h, addMissing)
+  -- missing
+  add-new : hasChildOn spots v t ≡ false → addMissing spots v t ≡ spots ++ record { parent = v; at = t; owner = getD spots v rootSpot .owner; filled = true } ∷ []
+  unfolding addMissing
+  add-new h = rw (h, addMissing)
 
-  -- asked for and missing
-  add-new : test t ≡ true → hasChildOn spots v t ≡ false
-      → addAll spots v (keep test (t ∷ [])) ≡ spots ++ record { parent = v; at = t; owner = getD spots v rootSpot .owner; filled = true } ∷ []
-  unfolding keep addAll addMissing
-  add-new e h = rw (e, keep, h, addMissing)
-
-module _ {S : Summary} (few : length S ≤ maxSummary) {spots : List Spot} {base now : Draft} {count : ℕ} (c : Drafted S spots base now count) (v t : ℕ) (test : ℕ → Bool)
-    (inside : v < count) (small : t < length S) where
-  pub unasked-drafted : test t ≡ false → Drafted S (addAll spots v (keep test (t ∷ []))) base now count
-  unasked-drafted e = subst (λ (x : List Spot). Drafted S x base now count) (sym (add-unasked spots v t test e)) c
-
+module _ {S : Summary} (few : length S ≤ maxSummary) {spots : List Spot} {base now : Draft} {count : ℕ} (c : Drafted S spots base now count) (v t : ℕ) (inside : v < count)
+    (small : t < length S) where
   there : {b : Bool} → has (getD (now .kids) v 0) t ≡ b → hasChildOn spots v t ≡ b
   there h = sym (drafted-child c v t inside (omega arith)) ∙ h
 
-  pub there-drafted : test t ≡ true → has (getD (now .kids) v 0) t ≡ true → Drafted S (addAll spots v (keep test (t ∷ []))) base now count
-  there-drafted e h = subst (λ (x : List Spot). Drafted S x base now count) (sym (add-there spots v t test e (there h))) c
+  pub there-drafted : has (getD (now .kids) v 0) t ≡ true → Drafted S (addMissing spots v t) base now count
+  there-drafted h = subst (λ (x : List Spot). Drafted S x base now count) (sym (add-there spots v t (there h))) c
 
-  pub new-room : test t ≡ true → has (getD (now .kids) v 0) t ≡ false → length (addAll spots v (keep test (t ∷ []))) ≤ maxCanonical → count < maxCanonical
-  new-room e h r =
+  pub new-room : has (getD (now .kids) v 0) t ≡ false → length (addMissing spots v t) ≤ maxCanonical → count < maxCanonical
+  new-room h r =
       let s : Spot = record { parent = v; at = t; owner = getD spots v rootSpot .owner; filled = true } in
-      let n : length (addAll spots v (keep test (t ∷ []))) ≡ length (spots ++ s ∷ []) = ap (λ (x : List Spot). length x) (add-new spots v t test e (there h)) in
+      let n : length (addMissing spots v t) ≡ length (spots ++ s ∷ []) = ap (λ (x : List Spot). length x) (add-new spots v t (there h)) in
       let m : length (spots ++ s ∷ []) ≡ suc (length spots) = length-snoc spots s in
       let q = c .counted in
       omega arith
 
-  pub new-drafted : test t ≡ true → has (getD (now .kids) v 0) t ≡ false → count < maxCanonical
-      → Drafted S (addAll spots v (keep test (t ∷ []))) base (appended S now count v t) (count + 1)
-  new-drafted e h r =
+  pub new-drafted : has (getD (now .kids) v 0) t ≡ false → count < maxCanonical → Drafted S (addMissing spots v t) base (appended S now count v t) (count + 1)
+  new-drafted h r =
       let s : Spot = record { parent = v; at = t; owner = getD spots v rootSpot .owner; filled = true } in
-      subst (λ (x : List Spot). Drafted S x base (appended S now count v t) (count + 1)) (sym (add-new spots v t test e (there h)))
-      (drafted-append c s inside small few r)
+      subst (λ (x : List Spot). Drafted S x base (appended S now count v t) (count + 1)) (sym (add-new spots v t (there h))) (drafted-append c s inside small few r)
 
 -- ---- one visit
-
--- the test of a strong child, case by case
-module _ (S : Summary) (s t : ℕ) where
-  pub strong-elsewhere : (summaryParent S t ≡ s → ⊥) → false ≡ strongTest S s t
-  unfolding strongTest childTest
-  strong-elsewhere ne =
-      by-bool (λ (b : Bool). false ≡ (b && eqb (summaryParent S t) s && eqb (getD S t noSummaryRecord .strong) 1)) (ltb 0 t && ltb t (length (asDocument S)))
-      (rw (ne-eqb (summaryParent S t) s ne)) refl
-
-  pub strong-by-edge : 0 < t → t < length S → summaryParent S t ≡ s → eqb (getD S t noSummaryRecord .strong) 1 ≡ strongTest S s t
-  unfolding strongTest childTest
-  strong-by-edge z h e =
-      let l : t < length (asDocument S) = (let n = length-asDocument S in omega arith) in
-      rw (lt-ltb 0 t z, lt-ltb t (length (asDocument S)) l, eq-eqb (summaryParent S t) s e)
-
-module _ (S : Summary) (s : ℕ) where
-  -- the strong children of s below t
-  abbrev strongBelow : ℕ → List ℕ
-  strongBelow t = keep (strongTest S s) (upFrom 0 t)
-
-  strong-all : strongChildren S s ≡ strongBelow (length S)
-  unfolding strongChildren strongTest
-  strong-all = refl
-
-  strong-next : (t : ℕ) → strongBelow (t + 1) ≡ strongBelow t ++ keep (strongTest S s) (t ∷ [])
-  strong-next t =
-      let f : ℕ → Bool = strongTest S s in
-      ap (keep f) (upFrom-last 0 t) ∙ keep-append f (upFrom 0 t) ((0 + t) ∷ []) ∙ ap (λ (x : ℕ). keep f (upFrom 0 t) ++ keep f (x ∷ [])) (zero-add t)
-
-  -- no node up to s is its child, since parents come first
-  strong-after : IsTree (asDocument S) → (t : ℕ) → t ≤ s → strongTest S s t ≡ false
-  unfolding strongTest
-  strong-after tree t h = go (strongTest S s t) refl
-    where
-      go : (b : Bool) → strongTest S s t ≡ b → strongTest S s t ≡ false
-      go true e =
-          let l : s < t = child-lt tree (test-child-and (asDocument S) s t (getD S t noSummaryRecord .strong) 1 e .0) in
-          absurd (omega arith)
-      go false e = e
-
-  strong-none : IsTree (asDocument S) → (t : ℕ) → t ≤ s + 1 → strongBelow t ≡ []
-  unfolding keep upFrom
-  strong-none tree zero h = refl
-  strong-none tree (suc t) h =
-      ap strongBelow (sym (add-one t)) ∙ strong-next t ∙ ap₂ (λ (xs ys : List ℕ). xs ++ ys) (strong-none tree t (omega arith)) (rw (strong-after tree t (omega arith), keep))
-
-  add-next : (spots : List Spot) (v t : ℕ) → addAll spots v (strongBelow (t + 1)) ≡ addAll (addAll spots v (strongBelow t)) v (keep (strongTest S s) (t ∷ []))
-  add-next spots v t = ap (addAll spots v) (strong-next t) ∙ add-append spots v (strongBelow t) (keep (strongTest S s) (t ∷ []))
-
-  -- no draft on the way is longer than that after the visit
-  strong-grows : (spots : List Spot) (v t k : ℕ) → length (addAll spots v (strongBelow t)) ≤ length (addAll spots v (strongBelow (t + k)))
-  strong-grows spots v t zero =
-      subst (λ (n : ℕ). length (addAll spots v (strongBelow t)) ≤ length (addAll spots v (strongBelow n))) (let z : t ≡ t + 0 = omega arith in z) (omega arith)
-  strong-grows spots v t (suc k) =
-      let a = strong-grows spots v t k in
-      let b = add-grows (addAll spots v (strongBelow (t + k))) v (keep (strongTest S s) ((t + k) ∷ [])) in
-      let e = ap (λ (x : List Spot). length x) (add-next spots v (t + k)) in
-      let z : t + suc k ≡ t + k + 1 = omega arith in
-      subst (λ (n : ℕ). length (addAll spots v (strongBelow t)) ≤ length (addAll spots v (strongBelow n))) (sym z) (omega arith)
 
 -- the summary node of a node that is visited
 pub visitable-on : {S : Summary} {spots : List Spot} {base now : Draft} {v count : ℕ} → Visitable S spots base now v count → (s : ℕ) → s ≡ getD (now .on) v 0 → s < length S
@@ -192,62 +111,75 @@ visitable-on {S} {spots} {v = v} m s e =
     let i = m .inside in
     subst (λ (x : ℕ). x < length S) (sym (e ∙ drafted-on (m .drafted) v i)) (m .drafted .inside v (omega arith) .1)
 
--- the children of v, which is on s, are there on the summary nodes before t
-pub record Visiting (S : Summary) (v count : ℕ) (before : Draft) (s : ℕ) (now : Draft) (total t : ℕ) : Type 0 where
-  pub positive : 0 < t
-  pub turns : t ≤ length S
-  pub drafted : (spots : List Spot) (base : Draft) → Drafted S spots base before count → Drafted S (addAll spots v (strongBelow S s t)) base now total
+-- v has its children on the strong children `done`; those in `rest` are left
+pub record Visiting (S : Summary) (v count : ℕ) (before now : Draft) (total rest : ℕ) : Type 0 where
+  pub fits : rest < 2 ^ 64
+  pub done : List ℕ
+  pub all : done ++ members rest ≡ strongChildren S (getD (before .on) v 0)
+  pub drafted : (spots : List Spot) (base : Draft) → Drafted S spots base before count → Drafted S (addAll spots v done) base now total
 
-module _ {S : Summary} {v count : ℕ} {before : Draft} {s : ℕ} where
-  pub visiting-start : {t : ℕ} → IsTree (asDocument S) → s < length S → t ≡ s + 1 → Visiting S v count before s before count t
-  unfolding addAll
-  visiting-start {t} tree h e =
-      record {
-        positive = omega arith;
-        turns = omega arith;
-        drafted = λ spots base c. subst (λ (ts : List ℕ). Drafted S (addAll spots v ts) base before count) (sym (strong-none S s tree t (omega arith))) c;
-      }
+-- s is the summary node that is read
+pub visiting-start : {S : Summary} {v count s rest : ℕ} {before : Draft} {strong : List ℕ} → length S ≤ maxSummary → s < length S → s ≡ getD (before .on) v 0 → strong ≡ strongTable S
+    → rest ≡ getD strong s 0 → rest < 2 ^ 64 → Visiting S v count before before count rest
+unfolding addAll
+visiting-start {S} {s = s} few h e t r w =
+    record {
+      fits = w;
+      done = [];
+      all = ap members (r ∙ ap (λ (l : List ℕ). getD l s 0) t) ∙ strong-members S s (omega arith) few ∙ ap (strongChildren S) e;
+      drafted = λ spots base c. c;
+    }
 
-  module _ {now : Draft} {total t : ℕ} (g : Visiting S v count before s now total t) where
-    -- what is asked for next is asked of a draft with room
-    pub visiting-missing : {spots : List Spot} {base : Draft} → Visitable S spots base before v count → s ≡ getD (before .on) v 0 → t < length S
-        → Missing S (addAll spots v (strongBelow S s t)) base now (keep (strongTest S s) (t ∷ [])) v total
-    unfolding fillNode
-    visiting-missing {spots} {base} m e h =
-        let d : Drafted S (addAll spots v (strongBelow S s t)) base now total = g .drafted spots base (m .drafted) in
-        let same : spotAt spots v ≡ s = sym (e ∙ drafted-on (m .drafted) v (m .inside)) in
-        let r : length (addAll spots v (strongBelow S s (length S))) ≤ maxCanonical =
-        subst (λ (ts : List ℕ). length (addAll spots v ts) ≤ maxCanonical) (ap (strongChildren S) same ∙ strong-all S s) (m .room) in
-        let a : length spots ≤ length (addAll spots v (strongBelow S s t)) = add-grows spots v (strongBelow S s t) in
-        let b : length (addAll spots v (strongBelow S s (t + 1))) ≤ length (addAll spots v (strongBelow S s (length S))) =
-        subst (λ (n : ℕ). length (addAll spots v (strongBelow S s (t + 1))) ≤ length (addAll spots v (strongBelow S s n)))
-        (let z : t + 1 + (length S - (t + 1)) ≡ length S = omega arith in z) (strong-grows S s spots v (t + 1) (length S - (t + 1))) in
-        let n : length (addAll spots v (strongBelow S s (t + 1))) ≡ length (addAll (addAll spots v (strongBelow S s t)) v (keep (strongTest S s) (t ∷ []))) =
-        ap (λ (x : List Spot). length x) (add-next S s spots v t) in
+module _ {S : Summary} {v count : ℕ} {before now : Draft} {total rest : ℕ} (g : Visiting S v count before now total rest) where
+  -- a visit of v asks for all of them
+  asked : {spots : List Spot} {base : Draft} → Drafted S spots base before count → v < count → strongChildren S (getD (before .on) v 0) ≡ strongChildren S (spotAt spots v)
+  asked c inside = ap (strongChildren S) (drafted-on c v inside)
+
+  module _ (ne : rest ≡ 0 → ⊥) {t : ℕ} (first : t ≡ trailingZeros 64 rest) where
+    -- t is the next
+    next : g .done ++ t ∷ members (rest - 2 ^ t) ≡ strongChildren S (getD (before .on) v 0)
+    next = ap (λ (l : List ℕ). g .done ++ l) (sym (first-left (g .fits) ne first refl)) ∙ g .all
+
+    pub visiting-inside : t < length S
+    visiting-inside =
+        subst (λ (n : ℕ). t < n) (length-asDocument S)
+        (strong-children-exact S (getD (before .on) v 0) t .0 (subst (λ (l : List ℕ). List·Memᴰ t l) next (Memᴰ·append-right (g .done) (List·Memᴰ·head refl))) .child .inside)
+
+    -- the draft has room for it
+    pub visiting-missing : {spots : List Spot} {base : Draft} → Visitable S spots base before v count → Missing S (addAll spots v (g .done)) base now v t total
+    unfolding fillNode addAll
+    visiting-missing {spots} {base} m =
+        let d : Drafted S (addAll spots v (g .done)) base now total = g .drafted spots base (m .drafted) in
+        let a : length spots ≤ length (addAll spots v (g .done)) = add-grows spots v (g .done) in
+        let b : length (addMissing (addAll spots v (g .done)) v t) ≤ length (addAll (addAll spots v (g .done)) v (t ∷ members (rest - 2 ^ t))) =
+        add-grows (addMissing (addAll spots v (g .done)) v t) v (members (rest - 2 ^ t)) in
+        let n : length (addAll (addAll spots v (g .done)) v (t ∷ members (rest - 2 ^ t))) ≡ length (fillNode S spots v) =
+        ap (λ (x : List Spot). length x) (sym (add-append spots v (g .done) (t ∷ members (rest - 2 ^ t))) ∙ ap (addAll spots v) (next ∙ asked (m .drafted) (m .inside))) in
         let i = m .inside in
+        let r = m .room in
         let p = m .drafted .counted in
         let q = d .counted in
         record { drafted = d; inside = omega arith; room = omega arith }
 
-    pub visiting-next : {after : Draft} {m : ℕ} → t < length S
-        → ((spots : List Spot) (base : Draft) → Drafted S spots base now total → Drafted S (addAll spots v (keep (strongTest S s) (t ∷ []))) base after m)
-        → Visiting S v count before s after m (t + 1)
-    visiting-next {after} {m} h f =
+    pub visiting-next : {rest′ m : ℕ} {after : Draft} → rest′ ≡ rest - 2 ^ t
+        → ((spots : List Spot) (base : Draft) → Drafted S spots base now total → Drafted S (addMissing spots v t) base after m)
+        → Visiting S v count before after m rest′
+    unfolding addAll
+    visiting-next {rest′} {m} {after} e f =
         record {
-          positive = omega arith;
-          turns = omega arith;
+          fits = let w = g .fits in omega arith;
+          done = g .done ++ t ∷ [];
+          all = append-assoc (g .done) (t ∷ []) (members rest′) ∙ ap (λ (x : ℕ). g .done ++ t ∷ members x) e ∙ next;
           drafted = λ spots base c.
-              subst (λ (x : List Spot). Drafted S x base after m) (sym (add-next S s spots v t)) (f (addAll spots v (strongBelow S s t)) base (g .drafted spots base c));
+              subst (λ (x : List Spot). Drafted S x base after m) (sym (add-append spots v (g .done) (t ∷ []))) (f (addAll spots v (g .done)) base (g .drafted spots base c));
         }
 
-    pub visiting-end : s ≡ getD (before .on) v 0 → v < count → length S ≤ t → (spots : List Spot) (base : Draft) → Drafted S spots base before count
-        → Drafted S (fillNode S spots v) base now total
-    unfolding fillNode
-    visiting-end e inside h spots base c =
-        let l = g .turns in
-        let same : s ≡ spotAt spots v = e ∙ drafted-on c v inside in
-        subst (λ (ts : List ℕ). Drafted S (addAll spots v ts) base now total)
-        (ap (strongBelow S s) (let z : t ≡ length S = omega arith in z) ∙ sym (strong-all S s) ∙ ap (strongChildren S) same) (g .drafted spots base c)
+  pub visiting-end : v < count → rest ≡ 0 → (spots : List Spot) (base : Draft) → Drafted S spots base before count → Drafted S (fillNode S spots v) base now total
+  unfolding fillNode
+  visiting-end inside z spots base c =
+      let none : members rest ≡ [] = ap members z ∙ members-none in
+      subst (λ (ts : List ℕ). Drafted S (addAll spots v ts) base now total)
+      (sym (append-nil (g .done)) ∙ ap (λ (l : List ℕ). g .done ++ l) (sym none) ∙ g .all ∙ asked c inside) (g .drafted spots base c)
 
 -- ---- all visits
 

@@ -1,17 +1,15 @@
 -- What the layout and each of its phases are given, and what they leave.
-use Prim.Native.Nat.{ℕ, _+_, _-_, _≤_, _<_}
+use Prim.Native.Nat.{ℕ, _+_, _≤_, _<_}
 use mathlib.Core.Path.{_≡_}
-use mathlib.Core.Bool.{Bool, _&&_}
 use mathlib.Core.List.{List, map}
-use lib.Dec.{eqb}
-use lib.ListN.{length, getD, take, replicate}
+use lib.ListN.{length, take, replicate}
 use Rattle.model.specs.Limits.{maxCanonical}
 use Rattle.model.specs.Tree.{AtOrBelow}
-use Rattle.model.specs.Summary.{Summary, asDocument, noSummaryRecord}
+use Rattle.model.specs.Summary.{Summary, asDocument}
 use Rattle.model.specs.Pattern.{Pattern, SummaryEmbedding}
-use Rattle.model.specs.Embeddings.{imageIn, childTest}
+use Rattle.model.specs.Embeddings.{imageIn}
 use Rattle.model.specs.Bytes.{encodeDocument, writtenAtFront}
-use Rattle.model.specs.Canonical.{Spot, chain, appendChain, addAll, fillNode, fillFrom, canonicalSpots, canonical, ownNodes}
+use Rattle.model.specs.Canonical.{Spot, chain, appendChain, addMissing, fillNode, fillFrom, canonicalSpots, canonical, ownNodes}
 use Rattle.format.specs.Given.{summaryIn, patternAt, SummaryGiven, PatternGiven}
 use Rattle.canonical.specs.Draft.{Draft, Drafted}
 use Rattle.canonical.specs.declared.LaidOut.{LaidOut}
@@ -44,11 +42,6 @@ pub record Hanging (S : Summary) (a b v count : ℕ) : Type 0 where
   pub hangs : v < count
   pub room : count + length (chain S a b) ≤ maxCanonical
 
--- where n nodes are laid out and the chain began at number count, its next node hangs from h: from v, or from the last node
-pub record HangsFrom (v count n h : ℕ) : Type 0 where
-  pub first : n ≡ count → h ≡ v
-  pub next : (n ≡ count → ⊥) → h ≡ n - 1
-
 -- what appending it leaves: n nodes, the chain's among them
 pub record Hung (S : Summary) (a b v count : ℕ) (before after : Draft) (n : ℕ) : Type 0 where
   pub counted : n ≡ count + length (chain S a b)
@@ -57,15 +50,11 @@ pub record Hung (S : Summary) (a b v count : ℕ) (before after : Draft) (n : �
 
 -- ---- filling up
 
--- t is a strong child of s
-unfoldable pub strongTest : Summary → ℕ → ℕ → Bool
-strongTest S s t = childTest (asDocument S) s t && eqb (getD S t noSummaryRecord .strong) 1
-
--- node v gets its missing children on the summary nodes ts
-pub record Missing (S : Summary) (spots : List Spot) (base now : Draft) (ts : List ℕ) (v count : ℕ) : Type 0 where
+-- node v gets its child on summary node t, if it has none
+pub record Missing (S : Summary) (spots : List Spot) (base now : Draft) (v t count : ℕ) : Type 0 where
   pub drafted : Drafted S spots base now count
   pub inside : v < count
-  pub room : length (addAll spots v ts) ≤ maxCanonical
+  pub room : length (addMissing spots v t) ≤ maxCanonical
 
 -- node v is visited
 pub record Visitable (S : Summary) (spots : List Spot) (base now : Draft) (v count : ℕ) : Type 0 where

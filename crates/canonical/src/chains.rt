@@ -1,9 +1,11 @@
 // The chains: for each further pattern node in table order, new document nodes from its parent's own node down to its image.
 
 use crate::LaidOut;
-use crate::draft::Hook;
 use crate::draft::append;
 use crate::draft::root;
+use bits::first64;
+use bits::insert64;
+use bits::without64;
 use format::nodes::DocumentNode;
 use format::nodes::PatternNode;
 use format::nodes::SummaryNode;
@@ -13,25 +15,40 @@ use format::pattern::pattern_count;
 use format::pattern::pattern_parent;
 use format::summary::summary_parent;
 ghost use mathlib.Core.Path.{_≡_};
-ghost use Prim.Native.Nat.{_≤_};
 ghost use lib.ListN.{replicate};
+ghost use Rattle.model.specs.Lists.{members};
+ghost use Rattle.model.specs.Tree.{AtOrBelow};
+ghost use Rattle.model.specs.Summary.{asDocument};
 ghost use Rattle.model.specs.Bytes.{writtenAtFront};
-ghost use Rattle.model.specs.Canonical.{chains as chainsOf};
+ghost use Rattle.model.specs.Canonical.{chain, chains as chainsOf};
 ghost use Rattle.format.specs.Given.{summaryIn, patternAt, SummaryGiven};
 ghost use Rattle.canonical.specs.Draft.{draft, Roomy, Drafted};
-ghost use Rattle.canonical.specs.Given.{embeddingIn, Embedded, Hanging, HangsFrom, Hung};
+ghost use Rattle.canonical.specs.Given.{embeddingIn, Embedded, Hanging, Hung};
 
-// Where n nodes are laid out, the node that a chain's next one hangs from: v where the chain is to begin at number count, else the
-// last node.
-fn hangs_from(v: DocumentNode, count: usize, n: usize) -> DocumentNode
-    requires { ⌜ count ≤ n ⌝ }
-    ensures { λ r. ⌜ HangsFrom (v .0) count n (r .0) ⌝ }
-{
-    if n == count { v } else { DocumentNode(n - 1) }
+// What a chain hangs from: a document node and the summary node that it is on.
+struct Hook {
+    node: DocumentNode,
+    on: SummaryNode,
 }
 
-// The summary nodes from below the hook's down to b, top first, each as a new node; the first hangs from the hook's node. The result
-// is the new count.
+// The summary nodes from below a down to b, as a mask: a parent has a smaller number than its child, so in ascending order they are
+// top first.
+fn climb(case: &[u8], a: SummaryNode, b: SummaryNode) -> u64
+    requires { ⌜ SummaryGiven (now case) × AtOrBelow (asDocument (summaryIn (now case))) (a .0) (b .0) ⌝ }
+    ensures { λ r. ⌜ members r ≡ chain (summaryIn (now (case .entry))) (a .0) (b .0) ⌝ }
+{
+    let top = a.0;
+    let mut x = b.0;
+    let mut nodes = 0u64;
+    while x != top {
+        nodes = insert64(nodes, x);
+        x = summary_parent(case, SummaryNode(x)).0;
+    }
+    nodes
+}
+
+// The summary nodes from below the hook's down to b, top first, each as a new node: the first hangs from the hook's node, each next
+// from the one before. The result is the new count.
 fn append_chain(
     case: &[u8],
     from: Hook,
@@ -46,22 +63,25 @@ fn append_chain(
     ensures { λ r. ⌜ Hung (summaryIn (now (case .entry))) (from .on .0) (b .0) (from .node .0) count
         (draft (now (answer .entry)) (now (on .entry)) (now (kids .entry))) (draft (now (answer .exit)) (now (on .exit)) (now (kids .exit))) r ⌝ }
 {
-    let top = from.on.0;
-    let end = b.0;
-    if top == end {
-        return count;
+    let mut rest = climb(case, from.on, b);
+    let mut v = from.node.0;
+    let mut total = count;
+    while rest != 0 {
+        let x = first64(rest);
+        rest = without64(rest, x);
+        let n = append(
+            case,
+            DocumentNode(v),
+            SummaryNode(x),
+            total,
+            answer,
+            on,
+            kids,
+        );
+        v = total;
+        total = n;
     }
-    let above = summary_parent(case, b);
-    let n = append_chain(case, from, above, count, answer, on, kids);
-    append(
-        case,
-        hangs_from(from.node, count, n),
-        b,
-        n,
-        answer,
-        on,
-        kids,
-    )
+    total
 }
 
 // The root, then the chain of each further pattern node: the count, and own nodes by pattern node.

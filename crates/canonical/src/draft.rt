@@ -15,12 +15,6 @@ ghost use Rattle.model.specs.Canonical.{rootSpot};
 ghost use Rattle.format.specs.Given.{summaryIn, SummaryGiven};
 ghost use Rattle.canonical.specs.Draft.{draft, Roomy, Drafted, appended};
 
-// What new nodes hang from: a document node and the summary node that it is on.
-pub struct Hook {
-    pub node: DocumentNode,
-    pub on: SummaryNode,
-}
-
 // Node 0 is the root, on summary node 0. The result is the count. The section's count is not known yet: 0 stands for it.
 pub fn root(case: &[u8], answer: &mut [u8], on: &mut [u16], kids: &mut [u64]) -> usize
     requires { ⌜ SummaryGiven (now case) ⌝ }

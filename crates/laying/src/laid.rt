@@ -9,6 +9,7 @@ use format::nodes::SummaryNode;
 use format::nodes::summary_of;
 use questions::pattern::numbered_at;
 use questions::refusals::layout_refusal;
+use strong::strong_table;
 ghost use mathlib.Core.Path.{_≡_};
 ghost use Prim.Native.Nat.{_<_, _≤_};
 ghost use lib.ListN.{length};
@@ -76,11 +77,12 @@ fn accepted_layout(case: &[u8], number: u64, list: &[u8]) -> Laid
     ensures { λ r. ⌜ LaidBy (now (case .entry)) number (now (list .entry)) minTable r ⌝ }
 {
     let at = numbered_at(case, number);
+    let strong = strong_table(case);
     let mut images = [0u16; 16];
     read_list(list, &mut images);
     let mut document = [0u8; 4096];
     let mut on = [0u16; 1024];
-    let count = lay_out(case, at, &images, &mut document, &mut on).count;
+    let count = lay_out(case, &strong, at, &images, &mut document, &mut on).count;
     let nodes = records_of(&document, &on, count);
     Laid {
         refused: 0,

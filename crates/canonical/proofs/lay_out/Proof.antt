@@ -14,7 +14,10 @@ abbrev chained : tie.After-fill → tie.After-chains
 chained c = c .before .before .before .before .before .before .before .before .before
 
 fill-requires : tie.Need-fill-requires
-fill-requires c κs = let k = c .before .before .before .before .before .before .before .before in (start k .pre .0 .summary, (_, _, _, chains-fillable (start k .pre .0) (k .chains .ensures .0)))
+fill-requires c κs =
+    let k = c .before .before .before .before .before .before .before .before in
+    let s = start k in
+    ((s .pre .0 .summary, s .pre .1 .1), (_, _, _, chains-fillable (s .pre .0) (k .chains .ensures .0)))
 
 cast-put-field : tie.Need-cast-put-field
 cast-put-field c =

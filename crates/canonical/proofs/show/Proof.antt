@@ -15,11 +15,11 @@ start c = c .before .before .before .before .before .before
 
 -- at most 1,009 nodes are laid out
 few : (c : tie.After-lay-out) → c .lay-out .result .count ≤ maxCanonical
-few c = shown-small (start c .pre .0) (c .lay-out .ensures)
+few c = shown-small (start c .pre .0 .0) (c .lay-out .ensures)
 
 own-result-requires : tie.Need-own-result-requires
 own-result-requires c κs =
-    let h = start (c .before .before .before .before .before) .pre .0 in
+    let h = start (c .before .before .before .before .before) .pre .0 .0 in
     ((h .embedded .pattern .whole, h .few), λ i l. omega (arith, held h i l, h .embedded .pattern .few, own-length h (c .before .before .before .before .before .lay-out .ensures)))
 
 mul-end : tie.Need-mul-end
@@ -29,21 +29,21 @@ add-end : tie.Need-add-end
 add-end c = omega (arith, few (c .before .before .before .before .before .before .before))
 
 sub-write-counted : tie.Need-sub-write-counted
-sub-write-counted c = let l = c .before .before .before .before .before .before .before .before in omega (arith, few l, start l .pre .1, l .lay-out .kept .1 .1 .1 .0)
+sub-write-counted c = let l = c .before .before .before .before .before .before .before .before in omega (arith, few l, start l .pre .0 .1, l .lay-out .kept .1 .1 .1 .1 .0)
 
 part-write-counted-start : tie.Need-part-write-counted-start
-part-write-counted-start c = let l = c .before .before .before .before .before .before .before .before in omega (arith, few l, start l .pre .1, l .lay-out .kept .1 .1 .1 .0)
+part-write-counted-start c = let l = c .before .before .before .before .before .before .before .before in omega (arith, few l, start l .pre .0 .1, l .lay-out .kept .1 .1 .1 .1 .0)
 
 write-counted-requires : tie.Need-write-counted-requires
 write-counted-requires c κs =
     let l = c .before .before .before .before .before .before .before .before .before in
-    let h = start l .pre .0 in
-    (search needs, omega (arith, h .few), simp (length-take, length-drop) (omega (arith, few l, h .few, start l .pre .1, l .lay-out .kept .1 .1 .1 .0)))
+    let h = start l .pre .0 .0 in
+    (search needs, omega (arith, h .few), simp (length-take, length-drop) (omega (arith, few l, h .few, start l .pre .0 .1, l .lay-out .kept .1 .1 .1 .1 .0)))
 
 returns : tie.Need-returns
 returns c =
     let l = c .before .before .before .before .before .before .before .before .before .before .before .before in
-    let h = start l .pre .0 in
+    let h = start l .pre .0 .0 in
     let w = l .lay-out .ensures in
     front-part _ _ _ (shown-end h w) (w .section)
     (shown-result h w (replicate 8 0) _ (c .before .before .before .before .before .before .own-result .ensures) (c .before .before .write-counted .ensures .1))

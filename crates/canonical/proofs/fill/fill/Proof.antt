@@ -15,12 +15,12 @@ use Rattle.canonical.proofs.fill.fill.Statement.{statement}
 use Rattle.canonical.proofs.fill.fill.Tie as tie
 
 abbrev Inv-loop : tie.InvT-loop
-Inv-loop case count answer₀ on₀ kids₀ total₀ v₀ answer on kids total v =
+Inv-loop case strong count answer₀ on₀ kids₀ total₀ v₀ answer on kids total v =
     (spots : List Spot) (base : Draft) (k : ℕ)
     → Fillable (summaryIn case) spots base (draft answer₀ on₀ kids₀) count k → Filling (summaryIn case) spots base (draft answer on kids) k v total
 
 abbrev μ-loop : tie.MeasureT-loop
-μ-loop case count answer₀ on₀ kids₀ total₀ v₀ answer on kids total v = maxCanonical - v
+μ-loop case strong count answer₀ on₀ kids₀ total₀ v₀ answer on kids total v = maxCanonical - v
 
 -- the function's entry, seen from the loop's head
 abbrev start : tie.At-loop Inv-loop μ-loop → tie.Start Inv-loop μ-loop
