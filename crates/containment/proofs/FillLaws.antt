@@ -13,18 +13,18 @@ use lib.ListN.{length, getD, set, take, drop, replicate, length-drop, List·getD
 use lib.Seq.{getD-take, getD-drop, getD-set-same, getD-set-other, length-take-le}
 use borrow.Author.Count.{below-more}
 use borrow.Author.Tests.{eqb-true, eqb-false, eq-eqb, ne-eqb}
-use Rattle.model.specs.Lists.{upFrom, has}
+use Rattle.model.specs.Lists.{upFrom, has, members}
 use Rattle.model.specs.Pattern.{Pattern, noPatternRecord, patternParent, descends, position}
 use Rattle.model.proofs.ListLaws.{not-both, and-intro, and-left, and-right, keep-elim, keep-intro, mem-upFrom}
 use Rattle.bits.proofs.MaskLaws.{has-none, has-and}
 use Rattle.cover.specs.Cover.{Inside, Within, Among}
+use Rattle.judging.specs.Blocks.{cell, childIn, belowIn, partIn, candidatesIn}
+use Rattle.judging.specs.Prepared.{Made}
+use Rattle.judging.specs.Skipping.{PlacedBy}
+use Rattle.judging.specs.Stepping.{Candidates, reachBy, placesBy}
+use Rattle.bits.proofs.MaskMembers.{members-none, first-left, rest-less}
 use Rattle.containment.specs.Alternatives.{givenOf, offeredOf, nodeOf, Raises, Grown, Copied, startIn, manyIn, PartOf, Entry, Alternatives, Table, Known, At, FarBelow, Toward, Covered, Pointed, mattersBy, Fillable}
-use Rattle.containment.specs.Blocks.{cell, childIn, belowIn, partIn, candidatesIn}
-use Rattle.containment.specs.Prepared.{Made}
-use Rattle.containment.specs.Skipping.{PlacedBy}
-use Rattle.containment.specs.Stepping.{Candidates, members, reachBy, placesBy}
 use Rattle.containment.proofs.JoinLaws.{none-inside}
-use Rattle.containment.proofs.MaskMembers.{members-none, first-left, rest-less}
 use Rattle.containment.proofs.Offered.{child-inside, toward, offered-given, own-offered, below-offered}
 use Rattle.containment.proofs.StepLoop.{reach-far}
 

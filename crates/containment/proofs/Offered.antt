@@ -21,18 +21,18 @@ use Rattle.model.proofs.TreeLaws.{test-edge, edge-below, test-child, child-test
 use Rattle.model.proofs.Chains.{first-step, child-below, chain-step, chain-self}
 use Rattle.model.proofs.QuickLaws.{hold, hang-nil, hang-cons, given-intro}
 use Rattle.cover.specs.Cover.{Inside}
-use Rattle.containment.specs.Blocks.{childIn, belowIn, lastIn, setsIn, candidatesIn}
-use Rattle.containment.specs.Judging.{Sets, nodeBy, hangBy, passBy, givenBy, rootBy, judgeBy}
+use Rattle.judging.specs.Blocks.{childIn, belowIn, lastIn, setsIn, candidatesIn}
+use Rattle.judging.specs.Judging.{Sets, nodeBy, hangBy, passBy, givenBy, rootBy, judgeBy}
+use Rattle.judging.specs.Prepared.{Made}
+use Rattle.judging.specs.Skipping.{PlacedBy}
+use Rattle.judging.specs.Stepping.{Candidates, reachBy}
+use Rattle.judging.proofs.ChainLaws.{hang-mask}
+use Rattle.judging.proofs.Judging.{given-mask, settled-mask, settled-less}
+use Rattle.judging.proofs.Deciding.{reach-mask}
+use Rattle.judging.proofs.OfferLaws.{Subset, in-mask, mask-of-more, node-sub, hang-sub, root-sub}
 use Rattle.containment.specs.Members.{judgedBySome, RowsSettled}
-use Rattle.containment.specs.Prepared.{Made}
-use Rattle.containment.specs.Skipping.{PlacedBy}
-use Rattle.containment.specs.Stepping.{Candidates, reachBy}
 use Rattle.containment.specs.Alternatives.{givenOf, offeredOf, metBySome, Toward}
-use Rattle.containment.proofs.ChainLaws.{hang-mask}
-use Rattle.containment.proofs.Deciding.{reach-mask}
-use Rattle.containment.proofs.Judging.{given-mask, settled-mask, settled-less}
-use Rattle.containment.proofs.OfferLaws.{Subset, in-mask, mask-of-more, node-sub, hang-sub, root-sub}
-use Rattle.containment.proofs.Skipping.{placed-embeds, images-inside}
+use Rattle.containment.proofs.Skipping.{placed-embeds}
 
 module _ {ts : List (List ℕ)} {m : List ℕ} {P : Pattern} (R : Made ts m P) where
   abbrev S : Summary
@@ -118,9 +118,6 @@ module _ {ts : List (List ℕ)} {m : List ℕ} {P : Pattern} (R : Made ts m P) w
     sub-offered : (a : List ℕ) (c x : ℕ) → c < length P → Below (asDocument S) x (imageIn es c) → ((i : ℕ) → i < length ts → Subset (getD a i 0) (maskBelow (chained i c x) (length (Q i)))) → Inside (length ts) a (offeredOf ts P es c x)
     unfolding offeredOf
     sub-offered a c x k d s = record { each = λ i p h e. ap (λ (b : ℕ). has b p) (offered-is i c x h k d) ∙ s i h p e }
-
-    image-inside : (c : ℕ) → c < length P → imageIn es c < length S
-    image-inside = images-inside S P M (R .steps) (R .facts) (R .tree) (R .narrow) (length P) es (omega arith) G
 
     -- ---- the way up
 

@@ -11,18 +11,18 @@ use lib.ListN.{length, getD, set, take, length-set}
 use lib.Seq.{getD-set-same, getD-set-other, getD-take, length-take-le}
 use borrow.Author.Count.{below-more}
 use borrow.Author.Tests.{eqb-true, eqb-false}
-use Rattle.model.specs.Lists.{upFrom, has}
+use Rattle.model.specs.Lists.{upFrom, has, members}
 use Rattle.model.specs.Pattern.{Pattern, patternParent, descends}
 use Rattle.model.proofs.ListLaws.{and-left, keep-elim}
 use Rattle.bits.proofs.MaskLaws.{has-and}
 use Rattle.cover.specs.Cover.{Inside, Among}
+use Rattle.judging.specs.Blocks.{candidatesIn}
+use Rattle.judging.specs.Prepared.{Made}
+use Rattle.judging.specs.Skipping.{PlacedBy}
+use Rattle.judging.specs.Stepping.{Candidates, reachBy, placesBy}
 use Rattle.containment.specs.Alternatives.{givenOf, offeredOf, RowBy, passOf, Met, Entry, Table, Finishes, LeftOpen, AllCovered}
-use Rattle.containment.specs.Blocks.{candidatesIn}
 use Rattle.containment.specs.Members.{judgedBySome, RowsSettled}
 use Rattle.containment.specs.Open.{Begun, ListBy, RaisedOf, Turned}
-use Rattle.containment.specs.Prepared.{Made}
-use Rattle.containment.specs.Skipping.{PlacedBy}
-use Rattle.containment.specs.Stepping.{members, Candidates, reachBy, placesBy}
 use Rattle.containment.proofs.Offered.{offered-given, passed-given, met-passes, settled-inside}
 use Rattle.containment.proofs.RowsLaws.{rows-same}
 use Rattle.containment.proofs.Skipping.{listed-finishes}

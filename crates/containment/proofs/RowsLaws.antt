@@ -9,12 +9,12 @@ use Rattle.model.specs.Lists.{upFrom}
 use Rattle.model.specs.Limits.{maxMembers}
 use Rattle.model.specs.Pattern.{Pattern, IsPatternTree, patternParent}
 use Rattle.model.proofs.ListLaws.{any-agree, upFrom-mem}
+use Rattle.judging.specs.Blocks.{lastIn, setsIn}
+use Rattle.judging.specs.Judging.{rootBy, judgeBy}
+use Rattle.judging.specs.Settling.{Lasts, foldedRow}
+use Rattle.judging.proofs.SettleLaws.{row-whole, row-same, row-kept, row-next, row-start}
 use Rattle.containment.specs.Alternatives.{metBySome}
-use Rattle.containment.specs.Blocks.{lastIn, setsIn}
-use Rattle.containment.specs.Judging.{rootBy, judgeBy}
 use Rattle.containment.specs.Members.{judgedBySome, RowsSettled, RowsFolded, RowsWhole}
-use Rattle.containment.specs.Settling.{Lasts, foldedRow}
-use Rattle.containment.proofs.SettleLaws.{row-whole, row-same, row-kept, row-next, row-start}
 
 module _ (P : Pattern) (tree : IsPatternTree P) {ts : List (List ℕ)} {m : List ℕ} where
   pub rows-whole : {q : ℕ} {es : List ℕ} {rows : List (List ℕ)} → RowsSettled ts m P q es rows → q ≡ length P → RowsWhole ts P es rows

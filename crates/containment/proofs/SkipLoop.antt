@@ -9,12 +9,12 @@ use lib.Dec.{ltb}
 use lib.ListN.{length, getD, set, take}
 use lib.Seq.{getD-take, getD-set-same, getD-set-other}
 use borrow.Author.Tests.{ltb-true, ltb-false}
-use Rattle.model.specs.Lists.{has}
+use Rattle.model.specs.Lists.{has, members}
 use Rattle.model.specs.Pattern.{Pattern, IsPatternTree, patternParent}
 use Rattle.model.specs.Skipping.{skip}
-use Rattle.containment.specs.Stepping.{Candidates, members, stepFrom, placesBy, sitesBy}
+use Rattle.judging.specs.Skipping.{leftBy, PlacedBy, Counts}
+use Rattle.judging.specs.Stepping.{Candidates, stepFrom, placesBy, sitesBy}
 use Rattle.containment.specs.Steps.{progressOf, Stepped}
-use Rattle.containment.specs.Skipping.{leftBy, PlacedBy, Counts}
 use Rattle.containment.specs.declared.Budget.{Budget}
 use Rattle.containment.specs.declared.Run.{Run}
 use Rattle.containment.proofs.Skipping.{covered-skips}

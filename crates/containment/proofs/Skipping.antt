@@ -12,7 +12,7 @@ use lib.Dec.{ltb}
 use lib.ListN.{length, getD, take}
 use lib.Seq.{length-take-le, getD-take}
 use borrow.Author.Tests.{ltb-true, ltb-false}
-use Rattle.model.specs.Lists.{upFrom, keep, maskBelow, has}
+use Rattle.model.specs.Lists.{upFrom, keep, maskBelow, has, members}
 use Rattle.model.specs.Tree.{parentOf, Edge, Below}
 use Rattle.model.specs.Summary.{Summary, asDocument}
 use Rattle.model.specs.Pattern.{Pattern, IsPatternTree, patternParent, descends, Embeds}
@@ -21,21 +21,20 @@ use Rattle.model.specs.Facts.{SummaryFacts}
 use Rattle.model.specs.Verdict.{going, run}
 use Rattle.model.specs.Skipping.{placesOf, productOf, completions, ways, waysLeft, skip}
 use Rattle.model.proofs.ListLaws.{and-left, and-right, upFrom-mem, keep-elim}
-use Rattle.model.proofs.Masks.{mask-below}
+use Rattle.model.proofs.Masks.{mask-below, members-mask}
 use Rattle.model.proofs.TreeLaws.{test-edge, edge-below, length-asDocument}
 use Rattle.model.proofs.WaysLaws.{product-agree, length-completions}
 use Rattle.model.proofs.Skipping.{Completes, completions-sound, run-skip, skip-capped}
 use Rattle.bits.proofs.MaskLaws.{mask-and}
-use Rattle.containment.specs.Prepared.{StepSets}
+use Rattle.judging.specs.Blocks.{cell}
+use Rattle.judging.specs.Prepared.{StepSets}
+use Rattle.judging.specs.Skipping.{loop, waysTable, leftTurn, leftBy, PlacedBy, Counts}
+use Rattle.judging.specs.Stepping.{stepFrom, Candidates, placesBy, sitesBy}
+use Rattle.model.proofs.KeepLaws.{keep-keep, flat-agree}
+use Rattle.judging.proofs.Deciding.{reach-mask, path-parts}
+use Rattle.judging.proofs.RowLaws.{loop-keep, loop-product}
+use Rattle.judging.proofs.SkipTables.{ways-table}
 use Rattle.containment.specs.Alternatives.{Finishes}
-use Rattle.containment.specs.Blocks.{cell}
-use Rattle.containment.specs.Stepping.{members, stepFrom, Candidates, placesBy, sitesBy}
-use Rattle.containment.specs.Skipping.{loop, waysTable, leftTurn, leftBy, PlacedBy, Counts}
-use Rattle.containment.proofs.KeepLaws.{keep-keep, flat-agree}
-use Rattle.containment.proofs.MaskMembers.{members-mask}
-use Rattle.containment.proofs.Deciding.{reach-mask, path-parts}
-use Rattle.containment.proofs.RowLaws.{loop-keep, loop-product}
-use Rattle.containment.proofs.SkipTables.{ways-table}
 
 -- ---- completions
 

@@ -15,19 +15,19 @@ use lib.Dec.{eqb}
 use lib.ListN.{length, getD, set, take, length-set}
 use lib.Seq.{length-take-le, take-length, take-take, take-suc-set, take-set-le, getD-take, getD-set-same, getD-set-other}
 use borrow.Author.Tests.{eqb-true, eqb-false}
-use Rattle.model.specs.Lists.{has}
+use Rattle.model.specs.Lists.{has, members}
 use Rattle.model.specs.Pattern.{Pattern, patternParent, descends}
 use Rattle.model.specs.Verdict.{Progress, going, failed, halted, step, run}
 use Rattle.model.proofs.Verdict.{run-append, run-failed, run-halted, step-pass, step-fail}
-use Rattle.containment.specs.Room.{Steppable}
-use Rattle.containment.specs.Stepping.{Candidates, members, stepFrom, reachBy, placesBy, sitesBy, allBy}
+use Rattle.judging.specs.Room.{Steppable}
+use Rattle.judging.specs.Stepping.{Candidates, stepFrom, reachBy, placesBy, sitesBy, allBy}
+use Rattle.model.proofs.KeepLaws.{flat-cons}
+use Rattle.bits.proofs.MaskMembers.{members-none, first-left}
 use Rattle.containment.specs.Steps.{goingBy, progressOf, Stepped}
 use Rattle.containment.proofs.Run.{the-type}
 use Rattle.containment.specs.declared.Budget.{Budget}
 use Rattle.containment.specs.declared.Run.{Run}
 use Rattle.containment.specs.declared.Run.the-variants.{Going, Failed, Stopped}
-use Rattle.containment.proofs.KeepLaws.{flat-cons}
-use Rattle.containment.proofs.MaskMembers.{members-none, first-left}
 
 -- ---- one embedding tried
 

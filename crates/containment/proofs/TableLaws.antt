@@ -5,8 +5,8 @@ use mathlib.Core.List.{List, []}
 use native.Mathlib.Omega.{arith}
 use lib.ListN.{length, getD, replicate, getD-replicate}
 use Rattle.model.specs.Pattern.{Pattern}
+use Rattle.judging.specs.Blocks.{cell}
 use Rattle.containment.specs.Alternatives.{Table, Known}
-use Rattle.containment.specs.Blocks.{cell}
 
 module _ (ts : List (List ℕ)) (m : List ℕ) (P : Pattern) where
   table-none : (alts : List (List ℕ)) → ((i : ℕ) → i < 1024 → getD (getD alts i []) 1 0 ≡ 0) → Table ts m P alts

@@ -13,13 +13,13 @@ use Rattle.model.specs.Lists.{has}
 use Rattle.model.specs.Pattern.{Pattern, patternParent, descends, position}
 use Rattle.format.specs.Given.{patternAt, PatternGiven}
 use Rattle.cover.specs.Cover.{Inside, Among}
-use Rattle.containment.specs.Blocks.{cell, childIn, belowIn, setsIn, candidatesIn}
-use Rattle.containment.specs.Judging.{nodeBy, hangBy, passBy, givenBy, rootBy}
+use Rattle.judging.specs.Blocks.{cell, childIn, belowIn, setsIn, candidatesIn}
+use Rattle.judging.specs.Judging.{nodeBy, hangBy, passBy, givenBy, rootBy}
+use Rattle.judging.specs.Prepared.{Made}
+use Rattle.judging.specs.Room.{MembersGiven}
+use Rattle.judging.specs.Skipping.{PlacedBy}
+use Rattle.judging.specs.Stepping.{Candidates, reachBy, stepFrom, sitesBy}
 use Rattle.containment.specs.Members.{bySome, judgedBySome}
-use Rattle.containment.specs.Prepared.{Made}
-use Rattle.containment.specs.Room.{MembersGiven}
-use Rattle.containment.specs.Skipping.{PlacedBy}
-use Rattle.containment.specs.Stepping.{Candidates, reachBy, stepFrom, sitesBy}
 
 -- ---- in a whole embedding es, of member i whether its node p is offered
 

@@ -1,12 +1,4 @@
 pub mod Answer
-pub mod Blocks
-pub mod Judging
-pub mod Prepared
-pub mod Room
-pub mod Sets
-pub mod Settling
-pub mod Skipping
-pub mod Stepping
 pub mod Steps
 pub mod Members
 pub mod Alternatives

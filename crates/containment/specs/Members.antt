@@ -6,9 +6,9 @@ use mathlib.Core.List.{List, []}
 use lib.ListN.{length, getD}
 use Rattle.model.specs.Lists.{upFrom, anyOf}
 use Rattle.model.specs.Pattern.{Pattern}
-use Rattle.containment.specs.Blocks.{lastIn, setsIn}
-use Rattle.containment.specs.Judging.{rootBy, judgeBy}
-use Rattle.containment.specs.Settling.{foldedRow, Settled}
+use Rattle.judging.specs.Blocks.{lastIn, setsIn}
+use Rattle.judging.specs.Judging.{rootBy, judgeBy}
+use Rattle.judging.specs.Settling.{foldedRow, Settled}
 
 -- so says the test for at least one of the members
 abbrev pub bySome : (List ℕ → ℕ → Bool) → List (List ℕ) → Bool

@@ -10,9 +10,9 @@ use lib.ListN.{length, getD}
 use Rattle.model.specs.Pattern.{Pattern}
 use Rattle.format.specs.Given.{patternAt}
 use Rattle.cover.specs.Cover.{Among}
+use Rattle.judging.specs.Prepared.{Made}
+use Rattle.judging.specs.Room.{Steppable}
 use Rattle.containment.specs.Alternatives.{RowBy, Raises, Met, Table}
-use Rattle.containment.specs.Prepared.{Made}
-use Rattle.containment.specs.Room.{Steppable}
 
 -- what a turn asks
 pub record Asking (ts : List (List ℕ)) (m : List ℕ) (alts : List (List ℕ)) (p : List ℕ) (at : ℕ) (es : List ℕ) (q : ℕ) : Type 0 where

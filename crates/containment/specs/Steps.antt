@@ -6,13 +6,13 @@ use mathlib.Core.List.{List}
 use lib.ListN.{length, getD, take}
 use Rattle.model.specs.Pattern.{Pattern, patternParent}
 use Rattle.model.specs.Verdict.{Progress, going, failed, halted, run}
-use Rattle.containment.specs.Blocks.{candidatesIn, capIn, lastIn}
+use Rattle.judging.specs.Blocks.{candidatesIn, capIn, lastIn}
+use Rattle.judging.specs.Prepared.{Made}
+use Rattle.judging.specs.Room.{Capped}
+use Rattle.judging.specs.Settling.{Lasts}
+use Rattle.judging.specs.Skipping.{Counts}
+use Rattle.judging.specs.Stepping.{Candidates, stepFrom, sitesBy, allBy}
 use Rattle.containment.specs.Members.{judgedBySome}
-use Rattle.containment.specs.Prepared.{Made}
-use Rattle.containment.specs.Room.{Capped}
-use Rattle.containment.specs.Settling.{Lasts}
-use Rattle.containment.specs.Skipping.{Counts}
-use Rattle.containment.specs.Stepping.{Candidates, stepFrom, sitesBy, allBy}
 use Rattle.containment.specs.declared.Budget.{Budget}
 use Rattle.containment.specs.declared.Run.{Run}
 use Rattle.containment.specs.declared.Run.the-variants.{Going, Failed, Stopped}

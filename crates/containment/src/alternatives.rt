@@ -5,16 +5,9 @@ use crate::join::add_bare;
 use crate::join::add_raised;
 use crate::join::copy_sets;
 use crate::join::join;
-use crate::masks::Masks;
-use crate::masks::cell;
-use crate::masks::children;
-use crate::masks::descendants;
-use crate::masks::last;
-use crate::masks::part;
-use crate::member::Member;
-use crate::sets::without;
 use bits::first64;
 use bits::has64;
+use bits::without64;
 use cover::lists::List;
 use cover::lists::add;
 use cover::offers::Offer;
@@ -28,21 +21,27 @@ use format::pattern::pattern_count;
 use format::pattern::pattern_edge;
 use format::pattern::pattern_parent;
 use format::pattern::pattern_position;
+use judging::masks::Masks;
+use judging::masks::cell;
+use judging::masks::children;
+use judging::masks::descendants;
+use judging::masks::last;
+use judging::masks::part;
+use judging::member::Member;
 ghost use mathlib.Core.Path.{_≡_};
 ghost use mathlib.Core.Bool.{Bool, true};
 ghost use mathlib.Core.Logic.{_⊎_};
 ghost use mathlib.Core.List.{List, []};
 ghost use Prim.Native.Nat.{ℕ, _+_, _≤_, _<_};
 ghost use lib.ListN.{length, getD};
-ghost use Rattle.model.specs.Lists.{has};
-ghost use Rattle.model.specs.Pattern.{Pattern, patternParent, descends, position};
+ghost use Rattle.model.specs.Pattern.{Pattern, patternParent, position};
 ghost use Rattle.format.specs.Given.{patternAt, PatternGiven};
 ghost use Rattle.cover.specs.Cover.{Within, Among};
+ghost use Rattle.judging.specs.Blocks.{cell as cellOf, candidatesIn};
+ghost use Rattle.judging.specs.Prepared.{Made};
+ghost use Rattle.judging.specs.Room.{MembersGiven};
 ghost use Rattle.containment.specs.Alternatives.{nodeOf, Raises, Met, Grown, startIn, manyIn, Entry, Roomy, Alternatives, Table, At, FarBelow};
 ghost use Rattle.containment.specs.Alternatives.{Toward, Covered, Pointed, Known, mattersBy, Fillable};
-ghost use Rattle.containment.specs.Blocks.{cell as cellOf, candidatesIn};
-ghost use Rattle.containment.specs.Prepared.{Made};
-ghost use Rattle.containment.specs.Room.{MembersGiven};
 
 // So many rows are left for cells of which only what all their sets have in common is kept: there are 945 cells at most, so that each is
 // known at least by that.
@@ -307,7 +306,7 @@ fn gather(
     let mut count: usize = 0;
     while rest != 0 {
         let y = first64(rest);
-        rest = without(rest, y);
+        rest = without64(rest, y);
         count = child_part(t, m, alts, p, at, c, SummaryNode(y), list, count);
     }
     count

@@ -1,13 +1,13 @@
 // Lists of sets over all members' nodes, joined, and raised along the way up.
 
-use crate::judge::node;
-use crate::judge::root;
-use crate::member::Member;
 use cover::lists::List;
 use cover::lists::add;
 use cover::offers::Offer;
 use cover::offers::either;
 use format::nodes::SummaryNode;
+use judging::judge::node;
+use judging::judge::root;
+use judging::member::Member;
 ghost use mathlib.Core.Path.{_≡_};
 ghost use mathlib.Core.Bool.{Bool};
 ghost use mathlib.Core.Logic.{_⊎_};
@@ -15,8 +15,8 @@ ghost use Prim.Native.Nat.{ℕ, _+_, _≤_, _<_};
 ghost use lib.ListN.{length};
 ghost use Rattle.format.specs.Given.{patternAt};
 ghost use Rattle.cover.specs.Cover.{Inside, Among};
+ghost use Rattle.judging.specs.Room.{MembersGiven};
 ghost use Rattle.containment.specs.Alternatives.{metBySome, RowBy, nodeOf, Raises, Met, Grown, Copied};
-ghost use Rattle.containment.specs.Room.{MembersGiven};
 
 // What a node on x with position k makes of each member's set.
 fn node_row(t: &[Member], x: SummaryNode, k: usize, a: &Offer) -> Offer

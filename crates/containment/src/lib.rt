@@ -2,12 +2,7 @@
 
 mod alternatives;
 mod join;
-mod judge;
-mod masks;
-mod member;
 mod open;
-mod parents;
-mod sets;
 mod skip;
 mod steps;
 pub mod verdict;

@@ -4,11 +4,6 @@
 
 use crate::alternatives::join_entry;
 use crate::join::join;
-use crate::judge::Rows;
-use crate::judge::pass;
-use crate::masks::Masks;
-use crate::masks::last;
-use crate::member::Member;
 use cover::lists::List;
 use cover::offers::Offer;
 use format::field::wide64;
@@ -17,19 +12,24 @@ use format::nodes::SummaryNode;
 use format::nodes::image_of;
 use format::pattern::pattern_count;
 use format::pattern::pattern_parent;
+use judging::judge::Rows;
+use judging::judge::pass;
+use judging::masks::Masks;
+use judging::masks::last;
+use judging::member::Member;
 ghost use mathlib.Core.Path.{_≡_};
 ghost use mathlib.Core.Bool.{true};
 ghost use mathlib.Core.List.{[]};
 ghost use Prim.Native.Nat.{ℕ, _≤_, _<_};
 ghost use lib.ListN.{length, getD};
 ghost use Rattle.format.specs.Given.{patternAt};
+ghost use Rattle.judging.specs.Blocks.{candidatesIn};
+ghost use Rattle.judging.specs.Prepared.{Made};
+ghost use Rattle.judging.specs.Room.{MembersGiven, Steppable};
+ghost use Rattle.judging.specs.Skipping.{PlacedBy};
 ghost use Rattle.containment.specs.Alternatives.{RowBy, passOf, Roomy, Entry, Table, LeftOpen, AllCovered};
-ghost use Rattle.containment.specs.Blocks.{candidatesIn};
 ghost use Rattle.containment.specs.Members.{RowsSettled};
 ghost use Rattle.containment.specs.Open.{Asking, Begun, ListBy, RaisedOf, Turned};
-ghost use Rattle.containment.specs.Prepared.{Made};
-ghost use Rattle.containment.specs.Room.{MembersGiven, Steppable};
-ghost use Rattle.containment.specs.Skipping.{PlacedBy};
 
 // What is settled at node j, of the first n members.
 pub fn column(n: usize, rows: &Rows, j: PatternNode) -> Offer

@@ -7,6 +7,7 @@ use format::sections::first_at;
 use format::sections::set_at;
 use questions::pattern::arity;
 use questions::refusals::verdict_refusal;
+use strong::strong_table;
 ghost use mathlib.Core.Path.{_≡_};
 ghost use Prim.Native.Nat.{_≤_};
 ghost use lib.ListN.{length};
@@ -32,19 +33,21 @@ pub struct Decided {
     pub tally: u64,
 }
 
-// The verdict on an accepted case. What "not included" shows goes to the front of the answer buffer.
+// The verdict on an accepted case, whose strong children are gathered once, for judging and for what is shown. What "not included" shows
+// goes to the front of the answer buffer.
 fn accepted(case: &[u8], limit: u64, answer: &mut [u8]) -> Containment
     requires { ⌜ AcceptedCase (now case) × (minBuffer ≤ length (now answer)) × (limit ≤ maxLimit) ⌝ }
     ensures { λ r. ⌜ Told (caseOf (now (case .entry))) limit (now (answer .entry)) (now (answer .exit)) r ⌝ }
 {
     let first = first_at(case);
     let set = set_at(case);
+    let strong = strong_table(case);
     let mut images = [0u16; 16];
-    let r = verdict(case, case, first, set, &mut images, limit);
+    let r = verdict(case, &strong, case, first, set, &mut images, limit);
     let Containment::NotContained(rank) = r else {
         return r;
     };
-    show(case, first, &images, arity(case, first), answer);
+    show(case, &strong, first, &images, arity(case, first), answer);
     Containment::NotContained(rank)
 }
 

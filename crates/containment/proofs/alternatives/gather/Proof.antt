@@ -2,8 +2,8 @@
 -- lies toward one of them. The measure is what is left of the mask. Assumes nothing.
 use borrow.Author.Needs.{needs}
 use Rattle.format.specs.Given.{patternAt}
+use Rattle.bits.proofs.MaskMembers.{first-room, rest-less}
 use Rattle.containment.proofs.FillLaws.{fill-below, Gathered, gathered-start, gathered-step, gathered-end}
-use Rattle.containment.proofs.MaskMembers.{first-room, rest-less}
 use Rattle.containment.proofs.alternatives.gather.Statement.{statement}
 use Rattle.containment.proofs.alternatives.gather.Tie as tie
 
@@ -16,8 +16,8 @@ abbrev μ-loop : tie.MeasureT-loop
 loop-holds : tie.Need-loop-holds Inv-loop μ-loop
 loop-holds c = gathered-start (c .children .ok)
 
-without-requires : tie.Need-without-requires Inv-loop μ-loop
-without-requires c κs = first-room (c .before .before .loop .inv .fits) (c .before .loop-test .taken) (c .first64 .ensures)
+without64-requires : tie.Need-without64-requires Inv-loop μ-loop
+without64-requires c κs = first-room (c .before .before .loop .inv .fits) (c .before .loop-test .taken) (c .first64 .ensures)
 
 child-part-requires : tie.Need-child-part-requires Inv-loop μ-loop
 child-part-requires c κs =
@@ -26,14 +26,14 @@ child-part-requires c κs =
     (fill-below p (first-room (i .fits) (c .before .before .before .loop-test .taken) (c .before .before .first64 .ensures) .0), i .few)
 
 loop-less : tie.Need-loop-less Inv-loop μ-loop
-loop-less c = rest-less (c .before .before .before .before .before .loop .inv .fits) (c .before .before .before .before .loop-test .taken) (c .before .before .before .first64 .ensures) (c .before .before .without .ensures)
+loop-less c = rest-less (c .before .before .before .before .before .loop .inv .fits) (c .before .before .before .before .loop-test .taken) (c .before .before .before .first64 .ensures) (c .before .before .without64 .ensures)
 
 loop-again : tie.Need-loop-again Inv-loop μ-loop
-loop-again c = gathered-step (c .before .before .before .before .before .loop .inv) (c .before .before .before .before .loop-test .taken) (c .before .before .before .first64 .ensures) (c .before .before .without .ensures) (c .child-part .ensures .0) (c .child-part .ensures .1)
+loop-again c = gathered-step (c .before .before .before .before .before .loop .inv) (c .before .before .before .before .loop-test .taken) (c .before .before .before .first64 .ensures) (c .before .before .without64 .ensures) (c .child-part .ensures .0) (c .child-part .ensures .1)
 
 returns : tie.Need-returns Inv-loop μ-loop
 returns c = let v = c .before .loop .inv in (v .few, gathered-end v (c .loop-test .left) (c .before .before .children .ensures))
 
 pub gather-spec : {M : Type 1} → statement M
 gather-spec =
-    tie.close (tie.spec Inv-loop μ-loop (λ c κs. search needs) loop-holds (λ c κs. search needs) without-requires child-part-requires loop-less loop-again returns)
+    tie.close (tie.spec Inv-loop μ-loop (λ c κs. search needs) loop-holds (λ c κs. search needs) without64-requires child-part-requires loop-less loop-again returns)

@@ -2,9 +2,9 @@
 use native.Mathlib.Omega.{arith}
 use borrow.Author.Needs.{needs}
 use Rattle.format.specs.Given.{patternAt}
-use Rattle.containment.specs.Blocks.{candidatesIn}
+use Rattle.judging.specs.Blocks.{candidatesIn}
+use Rattle.judging.proofs.RoomLaws.{parent-lt}
 use Rattle.containment.proofs.FillLaws.{matters-far, matters-near}
-use Rattle.containment.proofs.RoomLaws.{parent-lt}
 use Rattle.containment.proofs.alternatives.matters.Statement.{statement}
 use Rattle.containment.proofs.alternatives.matters.Tie as tie
 

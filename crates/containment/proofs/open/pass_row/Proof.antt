@@ -4,9 +4,9 @@ use Prim.Native.Nat.{_-_}
 use mathlib.Core.Path.{refl}
 use borrow.Author.Needs.{needs}
 use Rattle.format.specs.Given.{patternAt}
+use Rattle.judging.proofs.RoomLaws.{judge-member}
 use Rattle.containment.specs.Alternatives.{passOf}
 use Rattle.containment.proofs.JoinLaws.{RowTo, row-to-start, row-to-step, row-to-end}
-use Rattle.containment.proofs.RoomLaws.{judge-member}
 use Rattle.containment.proofs.open.pass_row.Statement.{statement}
 use Rattle.containment.proofs.open.pass_row.Tie as tie
 

@@ -2,8 +2,8 @@
 use Prim.Native.Nat.{_<_}
 use native.Mathlib.Omega.{arith}
 use borrow.Author.Needs.{needs}
+use Rattle.judging.proofs.RoomLaws.{parent-lt, parent-placed, image-lt}
 use Rattle.containment.proofs.OpenLaws.{left-placed, left-open}
-use Rattle.containment.proofs.RoomLaws.{parent-lt, parent-placed, image-lt}
 use Rattle.containment.proofs.open.turn.Statement.{statement}
 use Rattle.containment.proofs.open.turn.Tie as tie
 

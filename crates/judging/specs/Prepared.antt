@@ -1,0 +1,78 @@
+-- What the blocks hold when they are those of a summary, a first pattern and the members of a set.
+use Prim.Native.Nat.{ℕ, _≤_, _<_}
+use mathlib.Core.Path.{_≡_}
+use mathlib.Core.Bool.{Bool}
+use mathlib.Core.List.{List, []}
+use lib.ListN.{length, getD}
+use Rattle.model.specs.Limits.{maxPosition}
+use Rattle.model.specs.Lists.{maskBelow}
+use Rattle.model.specs.Tree.{Rooted}
+use Rattle.model.specs.Summary.{Summary, asDocument, summaryLabel, summaryParent}
+use Rattle.model.specs.Pattern.{Pattern, IsPatternTree, patternLabel, descends, position, labelFits}
+use Rattle.model.specs.Facts.{SummaryFacts}
+use Rattle.model.specs.Embeddings.{childTest, belowTest, isPath}
+use Rattle.model.specs.Quick.{closed}
+use Rattle.matching.specs.Matching.{childrenIn}
+use Rattle.judging.specs.Blocks.{upIn, capIn, lastIn, setsIn, candidatesIn}
+use Rattle.judging.specs.Judging.{fullBy, Sets}
+use Rattle.judging.specs.Sets.{mayHold, pathTable}
+use Rattle.judging.specs.Stepping.{Candidates}
+
+-- what one node takes
+pub record NodeSets (S : Summary) (Q : Pattern) (T : Sets) : Type 0 where
+  pub fits : (x : ℕ) → x < length S → T .fitting x ≡ maskBelow (λ p. labelFits (patternLabel Q p) (summaryLabel S x)) (length Q)
+  pub may : (n : ℕ) → n ≤ maxPosition → T .allowed n ≡ maskBelow (mayHold Q n) (length Q)
+  pub full : (acc : ℕ → Bool) → fullBy T (maskBelow acc (length Q)) ≡ maskBelow (childrenIn Q acc) (length Q)
+  pub deeps : T .deep ≡ maskBelow (descends Q) (length Q)
+
+-- and what a chain takes
+pub record ChainSets (S : Summary) (Q : Pattern) (T : Sets) : Type 0 where
+  pub node : NodeSets S Q T
+  pub ups : (x : ℕ) → x < length S → T .up x ≡ summaryParent S x
+  pub closes : (x : ℕ) → x < length S → T .closed x ≡ maskBelow (closed S Q x) (length Q)
+
+-- what stepping takes
+pub record StepSets (S : Summary) (P : Pattern) (M : Candidates) : Type 0 where
+  pub child : (a : ℕ) → a < length S → M .children a ≡ maskBelow (childTest (asDocument S) a) (length S)
+  pub below : (a : ℕ) → a < length S → M .descendants a ≡ maskBelow (belowTest (asDocument S) a) (length S)
+  pub part : (q : ℕ) → q < length P → M .parts q ≡ maskBelow (isPath S P q) (length S)
+
+-- ---- blocks that are made
+
+-- the block of a summary and a member holds what one node takes, and the summary's parents, with zeros after them
+pub record SetsMade (S : Summary) (Q : Pattern) (t : List ℕ) : Type 0 where
+  pub tree : Rooted 64 (upIn t)
+  pub ups : (x : ℕ) → x < length S → upIn t x ≡ summaryParent S x
+  pub node : NodeSets S Q (setsIn t)
+
+-- and what a chain takes
+pub record MemberMade (S : Summary) (Q : Pattern) (t : List ℕ) : Type 0 where
+  pub tree : Rooted 64 (upIn t)
+  pub sets : ChainSets S Q (setsIn t)
+
+-- one for each member, in the set's order
+pub record MembersMade (S : Summary) (Qs : List Pattern) (ts : List (List ℕ)) : Type 0 where
+  pub count : length ts ≡ length Qs
+  pub each : (i : ℕ) → i < length Qs → MemberMade S (getD Qs i []) (getD ts i [])
+
+-- the block of a summary and a first pattern holds what stepping takes, if `parts` has the pattern's paths; no ways are counted yet
+pub record MasksMade (S : Summary) (parts lasts : List ℕ) (cap : ℕ) (m : List ℕ) : Type 0 where
+  pub sets : (P : Pattern) → length P ≤ 16 → parts ≡ pathTable S P → StepSets S P (candidatesIn m)
+  pub ends : (c : ℕ) → c < 16 → lastIn m c ≡ getD lasts c 0
+  pub most : capIn m ≡ cap
+  pub cells : (i : ℕ) → i < 1024 → getD m i 0 ≡ 0
+
+-- ---- what skipping takes
+
+-- the blocks are those of a summary, of the members of a set and of the first pattern P
+pub record Made (ts : List (List ℕ)) (m : List ℕ) (P : Pattern) : Type 0 where
+  pub summary : Summary
+  pub members : List Pattern
+  pub facts : SummaryFacts summary
+  pub narrow : length summary ≤ 64
+  pub chains : (i : ℕ) → i < length ts → ChainSets summary (getD members i []) (setsIn (getD ts i []))
+  pub some : (i : ℕ) → i < length ts → 0 < length (getD members i [])
+  pub steps : StepSets summary P (candidatesIn m)
+  pub tree : IsPatternTree P
+  pub small : length P ≤ 16
+  pub range : (c : ℕ) → c < length P → position P c ≤ maxPosition

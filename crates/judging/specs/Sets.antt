@@ -1,0 +1,94 @@
+-- The tables that judging and stepping read, of a summary and a pattern.
+use Prim.Native.Nat.{ℕ, _+_, _-_, _/_, _%_, _^_, _≤_, _<_}
+use mathlib.Core.Path.{_≡_}
+use mathlib.Core.Bool.{Bool, true, false, _||_}
+use mathlib.Core.List.{List, [], _∷_, map}
+use lib.Bits.{bitAnd, bitOr}
+use lib.Dec.{eqb}
+use lib.ListN.{length, getD, replicate}
+use lib.Seq.{paste}
+use Rattle.model.specs.Lists.{upFrom, maskBelow}
+use Rattle.model.specs.Summary.{Summary, summaryParent, summaryLabel}
+use Rattle.model.specs.Pattern.{Pattern, patternLabel, descends, position, labelFits}
+use Rattle.model.specs.Embeddings.{pathMask}
+use Rattle.model.specs.Fitting.{strongChildren}
+use Rattle.model.specs.Bytes.{writtenAtFront}
+use Rattle.judging.specs.Judging.{gather, Sets, offersBy}
+use Rattle.judging.specs.declared.sets.Asked.{Asked}
+use Rattle.judging.specs.declared.sets.Asked.the-variants.{Label, Position, Deep}
+
+-- f's values at 0 to n - 1, then zeros, k entries in all
+abbrev pub tableOf : (ℕ → ℕ) → ℕ → ℕ → List ℕ
+tableOf f n k = writtenAtFront (map f (upFrom 0 n)) (replicate k 0)
+
+-- a block with a part's entries written over it, from that entry on
+pub record Put (from : ℕ) (part before after : List ℕ) : Type 0 where
+  pub copy : after ≡ paste before from part (length part)
+
+-- a table whose first `size` entries are copied to the next, and in the first what is not in `keep` is left out
+pub record Doubled (size keep : ℕ) (before after : List ℕ) : Type 0 where
+  pub low : (b : ℕ) → b < size → getD after b 0 ≡ bitAnd (getD before b 0) keep
+  pub high : (b : ℕ) → b < size → getD after (size + b) 0 ≡ getD before b 0
+  pub rest : (b : ℕ) → size + size ≤ b → getD after b 0 ≡ getD before b 0
+
+-- ---- the first pattern
+
+-- by node, its paths
+abbrev pub pathTable : Summary → Pattern → List ℕ
+pathTable S P = map (pathMask S P) (upFrom 0 16)
+
+-- ---- a member of the set
+
+-- p's position is 0 or n
+abbrev pub mayHold : Pattern → ℕ → ℕ → Bool
+mayHold Q n p = eqb (position Q p) 0 || eqb (position Q p) n
+
+-- p's label fits, its position is the one or none, or it hangs by a descendant edge
+abbrev pub askedBy : Pattern → Asked → ℕ → Bool
+askedBy Q (Label l) p = labelFits (patternLabel Q p) l
+askedBy Q (Position n) p = mayHold Q n p
+askedBy Q Deep p = descends Q p
+
+-- the nodes of which that is so
+unfoldable pub askedSet : Pattern → Asked → ℕ
+askedSet Q w = maskBelow (askedBy Q w) (length Q)
+
+-- of n nodes those whose children, from the bit that shift stands for on, are all in byte b; kids has each node's children
+unfoldable pub byteSet : List ℕ → ℕ → ℕ → ℕ → ℕ
+byteSet kids n shift b = maskBelow (λ p. eqb (bitAnd (getD kids p 0 / shift % 256) b) (getD kids p 0 / shift % 256)) n
+
+-- by summary node, by position, by byte
+abbrev pub fittingTable : Summary → Pattern → List ℕ
+fittingTable S Q = tableOf (λ x. askedSet Q (Label (summaryLabel S x))) (length S) 64
+
+abbrev pub allowedTable : Pattern → List ℕ
+allowedTable Q = tableOf (λ n. askedSet Q (Position n)) 9 16
+
+abbrev pub byteTable : List ℕ → ℕ → ℕ → List ℕ
+byteTable kids n shift = tableOf (byteSet kids n shift) 256 256
+
+-- ---- the summary
+
+-- by summary node, its parent
+abbrev pub upTable : Summary → List ℕ
+upTable S = tableOf (summaryParent S) (length S) 64
+
+-- a child alone, and with what is below it
+abbrev pub childBy : ℕ → ℕ → ℕ
+childBy b e = bitOr 0 (2 ^ b)
+
+abbrev pub belowBy : ℕ → ℕ → ℕ
+belowBy b e = bitOr e (2 ^ b)
+
+-- by summary node, gathered from the last on: its children, its descendants
+abbrev pub gathered : Summary → (ℕ → ℕ → ℕ) → List ℕ
+gathered S F = gather (summaryParent S) F (length S - 1) (replicate 64 0)
+
+-- acc, joined with what the summary nodes cs offer to the node above them, where each is offered its entry of closed
+unfoldable pub joinOffers : Sets → List ℕ → ℕ → List ℕ → ℕ
+joinOffers T closed acc [] = acc
+joinOffers T closed acc (c ∷ cs) = joinOffers T closed (bitOr acc (offersBy T c 0 (getD closed c 0))) cs
+
+-- by summary node, what its filled-up children offer: what its strong children offer, each with its own filled-up children
+pub record Closed (S : Summary) (T : Sets) (closed : List ℕ) : Type 0 where
+  pub each : (x : ℕ) → x < 64 → getD closed x 0 ≡ joinOffers T closed 0 (strongChildren S x)
