@@ -444,10 +444,24 @@ fn others() -> Vec<Row> {
         list: fields(&placement),
         ..paths.clone()
     };
+    let below: Vec<u16> = (0..16).map(|q| u16::from(q > 0)).collect();
+    let filled = Vector {
+        case: in_itself(&fan(), star(15, 8)),
+        list: fields(&below),
+        ..layout.clone()
+    };
     vec![
         row("paths", "64 + 16 nodes", vec![paths]),
         row("lay out a trial", "946 nodes", vec![layout]),
+        row("lay out a trial", "946 nodes, 930 filled up", vec![filled]),
     ]
+}
+
+/// A summary of 64 nodes: a child of the root, and its 62 strong children.
+fn fan() -> Vec<[u16; 3]> {
+    let mut summary = vec![[0, 1, 0], [0, 2, 0]];
+    summary.extend((3..65).map(|label| [1, label, 1]));
+    summary
 }
 
 /// Cases out of the old form and back, the smallest and the largest, and refusals by the last question.
