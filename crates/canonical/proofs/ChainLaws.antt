@@ -2,48 +2,27 @@
 -- smaller number than its child; and the members are appended one by one. Assumes nothing.
 use Prim.Native.Nat.{ℕ, suc, _+_, _-_, _^_, _≤_, _<_}
 use mathlib.Core.Path.{_≡_, refl, sym, ap, ap₂, _∙_, subst}
-use mathlib.Core.Bool.{Bool, true, false, _&&_, _||_, not, and-true, and-false, or-true, or-false}
+use mathlib.Core.Bool.{Bool, false, _||_}
 use mathlib.Core.Logic.{_⊎_, inl, inr}
 use mathlib.Core.List.{List, [], _∷_, _++_, append-nil, append-assoc, List·Memᴰ, List·Memᴰ·head, List·Memᴰ·tail, List·Memᴰ·not-nil, List·Memᴰ·cases-cons}
 use native.Mathlib.Omega.{arith}
 use lib.Bits.{bitOr}
 use lib.Count.{trailingZeros}
-use lib.Dec.{eqb}
 use lib.ListN.{length}
-use borrow.Author.Tests.{eqb-true, eq-eqb, ne-eqb}
+use borrow.Author.Tests.{ne-eqb}
 use Rattle.model.specs.Limits.{maxSummary, maxCanonical}
-use Rattle.model.specs.Lists.{upFrom, has, members}
+use Rattle.model.specs.Lists.{has, members}
 use Rattle.model.specs.Tree.{Document, IsTree, Child, Below, parentOf, AtOrBelow}
 use Rattle.model.specs.Summary.{Summary, asDocument, summaryParent}
 use Rattle.model.specs.Canonical.{Spot, chain, appendChain}
-use Rattle.model.proofs.KeepLaws.{keep-agree, keep-least}
 use Rattle.model.proofs.TreeLaws.{below-cases, child-lt, length-asDocument}
 use Rattle.model.proofs.Chains.{Way, end, step, way-append, at-or-below-way, chain-way, chain-self}
 use Rattle.model.proofs.Segment.{chainSpot, append-chain}
 use Rattle.bits.proofs.MaskLaws.{has-none, has-insert}
-use Rattle.bits.proofs.MaskMembers.{members-none, first-left}
+use Rattle.bits.proofs.MaskMembers.{members-none, members-insert, first-left}
 use Rattle.canonical.specs.Draft.{Draft, Drafted, appended}
 use Rattle.canonical.specs.Given.{Hanging, Hung}
 use Rattle.canonical.proofs.DraftLaws.{SameLengths, drafted-by, drafted-append}
-
--- ---- a mask with one member less than all others
-
-members-insert : (m x : ℕ) → x < 64 → ((i : ℕ) → i ≤ x → has m i ≡ false) → members (bitOr m (2 ^ x)) ≡ x ∷ members m
-unfolding members
-members-insert m x h none =
-    keep-least (has more) 0 64 x (omega arith) (omega arith) (has-insert m x x ∙ ap (λ (b : Bool). has m x || b) (eq-eqb x x refl) ∙ or-true (has m x))
-    (λ j a l. has-insert m x j ∙ ap₂ (λ (b c : Bool). b || c) (none j (omega arith)) (ne-eqb j x (λ p. omega arith)))
-    ∙ ap {B = List ℕ} (λ l. x ∷ l) (keep-agree (λ i. has more i && not (eqb i x)) (has m) (upFrom 0 64) (λ i l. same i (eqb i x) refl))
-  where
-    more : ℕ
-    more = bitOr m (2 ^ x)
-
-    same : (i : ℕ) (b : Bool) → eqb i x ≡ b → (has more i && not (eqb i x)) ≡ has m i
-    same i true e =
-        let p : i ≡ x = eqb-true i x e in
-        ap (λ (b : Bool). has more i && not b) e ∙ and-false (has more i) ∙ sym (none i (omega arith))
-    same i false e =
-        ap (λ (b : Bool). has more i && not b) e ∙ and-true (has more i) ∙ has-insert m x i ∙ ap (λ (b : Bool). has m i || b) e ∙ or-false (has m i)
 
 -- ---- a chain from its lower end
 

@@ -1,10 +1,3 @@
-pub mod Skipping
-pub mod Offered
-pub mod JoinLaws
-pub mod FillLaws
-pub mod TableLaws
-pub mod OpenLaws
 pub mod StepLoop
 pub mod SkipLoop
-pub mod RowsLaws
 pub mod AnswerLaws

@@ -14,10 +14,10 @@ use Rattle.model.specs.Pattern.{Pattern, IsPatternTree, patternParent}
 use Rattle.model.specs.Skipping.{skip}
 use Rattle.judging.specs.Skipping.{leftBy, PlacedBy, Counts}
 use Rattle.judging.specs.Stepping.{Candidates, stepFrom, placesBy, sitesBy}
+use Rattle.alternatives.proofs.Skipping.{covered-skips}
 use Rattle.containment.specs.Steps.{progressOf, Stepped}
 use Rattle.containment.specs.declared.Budget.{Budget}
 use Rattle.containment.specs.declared.Run.{Run}
-use Rattle.containment.proofs.Skipping.{covered-skips}
 use Rattle.containment.proofs.StepLoop.{sites-take, StepInv, first-among}
 
 -- ---- the images so far

@@ -56,11 +56,7 @@ unfolding sitesBy
 sites-take P M images q h k =
     ap (λ (n : ℕ). placesBy P M n (getD (take q images) (patternParent P n) 0)) (length-take-le q images h) ∙ ap (placesBy P M q) (getD-take q images (patternParent P q) 0 k)
 
--- what an edge reaches, by its kind
-pub reach-far : (M : Candidates) (a : ℕ) {far : Bool} → far ≡ true → M .descendants a ≡ reachBy M a far
-unfolding reachBy
-reach-far M a e = sym (ap (λ (b : Bool). elim b as (λ _. ℕ) [ true ↦ M .descendants a | false ↦ M .children a ]) e)
-
+-- what a child edge reaches
 pub reach-near : (M : Candidates) (a : ℕ) {far : Bool} → far ≡ false → M .children a ≡ reachBy M a far
 unfolding reachBy
 reach-near M a e = sym (ap (λ (b : Bool). elim b as (λ _. ℕ) [ true ↦ M .descendants a | false ↦ M .children a ]) e)

@@ -12,7 +12,7 @@ use Rattle.judging.specs.Room.{Capped}
 use Rattle.judging.specs.Settling.{Lasts}
 use Rattle.judging.specs.Skipping.{Counts}
 use Rattle.judging.specs.Stepping.{Candidates, stepFrom, sitesBy, allBy}
-use Rattle.containment.specs.Members.{judgedBySome}
+use Rattle.alternatives.specs.Members.{judgedBySome}
 use Rattle.containment.specs.declared.Budget.{Budget}
 use Rattle.containment.specs.declared.Run.{Run}
 use Rattle.containment.specs.declared.Run.the-variants.{Going, Failed, Stopped}

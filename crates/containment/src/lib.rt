@@ -1,8 +1,5 @@
 // Embeddings of the first pattern into the summary (document 01: placements), stepped and judged by masks, nothing laid out.
 
-mod alternatives;
-mod join;
-mod open;
 mod skip;
 mod steps;
 pub mod verdict;

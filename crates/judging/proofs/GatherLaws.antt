@@ -3,31 +3,20 @@
 use Prim.Native.Nat.{ℕ, zero, suc, _-_, _≤_, _<_}
 use mathlib.Core.Path.{_≡_, refl, sym, ap, ap₂, _∙_, subst}
 use mathlib.Core.Bool.{Bool, true, false, _&&_, _||_, or-comm, false≢true}
-use mathlib.Core.List.{List, [], _∷_}
+use mathlib.Core.List.{List}
 use native.Mathlib.Omega.{arith}
 use lib.Bits.{bitOr}
 use lib.Dec.{eqb, ltb}
 use lib.ListN.{length, getD, set, length-set}
 use lib.Seq.{getD-set-same, getD-set-other}
 use borrow.Author.Tests.{eqb-true, eqb-false, ne-eqb, ltb-true, ltb-false, lt-ltb}
-use Rattle.model.specs.Lists.{upFrom, keep, anyOf, maskBelow}
+use Rattle.model.specs.Lists.{upFrom, anyOf, maskBelow}
 use Rattle.model.proofs.ListLaws.{bool-ext, and-intro, any-intro, any-elim, mem-upFrom, upFrom-mem}
 use Rattle.bits.proofs.MaskLaws.{any-cons, mask-agree, mask-or}
 use Rattle.model.proofs.Masks.{mask-none}
 use Rattle.judging.specs.Judging.{joinUp, gather}
 
 -- ---- unions over ranges
-
-module _ {A : Type 0} where
-  pub any-keep : (f g : A → Bool) (xs : List A) → anyOf f (keep g xs) ≡ anyOf (λ x. g x && f x) xs
-  unfolding keep anyOf
-  any-keep f g [] = refl
-  any-keep f g (x ∷ xs) = go (g x) (any-keep f g xs)
-    where
-      go : (t : Bool) → anyOf f (keep g xs) ≡ anyOf (λ x. g x && f x) xs
-          → anyOf f (elim t as (λ _. List A) [ true ↦ x ∷ keep g xs | false ↦ keep g xs ]) ≡ elim (t && f x) as (λ _. Bool) [ true ↦ true | false ↦ anyOf (λ x. g x && f x) xs ]
-      go true r = ap (λ (b : Bool). elim (f x) as (λ _. Bool) [ true ↦ true | false ↦ b ]) r
-      go false r = r
 
 -- the numbers from a on, to c, are those from b on, where those before b do not pass
 any-later : (test : ℕ → Bool) (a b c : ℕ) → a ≤ b → b ≤ c → ((i : ℕ) → a ≤ i → i < b → test i ≡ false) → anyOf test (upFrom a (c - a)) ≡ anyOf test (upFrom b (c - b))

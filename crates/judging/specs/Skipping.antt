@@ -1,5 +1,5 @@
 -- How many completions a partial embedding has, cut at a cap, as the code computes it from a table that is made once a case.
--- containment/proofs/Skipping.antt shows that where all of them pass the run over them is the model's `skip`.
+-- alternatives/proofs/Skipping.antt shows that where all of them pass the run over them is the model's `skip`.
 use Prim.Native.Nat.{ℕ, zero, suc, _+_, _-_, _*_, _≤_, _<_, min}
 use mathlib.Core.Path.{_≡_}
 use mathlib.Core.Bool.{Bool, true, false}

@@ -7,7 +7,7 @@ use mathlib.Core.Bool.{Bool, true, false, _&&_}
 use mathlib.Core.List.{List, [], _∷_, _++_, flatMap, List·Memᴰ}
 use lib.Bits.{bitAnd}
 use lib.ListN.{length, getD, drop}
-use Rattle.model.specs.Lists.{upFrom, keep, has, members}
+use Rattle.model.specs.Lists.{has, members}
 use Rattle.model.specs.Tree.{Document, labelOf}
 use Rattle.model.specs.Pattern.{Pattern, patternLabel, patternParent, descends, labelFits, Embeds}
 use Rattle.model.specs.Embeddings.{edgeTest, extend, embeddings, imageIn}
