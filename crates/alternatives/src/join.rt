@@ -1,14 +1,13 @@
 // Lists of sets over all members' nodes, joined, and raised along the way up.
 
+use crate::members::met_by_some;
 use cover::lists::List;
 use cover::lists::add;
 use cover::offers::Offer;
 use cover::offers::either;
 use format::nodes::SummaryNode;
 use judging::judge::node;
-use judging::judge::root;
 use judging::member::Member;
-ghost use mathlib.Core.Path.{_≡_};
 ghost use mathlib.Core.Bool.{Bool};
 ghost use mathlib.Core.Logic.{_⊎_};
 ghost use Prim.Native.Nat.{ℕ, _+_, _≤_, _<_};
@@ -16,7 +15,7 @@ ghost use lib.ListN.{length};
 ghost use Rattle.format.specs.Given.{patternAt};
 ghost use Rattle.cover.specs.Cover.{Inside, Among};
 ghost use Rattle.judging.specs.Room.{MembersGiven};
-ghost use Rattle.alternatives.specs.Alternatives.{metBySome, RowBy, nodeOf, Raises, Met, Grown, Copied};
+ghost use Rattle.alternatives.specs.Alternatives.{RowBy, nodeOf, Raises, Met, Grown, Copied};
 
 // What a node on x with position k makes of each member's set.
 fn node_row(t: &[Member], x: SummaryNode, k: usize, a: &Offer) -> Offer
@@ -62,20 +61,6 @@ pub fn add_bare(t: &[Member], x: SummaryNode, k: usize, list: &mut List, count: 
 {
     let none = [0u16; 8];
     add(list, count, node_row(t, x, k, &none))
-}
-
-// The root of some member meets at the root by these sets.
-pub fn met_by_some(t: &[Member], p: &[u8], at: usize, a: &Offer) -> bool
-    requires { ⌜ MembersGiven (now t) (now p) at ⌝ }
-    ensures { λ r. ⌜ r ≡ metBySome (now (t .entry)) (patternAt (now (p .entry)) at) (now (a .entry)) ⌝ }
-{
-    let n = t.len();
-    for i in 0..n {
-        if root(&t[i], p, at, a[i]) {
-            return true;
-        }
-    }
-    false
 }
 
 // The list with a. At the root, `top`, a need not be kept where the root of some member meets by it.

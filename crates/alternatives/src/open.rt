@@ -2,8 +2,9 @@
 // members' nodes, one of which hangs from it in each completion. They begin with what is settled; nodes have their turn from the last on,
 // and each whose part is not settled passes on to its parent's list, by its chain where it is placed, by the table where it is not.
 
+use crate::entry::join_entry;
 use crate::join::join;
-use crate::table::join_entry;
+use crate::members::column;
 use cover::lists::List;
 use cover::offers::Offer;
 use format::field::wide64;
@@ -30,19 +31,6 @@ ghost use Rattle.judging.specs.Skipping.{PlacedBy};
 ghost use Rattle.alternatives.specs.Alternatives.{RowBy, passOf, Roomy, Entry, Table, LeftOpen, AllCovered};
 ghost use Rattle.alternatives.specs.Members.{RowsSettled};
 ghost use Rattle.alternatives.specs.Open.{Asking, Begun, ListBy, RaisedOf, Turned};
-
-// What is settled at node j, of the first n members.
-pub fn column(n: usize, rows: &Rows, j: PatternNode) -> Offer
-    requires { ⌜ (n ≤ 8) × (j .0 < 16) ⌝ }
-    ensures { λ r. ⌜ ((i : ℕ) → i < n → getD r i 0 ≡ getD (getD (now (rows .entry)) i []) (j .0) 0) ⌝ }
-{
-    let mut r = [0u16; 8];
-    let k = j.0;
-    for i in 0..n {
-        r[i] = rows[i][k];
-    }
-    r
-}
 
 // Each node's list begins with what is settled.
 fn begin(n: usize, count: usize, rows: &Rows, lists: &mut [List])

@@ -1,10 +1,12 @@
 // The table of alternatives, made once a case: of each node of the first pattern and each summary node above its places, sets over all
 // members' nodes of which at least one is offered, wherever the node and all below it are placed.
 
+use crate::entry::join_entry;
+use crate::entry::many_at;
+use crate::entry::start_at;
 use crate::join::add_bare;
 use crate::join::add_raised;
 use crate::join::copy_sets;
-use crate::join::join;
 use bits::first64;
 use bits::has64;
 use bits::without64;
@@ -13,7 +15,6 @@ use cover::lists::add;
 use cover::offers::Offer;
 use cover::offers::common;
 use cover::offers::inside;
-use format::field::wide;
 use format::field::wide64;
 use format::nodes::PatternNode;
 use format::nodes::SummaryNode;
@@ -30,76 +31,21 @@ use judging::masks::part;
 use judging::member::Member;
 ghost use mathlib.Core.Path.{_≡_};
 ghost use mathlib.Core.Bool.{Bool, true};
-ghost use mathlib.Core.Logic.{_⊎_};
 ghost use mathlib.Core.List.{List, []};
 ghost use Prim.Native.Nat.{ℕ, _+_, _≤_, _<_};
 ghost use lib.ListN.{length, getD};
 ghost use Rattle.model.specs.Pattern.{Pattern, patternParent, position};
 ghost use Rattle.format.specs.Given.{patternAt, PatternGiven};
 ghost use Rattle.cover.specs.Cover.{Within, Among};
-ghost use Rattle.judging.specs.Blocks.{cell as cellOf, candidatesIn};
+ghost use Rattle.judging.specs.Blocks.{candidatesIn};
 ghost use Rattle.judging.specs.Prepared.{Made};
 ghost use Rattle.judging.specs.Room.{MembersGiven};
-ghost use Rattle.alternatives.specs.Alternatives.{nodeOf, Raises, Met, Grown, startIn, manyIn, Entry, Roomy, Alternatives, Table, At, FarBelow};
+ghost use Rattle.alternatives.specs.Alternatives.{nodeOf, Raises, Grown, Entry, Roomy, Alternatives, Table, At, FarBelow};
 ghost use Rattle.alternatives.specs.Alternatives.{Toward, Covered, Pointed, Known, mattersBy, Fillable};
 
 // So many rows are left for cells of which only what all their sets have in common is kept: there are 945 cells at most, so that each is
 // known at least by that.
 const SPARE: usize = 1024;
-
-// Entry k of the row of the cell of node c and x; 0 where the table has no such row.
-fn entry_at(alts: &[Offer], c: PatternNode, x: SummaryNode, k: usize) -> usize
-    requires { ⌜ (c .0 < 16) × (x .0 < 64) × (k < 8) ⌝ }
-    ensures { λ r. ⌜ r ≡ getD (getD (now (alts .entry)) (cellOf (c .0) (x .0)) []) k 0 ⌝ }
-{
-    let i = cell(c, x);
-    if i < alts.len() {
-        return wide(alts[i][k]);
-    }
-    0
-}
-
-// Where the sets begin that are known of node c, where its parent stands at x.
-fn start_at(alts: &[Offer], c: PatternNode, x: SummaryNode) -> usize
-    requires { ⌜ (c .0 < 16) × (x .0 < 64) ⌝ }
-    ensures { λ r. ⌜ r ≡ startIn (now (alts .entry)) (c .0) (x .0) ⌝ }
-{
-    entry_at(alts, c, x, 0)
-}
-
-// How many there are, 0 where nothing is known.
-fn many_at(alts: &[Offer], c: PatternNode, x: SummaryNode) -> usize
-    requires { ⌜ (c .0 < 16) × (x .0 < 64) ⌝ }
-    ensures { λ r. ⌜ r ≡ manyIn (now (alts .entry)) (c .0) (x .0) ⌝ }
-{
-    entry_at(alts, c, x, 1)
-}
-
-// Joins what is known of node d, whose parent stands at y, into the list; where nothing is known the list stays. At the root, `top`,
-// sets by which the root of some member meets are left out.
-pub fn join_entry(
-    t: &[Member],
-    alts: &[Offer],
-    p: &[u8],
-    at: usize,
-    top: bool,
-    d: PatternNode,
-    y: SummaryNode,
-    list: &mut List,
-    count: usize,
-) -> usize
-    requires { ⌜ MembersGiven (now t) (now p) at × Roomy (now alts) (d .0) (y .0) × (d .0 < 16) × (y .0 < 64) × (count ≤ 64) ⌝ }
-    ensures { λ r. ⌜ (r ≤ 64) × ((f : ℕ → ℕ → Bool) → Among (length (now (t .entry))) (now (list .entry)) count f
-        → Entry (length (now (t .entry))) (now (alts .entry)) (d .0) (y .0) f
-        → Among (length (now (t .entry))) (now (list .exit)) r f ⊎ Met (now (t .entry)) (patternAt (now (p .entry)) at) top f) ⌝ }
-{
-    let k = many_at(alts, d, y);
-    if k == 0 {
-        return count;
-    }
-    let s = start_at(alts, d, y);
-    join(t, p, at, top, list, count, &alts[s..s + k])
-}
 
 // Joins in what child d of node c offers, where c stands at y; the list stays where d is no child of c.
 fn own_turn(

@@ -1,8 +1,8 @@
--- `alternatives::table::entry_at` meets its contract: a cell past the table reads as 0. Assumes nothing.
+-- `alternatives::entry::entry_at` meets its contract: a cell past the table reads as 0. Assumes nothing.
 use borrow.Author.Needs.{needs}
 use Rattle.alternatives.proofs.FillLaws.{row-read, row-none}
-use Rattle.alternatives.proofs.table.entry_at.Statement.{statement}
-use Rattle.alternatives.proofs.table.entry_at.Tie as tie
+use Rattle.alternatives.proofs.entry.entry_at.Statement.{statement}
+use Rattle.alternatives.proofs.entry.entry_at.Tie as tie
 
 returns : tie.Need-returns
 returns c = row-read (c .before .before .before .before .args .alts .now) (c .before .before .before .before .args .k) (c .before .before .before .cell .ensures .0) (c .wide .ensures .0)

@@ -1,11 +1,11 @@
--- `alternatives::table::join_entry` meets its contract: the sets that are joined are the cell's. Assumes nothing.
+-- `alternatives::entry::join_entry` meets its contract: the sets that are joined are the cell's. Assumes nothing.
 use Prim.Native.Nat.{_≤_, _+_}
 use mathlib.Core.Logic.{inl}
 use lib.ListN.{length}
 use borrow.Author.Needs.{needs}
 use Rattle.alternatives.proofs.FillLaws.{entry-room, entry-part}
-use Rattle.alternatives.proofs.table.join_entry.Statement.{statement}
-use Rattle.alternatives.proofs.table.join_entry.Tie as tie
+use Rattle.alternatives.proofs.entry.join_entry.Statement.{statement}
+use Rattle.alternatives.proofs.entry.join_entry.Tie as tie
 
 returns : tie.Need-returns
 returns c = (c .before .before .before .pre .4, λ f s e. inl s)

@@ -1,4 +1,4 @@
--- `alternatives::open::column` meets its contract: before turn i the sets of the members before i are read. The measure is how many are
+-- `alternatives::members::column` meets its contract: before turn i the sets of the members before i are read. The measure is how many are
 -- left. Assumes nothing.
 use Prim.Native.Nat.{ℕ, _-_}
 use mathlib.Core.Path.{refl}
@@ -6,8 +6,8 @@ use mathlib.Core.List.{[]}
 use lib.ListN.{getD}
 use borrow.Author.Needs.{needs}
 use Rattle.alternatives.proofs.JoinLaws.{RowTo, row-to-start, row-to-step, row-to-end}
-use Rattle.alternatives.proofs.open.column.Statement.{statement}
-use Rattle.alternatives.proofs.open.column.Tie as tie
+use Rattle.alternatives.proofs.members.column.Statement.{statement}
+use Rattle.alternatives.proofs.members.column.Tie as tie
 
 abbrev Inv-loop : tie.InvT-loop
 Inv-loop n rows r₀ k i₀ r i = RowTo n (λ (j e : ℕ). getD (getD rows j []) k 0) [] r i
