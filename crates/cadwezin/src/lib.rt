@@ -17,16 +17,16 @@ use moving::downgrade::downgrade_call;
 use moving::upgrade::upgrade_call;
 ghost use mathlib.Core.Path.{_≡_};
 ghost use Rattle.deciding.specs.Outcome.{valuesOf};
-ghost use Rattle.model.specs.Demands.{VerdictAnswered, FitsAnswered, ResultAnswered, NodesAnswered, PathsAnswered, LayoutAnswered, UpgradeAnswered, DowngradeAnswered};
+ghost use Rattle.model.specs.Demands.{VerdictAnswered, TalliedAnswered, FitsAnswered, ResultAnswered, NodesAnswered, PathsAnswered, LayoutAnswered, UpgradeAnswered, DowngradeAnswered};
 ghost use Rattle.calls.specs.Answers.{testOf, nodesOf, pathsOf};
 ghost use Rattle.moving.specs.Answers.{movedOf};
 ghost use Rattle.cadwezin.specs.Table.{recordsIn, layoutOf};
-ghost use Rattle.cadwezin.specs.Verdict.{numbersOf, exportedOutcome};
+ghost use Rattle.cadwezin.specs.Verdict.{numbersOf, toldOutcome, exportedOutcome};
 
-// Counts trials: it grows by tried with each verdict.
+// Counts trials, for each caller apart: a caller's own count grows by tried with each of its verdicts.
 #[repr(C)]
-pub struct Tally {
-    pub count: u64,
+pub struct Tallies {
+    pub counts: [u64; 8],
 }
 
 // The answer of the verdict call: the refusal's number, or 0; the kind: 1 included, 2 not included, 3 stopped; and tried.
@@ -65,21 +65,34 @@ fn values(answer: Answer) -> VerdictAnswer
     }
 }
 
+// The verdict's number and values for a caller with this tally.
+fn told(case: &[u8], limit: u64, caller: u64, tally: u64, answer: &mut [u8]) -> VerdictAnswer
+    ensures { λ r. ⌜ VerdictAnswered (now (case .entry)) limit caller tally (now (answer .entry)) (toldOutcome tally r (now (answer .exit))) ⌝ }
+{
+    values(verdict_call(case, limit, caller, tally, answer))
+}
+
 // Decide whether the first pattern is contained in the set. What "not included" shows goes to the front of the answer buffer, and
-// the tally grows by tried.
+// the caller's own count grows by tried. A caller above 7 has none: no count is read or altered.
 #[no_mangle]
 pub extern "C" fn cadwezin_verdict(
     case: &[u8],
     limit: u64,
-    tally: &mut Tally,
+    caller: u64,
+    tallies: &mut Tallies,
     answer: &mut [u8],
 ) -> VerdictAnswer
-    ensures { λ r. ⌜ VerdictAnswered (now (case .entry)) limit (now (tally .entry) .count) (now (answer .entry))
-        (exportedOutcome r (now (answer .exit)) (now (tally .exit))) ⌝ }
+    ensures { λ r. ⌜ TalliedAnswered (now (case .entry)) limit caller (now (tallies .entry) .counts) (now (answer .entry))
+        (exportedOutcome r (now (answer .exit)) (now (tallies .exit))) ⌝ }
 {
-    let r = verdict_call(case, limit, tally.count, answer);
-    tally.count = r.tally;
-    values(r.answer)
+    if caller >= 8 {
+        return told(case, limit, caller, 0, answer);
+    }
+    let at = caller as usize;
+    let tally = tallies.counts[at];
+    let r = told(case, limit, caller, tally, answer);
+    tallies.counts[at] = tally + r.tried;
+    r
 }
 
 // Fits: does the document conform to the case's summary?

@@ -1,7 +1,7 @@
 // Fits: case, document.
 
 use crate::answers::TestAnswer;
-use questions::refusals::fits_refusal;
+use refusals::fits_refusal;
 use strong::strong_table;
 ghost use Rattle.model.specs.Demands.{FitsAnswered};
 ghost use Rattle.calls.specs.Answers.{testOf};

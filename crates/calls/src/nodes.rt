@@ -3,8 +3,8 @@
 use crate::answers::CountAnswer;
 use format::write::write_counted;
 use matching::outcomes::nodes_at;
-use questions::pattern::numbered_at;
-use questions::refusals::nodes_refusal;
+use refusals::nodes_refusal;
+use refusals::numbered::numbered_at;
 ghost use Rattle.model.specs.Demands.{NodesAnswered};
 ghost use Rattle.calls.specs.Answers.{nodesOf};
 

@@ -3,8 +3,8 @@
 use crate::answers::PathsAnswer;
 use matching::outcomes::path_counts;
 use matching::outcomes::path_masks;
-use questions::pattern::numbered_at;
-use questions::refusals::paths_refusal;
+use refusals::numbered::numbered_at;
+use refusals::paths_refusal;
 ghost use Rattle.model.specs.Demands.{PathsAnswered};
 ghost use Rattle.calls.specs.Answers.{pathsOf};
 

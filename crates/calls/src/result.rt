@@ -2,8 +2,8 @@
 
 use crate::answers::TestAnswer;
 use matching::outcomes::is_result;
-use questions::pattern::numbered_at;
-use questions::refusals::result_refusal;
+use refusals::numbered::numbered_at;
+use refusals::result_refusal;
 ghost use Rattle.model.specs.Demands.{ResultAnswered};
 ghost use Rattle.calls.specs.Answers.{testOf};
 

@@ -22,7 +22,7 @@ use Rattle.model.proofs.Decision.{placed}
 use Rattle.model.proofs.Verdict.{verdict-shown}
 use Rattle.format.specs.Given.{summaryIn, patternAt, PatternGiven, SetGiven}
 use Rattle.format.proofs.GivenLaws.{given-summary, given-first, given-set}
-use Rattle.questions.proofs.NumberedLaws.{first-pattern}
+use Rattle.questions.proofs.SectionLaws.{first-pattern}
 use Rattle.canonical.specs.Given.{embeddingIn}
 use Rattle.canonical.specs.Shown.{shownDocument, Showable}
 use Rattle.containment.specs.Answer.{answerOf, shownOf, caseBy, verdictOf, CaseGiven}

@@ -1,4 +1,4 @@
-// The verdict call over plain forms: a case's bytes, a limit, the tally by value and a lent answer buffer.
+// The verdict call over plain forms: a case's bytes, a limit, the caller and its tally by value, and a lent answer buffer.
 
 use canonical::show;
 use containment::Containment;
@@ -6,7 +6,7 @@ use containment::verdict::verdict;
 use format::sections::first_at;
 use format::sections::set_at;
 use questions::pattern::arity;
-use questions::refusals::verdict_refusal;
+use refusals::verdict_refusal;
 use strong::strong_table;
 ghost use mathlib.Core.Path.{_≡_};
 ghost use Prim.Native.Nat.{_≤_};
@@ -16,7 +16,7 @@ ghost use Rattle.model.specs.Bytes.{caseOf};
 ghost use Rattle.model.specs.Facts.{AcceptedCase};
 ghost use Rattle.model.specs.Demands.{VerdictAnswered};
 ghost use Rattle.deciding.specs.Told.{Told};
-ghost use Rattle.deciding.specs.Outcome.{outcomeOf, asAnswer, triedIn};
+ghost use Rattle.deciding.specs.Outcome.{outcomeOf, asAnswer};
 
 // The answer of the call: refused, with the number; or document 01's verdict with how many were tried: included, not included,
 // stopped.
@@ -25,12 +25,6 @@ pub enum Answer {
     Contained(u64),
     NotContained(u64),
     Stopped(u64),
-}
-
-// The answer, and the tally afterwards.
-pub struct Decided {
-    pub answer: Answer,
-    pub tally: u64,
 }
 
 // The verdict on an accepted case, whose strong children are gathered once, for judging and for what is shown. What "not included" shows
@@ -62,32 +56,14 @@ fn answer_of(r: Containment) -> Answer
     }
 }
 
-// How many were tried.
-fn tried_of(r: Containment) -> u64
-    ensures { λ n. ⌜ n ≡ triedIn r ⌝ }
+// Verdict: any bytes, any numbers and a buffer of any length may be given. A refusal alters nothing, and else "not included" writes what it
+// shows to the front of the answer buffer. Whoever holds the caller's tally raises it by tried, which is 0 of a refusal.
+pub fn verdict_call(case: &[u8], limit: u64, caller: u64, tally: u64, answer: &mut [u8]) -> Answer
+    ensures { λ r. ⌜ VerdictAnswered (now (case .entry)) limit caller tally (now (answer .entry)) (outcomeOf tally r (now (answer .exit))) ⌝ }
 {
-    match r {
-        Containment::Contained(tried) => tried,
-        Containment::NotContained(tried) => tried,
-        Containment::Stopped(tried) => tried,
-    }
-}
-
-// Verdict: any bytes, any numbers and a buffer of any length may be given. A refusal alters nothing; else the tally grows by tried,
-// and "not included" writes what it shows to the front of the answer buffer.
-pub fn verdict_call(case: &[u8], limit: u64, tally: u64, answer: &mut [u8]) -> Decided
-    ensures { λ r. ⌜ VerdictAnswered (now (case .entry)) limit tally (now (answer .entry)) (outcomeOf (r .answer) (now (answer .exit)) (r .tally)) ⌝ }
-{
-    let refused = verdict_refusal(case, limit, tally, answer.len());
+    let refused = verdict_refusal(case, limit, caller, tally, answer.len());
     if refused != 0 {
-        return Decided {
-            answer: Answer::Refused(refused),
-            tally,
-        };
+        return Answer::Refused(refused);
     }
-    let r = accepted(case, limit, answer);
-    Decided {
-        answer: answer_of(r),
-        tally: tally + tried_of(r),
-    }
+    answer_of(accepted(case, limit, answer))
 }

@@ -1,9 +1,11 @@
 // Limits and record widths, each named once.
 
-// The largest limit of a verdict, and the most a tally may come to.
+// The largest limit of a verdict, the most a tally may come to, and how many callers have one.
 pub const MAX_LIMIT: u64 = 1_000_000;
 
 pub const MAX_TALLY: u64 = 1_000_000_000_000;
+
+pub const CALLERS: u64 = 8;
 
 // The bytes that an answer buffer has at least, and the records that a lent table has at least.
 pub const MIN_BUFFER: usize = 4_096;

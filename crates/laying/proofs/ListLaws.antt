@@ -17,10 +17,10 @@ use Rattle.model.proofs.CaseFacts.{selected-facts}
 use Rattle.model.proofs.Embeddings.{embeddings-sound}
 use Rattle.format.specs.Given.{summaryIn, patternAt}
 use Rattle.format.proofs.GivenLaws.{given-summary}
-use Rattle.questions.specs.Numbered.{numberedAt}
+use Rattle.refusals.specs.Numbered.{numberedAt}
 use Rattle.format.proofs.ListLaws.{list-count}
-use Rattle.questions.proofs.NumberedLaws.{numbered-pattern}
-use Rattle.questions.proofs.AcceptedLaws.{selected-size, given-numbered}
+use Rattle.refusals.proofs.NumberedLaws.{numbered-pattern}
+use Rattle.refusals.proofs.AcceptedLaws.{selected-size, given-numbered}
 use Rattle.canonical.specs.Given.{embeddingIn, Embedded, WrittenOut}
 use Rattle.canonical.specs.declared.LaidOut.{LaidOut}
 use Rattle.canonical.proofs.ReadBackLaws.{back-document}

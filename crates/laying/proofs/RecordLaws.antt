@@ -27,7 +27,7 @@ use Rattle.model.proofs.CallFacts.{accepted-layout}
 use Rattle.model.proofs.CaseFacts.{selected-facts}
 use Rattle.model.proofs.Embeddings.{embeddings-sound}
 use Rattle.format.proofs.FrontLaws.{front-getD}
-use Rattle.questions.proofs.AcceptedLaws.{selected-size}
+use Rattle.refusals.proofs.AcceptedLaws.{selected-size}
 use Rattle.format.specs.declared.nodes.DocumentNode.{DocumentNode}
 use Rattle.format.specs.declared.nodes.SummaryNode.{SummaryNode}
 use Rattle.laying.specs.declared.laid.NodeRecord.{NodeRecord}

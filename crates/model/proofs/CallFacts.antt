@@ -2,23 +2,22 @@
 -- fact. Assumes nothing.
 use Prim.Native.Nat.{ℕ, _+_, _≤_, _<_}
 use mathlib.Core.Path.{_≡_, sym, subst}
-use mathlib.Core.Bool.{true, false, _&&_}
-use mathlib.Core.Logic.{_⊎_, inl, inr, _≢_}
+use mathlib.Core.Bool.{true, _&&_}
 use mathlib.Core.List.{List, [], _∷_, List·Memᴰ}
 use native.Mathlib.Omega.{arith}
 use lib.Dec.{eqb, ltb}
 use lib.ListN.{length}
-use borrow.Author.Tests.{eqb-true, eqb-false, leb-true, ltb-true}
+use borrow.Author.Tests.{eqb-true, leb-true, ltb-true}
 use Rattle.model.specs.Lists.{sameList}
-use Rattle.model.specs.Limits.{maxLimit, maxTally, minBuffer, minTable, maxDocument}
+use Rattle.model.specs.Limits.{maxLimit, maxTally, callers, minBuffer, minTable, maxDocument}
 use Rattle.model.specs.Tree.{parentOf, labelOf}
 use Rattle.model.specs.Pattern.{arity}
 use Rattle.model.specs.Embeddings.{summaryEmbeddings}
 use Rattle.model.specs.Fitting.{parentRule}
 use Rattle.model.specs.Bytes.{Case, caseOf, documentOf, listOf, isWholeDocument, isWholeList}
-use Rattle.model.specs.Questions.{between, limitInRange, bufferLargeEnough, tableLargeEnough, tallyInRange, documentRecordKept, documentKept, listInRange, patternGiven, selected, positionGiven, isSummaryEmbedding, ask, caseQuestions, verdictRefusal, fitsRefusal, resultRefusal, nodesRefusal, pathsRefusal, layoutRefusal}
+use Rattle.model.specs.Questions.{between, limitInRange, bufferLargeEnough, tableLargeEnough, callerInRange, tallyInRange, documentRecordKept, documentKept, listInRange, patternGiven, selected, positionGiven, isSummaryEmbedding, ask, caseQuestions, verdictRefusal, fitsRefusal, resultRefusal, nodesRefusal, pathsRefusal, layoutRefusal}
 use Rattle.model.specs.Facts.{AcceptedCase, DocumentFacts, ListFacts}
-use Rattle.model.proofs.ListLaws.{and-left, and-right, true-or-false, all-elim, all-below, any-elim, same-eq}
+use Rattle.model.proofs.ListLaws.{and-left, and-right, all-elim, all-below, any-elim, same-eq}
 use Rattle.model.proofs.Fitting.{rooted}
 use Rattle.model.proofs.CaseFacts.{between-facts, case-accepted, all-asked, asked}
 use Rattle.model.proofs.Refusals.{AllYes}
@@ -61,20 +60,21 @@ embedding-given c s l e =
 
 -- ---- what each accepted call has
 
-pub record VerdictFacts (b : List ℕ) (L tally bufferBytes : ℕ) : Type 0 where
+pub record VerdictFacts (b : List ℕ) (L caller tally bufferBytes : ℕ) : Type 0 where
   pub asked : AllYes (caseQuestions b)
   pub case : AcceptedCase b
   pub limitLow : 1 ≤ L
   pub limitHigh : L ≤ maxLimit
   pub buffer : minBuffer ≤ bufferBytes
+  pub known : caller < callers
   pub tallied : tally + L ≤ maxTally
 
-pub accepted-verdict : (b : List ℕ) (L tally bufferBytes : ℕ) → verdictRefusal b L tally bufferBytes ≡ 0 → VerdictFacts b L tally bufferBytes
-unfolding verdictRefusal limitInRange bufferLargeEnough tallyInRange
-accepted-verdict b L tally bufferBytes e =
+pub accepted-verdict : (b : List ℕ) (L caller tally bufferBytes : ℕ) → verdictRefusal b L caller tally bufferBytes ≡ 0 → VerdictFacts b L caller tally bufferBytes
+unfolding verdictRefusal limitInRange bufferLargeEnough callerInRange tallyInRange
+accepted-verdict b L caller tally bufferBytes e =
     let y =
-    all-asked b (ask 1 (limitInRange L) ∷ ask 2 (bufferLargeEnough bufferBytes) ∷ []) (ask 9 (tallyInRange tally L) ∷ [])
-    (omega arith, (omega arith, tt)) (omega arith, tt) e in
+    all-asked b (ask 1 (limitInRange L) ∷ ask 2 (bufferLargeEnough bufferBytes) ∷ []) (ask 16 (callerInRange caller) ∷ ask 9 (tallyInRange tally L) ∷ [])
+    (omega arith, (omega arith, tt)) (omega arith, (omega arith, tt)) e in
     let limit = between-facts 1 maxLimit L (y .0 .0) in
     record {
       asked = y .1;
@@ -82,7 +82,8 @@ accepted-verdict b L tally bufferBytes e =
       limitLow = limit .0;
       limitHigh = limit .1;
       buffer = leb-true minBuffer bufferBytes (y .0 .1 .0);
-      tallied = leb-true (tally + L) maxTally (y .2 .0);
+      known = ltb-true caller callers (y .2 .0);
+      tallied = leb-true (tally + L) maxTally (y .2 .1 .0);
     }
 
 pub record FitsFacts (b w : List ℕ) : Type 0 where

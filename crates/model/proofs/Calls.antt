@@ -35,19 +35,19 @@ by-number (suc n) a r = r (omega arith)
 
 -- ---- the verdict
 
-module _ (b : List ℕ) (L tally : ℕ) (buffer : List ℕ) where
-  pub verdict-refused : verdictRefusal b L tally (length buffer) ≢ 0
-      → verdictCall b L tally buffer
-      ≡ record { answer = record { refused = verdictRefusal b L tally (length buffer); kind = 0; tried = 0 }; buffer = buffer; tally = tally }
+module _ (b : List ℕ) (L caller tally : ℕ) (buffer : List ℕ) where
+  pub verdict-refused : verdictRefusal b L caller tally (length buffer) ≢ 0
+      → verdictCall b L caller tally buffer
+      ≡ record { answer = record { refused = verdictRefusal b L caller tally (length buffer); kind = 0; tried = 0 }; buffer = buffer; tally = tally }
   unfolding verdictCall verdictRefused
   verdict-refused f =
-      let number : ℕ = verdictRefusal b L tally (length buffer) in
+      let number : ℕ = verdictRefusal b L caller tally (length buffer) in
       chosen-refused number (verdictAccepted (caseOf b) L tally buffer) (verdictRefused number tally buffer) f
 
-  pub verdict-accepted : verdictRefusal b L tally (length buffer) ≡ 0 → verdictCall b L tally buffer ≡ verdictAccepted (caseOf b) L tally buffer
+  pub verdict-accepted : verdictRefusal b L caller tally (length buffer) ≡ 0 → verdictCall b L caller tally buffer ≡ verdictAccepted (caseOf b) L tally buffer
   unfolding verdictCall
   verdict-accepted e =
-      let number : ℕ = verdictRefusal b L tally (length buffer) in
+      let number : ℕ = verdictRefusal b L caller tally (length buffer) in
       chosen-accepted number (verdictAccepted (caseOf b) L tally buffer) (verdictRefused number tally buffer) e
 
 -- ---- fits, and is it a result
@@ -126,19 +126,19 @@ module _ (b : List ℕ) (s : ℕ) (l : List ℕ) (table : List LaidRecord) where
 -- ---- what is lent keeps its length
 
 -- the verdict's answer buffer, where what is shown fits 4,096 bytes
-pub verdict-length : (b : List ℕ) (L tally : ℕ) (buffer : List ℕ)
-    → (verdictRefusal b L tally (length buffer) ≡ 0
+pub verdict-length : (b : List ℕ) (L caller tally : ℕ) (buffer : List ℕ)
+    → (verdictRefusal b L caller tally (length buffer) ≡ 0
     → length (shown (caseOf b .summary) (caseOf b .first) (verdict (caseOf b .summary) (caseOf b .first) (caseOf b .members) L)) ≤ minBuffer)
-    → length (verdictCall b L tally buffer .buffer) ≡ length buffer
+    → length (verdictCall b L caller tally buffer .buffer) ≡ length buffer
 unfolding verdictAccepted
-verdict-length b L tally buffer fit =
-    by-number (verdictRefusal b L tally (length buffer))
+verdict-length b L caller tally buffer fit =
+    by-number (verdictRefusal b L caller tally (length buffer))
     (λ e.
-    let large : minBuffer ≤ length buffer = accepted-verdict b L tally (length buffer) e .buffer in
+    let large : minBuffer ≤ length buffer = accepted-verdict b L caller tally (length buffer) e .buffer in
     let small = fit e in
-    ap (λ (o : VerdictOutcome). length (o .buffer)) (verdict-accepted b L tally buffer e)
+    ap (λ (o : VerdictOutcome). length (o .buffer)) (verdict-accepted b L caller tally buffer e)
     ∙ front-length (shown (caseOf b .summary) (caseOf b .first) (verdict (caseOf b .summary) (caseOf b .first) (caseOf b .members) L)) buffer (omega arith))
-    (λ f. ap (λ (o : VerdictOutcome). length (o .buffer)) (verdict-refused b L tally buffer f))
+    (λ f. ap (λ (o : VerdictOutcome). length (o .buffer)) (verdict-refused b L caller tally buffer f))
 
 pub length-counted : (ns : List ℕ) → length (encodeCounted ns) ≡ 2 * suc (length ns)
 unfolding encodeCounted

@@ -7,8 +7,8 @@ use Rattle.model.specs.Fitting.{parentRule, strongChildren}
 use Rattle.model.specs.Canonical.{chainIn, chain, appendChain, layNode, layNodes, chains, hasChildOn, addMissing, addAll, fillNode, fillFrom, canonicalSpots, canonical, ownNodes, ownResult, passes, covered}
 use Rattle.model.specs.Verdict.{step, run, conclude, judge, verdict, triedOf}
 use Rattle.model.specs.Bytes.{field, fieldBytes, bytesOf, recordsAt, section, memberAt, setOf, caseOf, isWholeCase, sectionFields, caseFields, encodeCase, encodeDocument, encodeCounted, writtenAtFront}
-use Rattle.model.specs.Questions.{limitInRange, bufferLargeEnough, caseWhole, countsInRange, setInRange, summaryRecordKept, summaryKept, alike, siblingsDiffer, patternRecordKept, patternKept, patternsKept, positionsOnce, positionsKept, tallyInRange, patternGiven, refusal, caseQuestions, verdictRefusal, pathsRefusal}
-use Rattle.model.specs.Calls.{kindOf, shown, verdictAccepted, verdictRefused, verdictCall, pathsAccepted, pathsRefused, pathsCall}
+use Rattle.model.specs.Questions.{limitInRange, bufferLargeEnough, caseWhole, countsInRange, setInRange, summaryRecordKept, summaryKept, alike, siblingsDiffer, patternRecordKept, patternKept, patternsKept, positionsOnce, positionsKept, callerInRange, tallyInRange, patternGiven, refusal, caseQuestions, verdictRefusal, pathsRefusal}
+use Rattle.model.specs.Calls.{kindOf, shown, verdictAccepted, verdictRefused, verdictCall, talliedCall, pathsAccepted, pathsRefused, pathsCall}
 use Rattle.model.specs.Text.{decimalIn, decimal, number, numbers, line, nodeLine, nodeLines, answerLine, firstLines, shownText, verdictText, printed}
 
 unfoldable pub lists : Unit {0}
@@ -36,11 +36,11 @@ unfolding parentRule summaryRecordKept summaryKept alike siblingsDiffer patternR
 rules = tt
 
 unfoldable pub questions : Unit {0}
-unfolding bytes rules limitInRange bufferLargeEnough caseWhole countsInRange setInRange tallyInRange patternGiven refusal caseQuestions verdictRefusal pathsRefusal
+unfolding bytes rules limitInRange bufferLargeEnough caseWhole countsInRange setInRange callerInRange tallyInRange patternGiven refusal caseQuestions verdictRefusal pathsRefusal
 questions = tt
 
 unfoldable pub calls : Unit {0}
-unfolding judging questions kindOf shown verdictAccepted verdictRefused verdictCall pathsAccepted pathsRefused pathsCall
+unfolding judging questions kindOf shown verdictAccepted verdictRefused verdictCall talliedCall pathsAccepted pathsRefused pathsCall
 calls = tt
 
 unfoldable pub printing : Unit {0}

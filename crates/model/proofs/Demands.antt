@@ -1,5 +1,5 @@
--- Demands 1, 2 and 3, each sentence a theorem about the outcome of a call, proved by citing the layers below; and of each call, that
--- whoever has the model's outcome has the record of its contract. Assumes nothing.
+-- Demands 1, 2 and 3, each sentence a theorem about the outcome of a call, and separation and sum over runs of calls, proved by citing
+-- the layers below; and of each call, that whoever has the model's outcome has the record of its contract. Assumes nothing.
 use Prim.Native.Nat.{ℕ, suc, _+_, _*_, _≤_, _<_}
 use mathlib.Core.Path.{_≡_, refl, sym, ap, _∙_, subst}
 use mathlib.Core.Bool.{Bool, true, false, true≢false}
@@ -9,8 +9,9 @@ use native.Mathlib.Omega.{arith}
 use native.Mathlib.Nat.{zero-add}
 use lib.Count.{ones}
 use lib.ListN.{length, getD, take, length-append, length-map}
+use lib.Seq.{set-getD, getD-set-same, getD-set-other}
 use Rattle.model.specs.Lists.{upFrom}
-use Rattle.model.specs.Limits.{maxPattern, maxPosition, maxCanonical, minBuffer}
+use Rattle.model.specs.Limits.{callers, maxPattern, maxPosition, maxCanonical, minBuffer}
 use Rattle.model.specs.Tree.{Document, labelOf}
 use Rattle.model.specs.Summary.{Summary}
 use Rattle.model.specs.Pattern.{Pattern, arity, returnNodes, SummaryEmbedding, Contained, CounterExample}
@@ -20,10 +21,11 @@ use Rattle.model.specs.Canonical.{canonical, canonicalSpots, ownNodes, o
 use Rattle.model.specs.Verdict.{Verdict, included, notIncluded, stopped, verdict, triedOf}
 use Rattle.model.specs.Bytes.{Case, caseOf, documentOf, listOf, documentFields, sectionFields, encodeDocument, encodeCounted, writtenAtFront}
 use Rattle.model.specs.Questions.{selected, caseQuestions, verdictRefusal, fitsRefusal, resultRefusal, nodesRefusal, pathsRefusal, layoutRefusal}
-use Rattle.model.specs.Calls.{kindIncluded, kindNotIncluded, kindStopped, kindOf, shown, VerdictOutcome, verdictAccepted, verdictCall, TestAnswer, fitsCall, resultCall, CountOutcome, nodesAccepted, nodesCall, PathsAnswer, pathsAccepted, pathsCall, LaidRecord, laidRecord, LayoutOutcome, layoutAccepted, layoutCall}
+use Rattle.model.specs.Calls.{kindIncluded, kindNotIncluded, kindStopped, kindOf, shown, VerdictOutcome, refusedAnswer, verdictAccepted, verdictCall, tallyOf, TalliedOutcome, charged, talliedCall, TestAnswer, fitsCall, resultCall, CountOutcome, nodesAccepted, nodesCall, PathsAnswer, pathsAccepted, pathsCall, LaidRecord, laidRecord, LayoutOutcome, layoutAccepted, layoutCall}
+use Rattle.model.specs.Runs.{Call, given, after, receipts, talliesAfter, callsOf, receivedBy}
 use Rattle.model.specs.Facts.{SummaryFacts, PatternFacts, MemberFacts, CaseFacts}
 use Rattle.model.specs.Moving.{upgradeRefusal, downgradeRefusal, upgraded, downgraded, movedCall, upgradeCall, downgradeCall}
-use Rattle.model.specs.Demands.{TestTold, FitsTold, ResultTold, NodesTold, PathsTold, LayoutTold, SomeCounterExample, AllEmbeddingsPass, SomeEmbeddingFails, Shown, ReadsBack, Demand3, FitsAnswered, ResultAnswered, NodesAnswered, PathsAnswered, LayoutAnswered, VerdictAnswered, MoveAnswered, UpgradeAnswered, DowngradeAnswered}
+use Rattle.model.specs.Demands.{TestTold, FitsTold, ResultTold, NodesTold, PathsTold, LayoutTold, SomeCounterExample, AllEmbeddingsPass, SomeEmbeddingFails, Shown, ReadsBack, Demand3, FitsAnswered, ResultAnswered, NodesAnswered, PathsAnswered, LayoutAnswered, VerdictAnswered, TalliedAnswered, Separated, Summed, MoveAnswered, UpgradeAnswered, DowngradeAnswered}
 use Rattle.model.proofs.ListLaws.{length-map-upFrom, getD-map-upFrom}
 use Rattle.model.proofs.ReturnNodes.{length-returnNodes}
 use Rattle.model.proofs.Results.{result-exact, nodes-at-exact, nodes-at-ascending, path-mask-exact, path-mask-beyond, path-count-ones}
@@ -35,6 +37,7 @@ use Rattle.model.proofs.CallFacts.{accepted-verdict, accepted-fits, acc
 use Rattle.model.proofs.CaseFacts.{selected-facts, labels-some}
 use Rattle.model.proofs.Calls.{verdict-refused, verdict-accepted, fits-refused, fits-accepted, result-refused, result-accepted, nodes-refused, nodes-accepted, paths-refused, paths-accepted, layout-refused, layout-accepted, length-counted, verdict-length}
 use Rattle.model.proofs.Bytes.{FitFields, front-none, length-document}
+use Rattle.model.proofs.Runs.{VerdictRun, verdict-joins, separated, summed}
 use Rattle.model.proofs.Moving.{moved-refused, upgrade-moved, downgrade-moved}
 use Rattle.model.proofs.ReadBack.{AreBytes, label-small, canonical-labels, canonical-fields, reads-back}
 
@@ -278,10 +281,39 @@ accepted-demand b small asked f L tally buffer =
     }
 
 -- the verdict call keeps demand 3
-pub demand-3 : (b : List ℕ) → AreBytes b → (L tally : ℕ) (buffer : List ℕ) → verdictRefusal b L tally (length buffer) ≡ 0 → Demand3 b L tally buffer (verdictCall b L tally buffer)
-demand-3 b small L tally buffer e =
-    let f = accepted-verdict b L tally (length buffer) e in
-    subst (Demand3 b L tally buffer) (sym (verdict-accepted b L tally buffer e)) (accepted-demand b small (f .asked) (f .case .facts) L tally buffer)
+pub demand-3 : (b : List ℕ) → AreBytes b → (L caller tally : ℕ) (buffer : List ℕ) → verdictRefusal b L caller tally (length buffer) ≡ 0
+    → Demand3 b L tally buffer (verdictCall b L caller tally buffer)
+demand-3 b small L caller tally buffer e =
+    let f = accepted-verdict b L caller tally (length buffer) e in
+    subst (Demand3 b L tally buffer) (sym (verdict-accepted b L caller tally buffer e)) (accepted-demand b small (f .asked) (f .case .facts) L tally buffer)
+
+-- ---- Callers: over any run of calls that name one, each in whatever order and refused ones among them
+
+-- a verdict is such a call, and on the eight tallies its outcome is what it gives its caller and the tallies after it
+pub verdict-in-run : (b : List ℕ) (L caller : ℕ) (buffer tallies : List ℕ)
+    → let c : VerdictRun = verdict-joins b L caller buffer in talliedCall b L caller tallies buffer ≡ record { answer = given tallies c .answer; buffer = given tallies c .buffer; tallies = after tallies c }
+unfolding talliedCall verdict-joins
+verdict-in-run b L caller buffer tallies = refl
+
+-- separation: what a caller receives is what it receives from its own calls alone, from its own tally's start, whatever the other seven are
+pub separation : {R : Type 0} {tally tried : R → ℕ} (i : ℕ) (ts us : List ℕ) → length ts ≡ callers → length us ≡ callers → tallyOf ts i ≡ tallyOf us i
+    → (cs : List (Call R tally tried)) → Separated i ts us cs
+separation i ts us k l e cs = separated i ts us k l e cs
+
+-- so it is the same in two runs in which its own calls are the same, whichever calls the others make
+pub separation-of-two : {R : Type 0} {tally tried : R → ℕ} (i : ℕ) (ts us : List ℕ) → length ts ≡ callers → length us ≡ callers → tallyOf ts i ≡ tallyOf us i
+    → (cs ds : List (Call R tally tried)) → callsOf i cs ≡ callsOf i ds
+    → (receivedBy i (receipts ts cs) ≡ receivedBy i (receipts us ds)) × (tallyOf (talliesAfter ts cs) i ≡ tallyOf (talliesAfter us ds) i)
+separation-of-two i ts us k l e cs ds same =
+    let a = separation i ts us k l e cs in
+    let b = separation i us us l l refl ds in (
+      a .received ∙ ap (receipts us) same ∙ sym (b .received),
+      a .left ∙ ap (λ (xs : List _). tallyOf (talliesAfter us xs) i) same ∙ sym (b .left),
+    )
+
+-- sum: the eight together are their start plus the sum of tried over all calls, each its own start plus the sum over its own
+pub sum : {R : Type 0} {tally tried : R → ℕ} (ts : List ℕ) → length ts ≡ callers → (cs : List (Call R tally tried)) → Summed ts cs
+sum ts k cs = summed ts k cs
 
 -- ---- The calls: from the model's outcome to the record of the contract
 
@@ -325,12 +357,31 @@ layout-answered b s l before e =
       demand2 = λ z. subst (LayoutTold (caseOf b .summary) (selected (caseOf b) s) (listOf l) before) (sym e) (layout-told b s l before z);
     }
 
-pub verdict-answered : (b : List ℕ) → AreBytes b → (L tally : ℕ) (before : List ℕ) {o : VerdictOutcome} → o ≡ verdictCall b L tally before → VerdictAnswered b L tally before o
-verdict-answered b small L tally before e =
+pub verdict-answered : (b : List ℕ) → AreBytes b → (L caller tally : ℕ) (before : List ℕ) {o : VerdictOutcome} → o ≡ verdictCall b L caller tally before
+    → VerdictAnswered b L caller tally before o
+verdict-answered b small L caller tally before e =
     record {
       outcome = e;
-      demand1 = λ f. e ∙ verdict-refused b L tally before f;
-      demand3 = λ z. subst (Demand3 b L tally before) (sym e) (demand-3 b small L tally before z);
+      demand1 = λ f. e ∙ verdict-refused b L caller tally before f;
+      demand3 = λ z. subst (Demand3 b L tally before) (sym e) (demand-3 b small L caller tally before z);
+    }
+
+-- from what the caller receives to the eight tallies
+pub tallied-answered : (b : List ℕ) (L caller : ℕ) (tallies : List ℕ) → length tallies ≡ callers → (before : List ℕ) {o : VerdictOutcome}
+    → VerdictAnswered b L caller (tallyOf tallies caller) before o → TalliedAnswered b L caller tallies before (charged tallies caller o)
+unfolding talliedCall
+tallied-answered b L caller tallies size before {o} a =
+    let t : ℕ = tallyOf tallies caller in
+    record {
+      outcome = ap (charged tallies caller) (a .outcome);
+      demand1 = λ f.
+          ap (charged tallies caller) (a .demand1 f)
+          ∙ ap {B = TalliedOutcome} (λ (ts : List ℕ). record { answer = refusedAnswer (verdictRefusal b L caller t (length before)); buffer = before; tallies = ts }) (set-getD tallies caller 0);
+      demand3 = λ z.
+          let known : caller < callers = accepted-verdict b L caller t (length before) z .known in
+          subst (Demand3 b L t before)
+          (ap {B = VerdictOutcome} (λ (n : ℕ). record { answer = o .answer; buffer = o .buffer; tally = n }) (sym (getD-set-same tallies caller (o .tally) 0 (omega arith)))) (a .demand3 z);
+      others = λ i h. getD-set-other tallies caller i (o .tally) 0 h;
     }
 
 pub move-answered : (number : ℕ) (written : List ℕ) {Kept : CountOutcome → Type 0} (before : List ℕ) {o : CountOutcome} → (number ≡ 0 → Kept (movedCall number written before))
@@ -376,6 +427,6 @@ shown-small c f L = go (verdict (c .summary) (c .first) (c .members) L) refl
     go (notIncluded n es) e = size n es (shows c f L n es e .1)
     go (stopped n) e = none (stopped n) (λ k. not-or-stopped (stopped n) (kind-not-included (stopped n) .0 k) (n, refl))
 
-pub verdict-keeps-length : (b : List ℕ) (L tally : ℕ) (buffer : List ℕ) → length (verdictCall b L tally buffer .buffer) ≡ length buffer
-verdict-keeps-length b L tally buffer =
-    verdict-length b L tally buffer (λ e. shown-small (caseOf b) (accepted-verdict b L tally (length buffer) e .case .facts) L)
+pub verdict-keeps-length : (b : List ℕ) (L caller tally : ℕ) (buffer : List ℕ) → length (verdictCall b L caller tally buffer .buffer) ≡ length buffer
+verdict-keeps-length b L caller tally buffer =
+    verdict-length b L caller tally buffer (λ e. shown-small (caseOf b) (accepted-verdict b L caller tally (length buffer) e .case .facts) L)

@@ -35,7 +35,7 @@ pub mod CaseFacts
 pub mod CallFacts
 pub mod Calls
 pub mod Text
-pub mod Tally
+pub mod Runs
 pub mod Decision
 pub mod Sets
 pub mod ReadBack

@@ -11,7 +11,7 @@ use native.Mathlib.Nat.{zero-add, le-refl}
 use lib.ListN.{length, getD, length-append}
 use borrow.Author.Tests.{eqb-true, leb-true, le-leb}
 use Rattle.model.specs.Lists.{allOf}
-use Rattle.model.specs.Limits.{minBuffer, maxSummary, maxPattern, maxMembers, summaryWidth, patternWidth}
+use Rattle.model.specs.Limits.{callers, minBuffer, maxSummary, maxPattern, maxMembers, summaryWidth, patternWidth}
 use Rattle.model.specs.Pattern.{Pattern}
 use Rattle.model.specs.Bytes.{field, fieldsAt, recordsAt, summaryRecordAt, patternRecordAt, section, memberAt, setOf, setAt, caseEnd, Case, caseOf, summaryFields, sectionFields, caseFields, encodeCase}
 use Rattle.model.specs.Questions.{between, bufferLargeEnough, caseWhole, countInRange, countsInRange, setInRange, Question, ask, refusal, caseQuestions}
@@ -191,8 +191,8 @@ module _ (b : List ℕ) (small : AreBytes b) where
       }
 
 -- every verdict on what is written is the base's verdict on the old case: refusal, kind, tried, tally, every byte
-pub upgraded-verdict : (b : List ℕ) → AreBytes b → (bufferBytes : ℕ) → upgradeRefusal b bufferBytes ≡ 0 → (L tally : ℕ) (buffer : List ℕ)
-    → verdictCall (upgraded b) L tally buffer ≡ oldVerdictCall b L tally buffer
+pub upgraded-verdict : (b : List ℕ) → AreBytes b → (bufferBytes : ℕ) → upgradeRefusal b bufferBytes ≡ 0 → (L caller tally : ℕ) (buffer : List ℕ)
+    → caller < callers → verdictCall (upgraded b) L caller tally buffer ≡ oldVerdictCall b L tally buffer
 unfolding oldQuestions
 upgraded-verdict b small bufferBytes e = let y = accepted-upgrade b bufferBytes e .asked in call-one (upgraded-one b small (y .0) (y .1 .0))
 

@@ -17,7 +17,7 @@ use Rattle.model.specs.Questions.{verdictRefusal}
 use Rattle.model.specs.Calls.{VerdictOutcome, kindIncluded, kindNotIncluded, kindStopped, kindOf, verdictAccepted, verdictCall}
 use Rattle.model.specs.Facts.{CaseFacts}
 use Rattle.model.specs.Demands.{AllEmbeddingsPass, Shown, Demand3, VerdictAnswered}
-use Rattle.model.specs.Text.{ascii, firstLines, shownText, verdictText, refusedText, printed}
+use Rattle.model.specs.Text.{ascii, firstLines, shownText, verdictText, refusedText, programCaller, programRefusal, printed}
 use Rattle.model.proofs.Verdict.{included-judge, not-included-judge, stopped-judge, verdict-judge}
 use Rattle.model.proofs.Calls.{by-number, verdict-accepted}
 use Rattle.model.proofs.CallFacts.{accepted-verdict}
@@ -64,17 +64,17 @@ shown-printable b small f s =
 
 -- ---- from the call to the text
 
-module _ (b : List ℕ) {before : List ℕ} (size : length before ≡ minBuffer) {o : VerdictOutcome} (a : VerdictAnswered b maxLimit 0 before o) where
+module _ (b : List ℕ) {before : List ℕ} (size : length before ≡ minBuffer) {o : VerdictOutcome} (a : VerdictAnswered b maxLimit programCaller 0 before o) where
   abbrev number : ℕ
-  number = verdictRefusal b maxLimit 0 minBuffer
+  number = programRefusal b
 
-  same-number : verdictRefusal b maxLimit 0 (length before) ≡ number
-  same-number = ap (verdictRefusal b maxLimit 0) size
+  same-number : verdictRefusal b maxLimit programCaller 0 (length before) ≡ number
+  same-number = ap (verdictRefusal b maxLimit programCaller 0) size
 
   -- an answer with a kind is no refusal
-  pub accepted-kind : {k : ℕ} → o .answer .kind ≡ k → 0 < k → verdictRefusal b maxLimit 0 (length before) ≡ 0
+  pub accepted-kind : {k : ℕ} → o .answer .kind ≡ k → 0 < k → verdictRefusal b maxLimit programCaller 0 (length before) ≡ 0
   accepted-kind {k} e h =
-      by-number (verdictRefusal b maxLimit 0 (length before)) (λ z. z)
+      by-number (verdictRefusal b maxLimit programCaller 0 (length before)) (λ z. z)
       (λ f. absurd (let z : o .answer .kind ≡ 0 = ap (λ (x : VerdictOutcome). x .answer .kind) (a .demand1 f) in omega arith))
 
   text-by : {k : ℕ} → o .answer .kind ≡ k → 0 < k → {v : Verdict} → verdict (caseOf b .summary) (caseOf b .first) (caseOf b .members) maxLimit ≡ v
@@ -114,9 +114,9 @@ module _ (b : List ℕ) {before : List ℕ} (size : length before ≡ minBuffer)
   pub prints-refused : o .answer .kind ≡ 0 → printed b ≡ refusedText (o .answer .refused)
   unfolding kindOf verdictAccepted
   prints-refused e =
-      by-number (verdictRefusal b maxLimit 0 (length before))
+      by-number (verdictRefusal b maxLimit programCaller 0 (length before))
       (λ z. absurd (some (verdict (caseOf b .summary) (caseOf b .first) (caseOf b .members) maxLimit)
-      (sym (ap (λ (x : VerdictOutcome). x .answer .kind) (a .outcome ∙ verdict-accepted b maxLimit 0 before z)) ∙ e)))
+      (sym (ap (λ (x : VerdictOutcome). x .answer .kind) (a .outcome ∙ verdict-accepted b maxLimit programCaller 0 before z)) ∙ e)))
       (λ f.
       printed-refused b (λ z. f (same-number ∙ z))
       ∙ ap refusedText (sym (ap (λ (x : VerdictOutcome). x .answer .refused) (a .demand1 f) ∙ same-number)))
@@ -138,16 +138,16 @@ module _ (b : List ℕ) {before : List ℕ} (size : length before ≡ minBuffer)
       let d = demand e (omega arith) in
       let s = d .shown e in
       let r = d .readsBack e in
-      let p : Printable (s .document) (s .result) = shown-printable b small (accepted-verdict b maxLimit 0 (length before) (accepted-kind e (omega arith)) .case .facts) s in
+      let p : Printable (s .document) (s .result) = shown-printable b small (accepted-verdict b maxLimit programCaller 0 (length before) (accepted-kind e (omega arith)) .case .facts) s in
       subst (λ (x : List ℕ). length x ≤ maxText) (sym (prints-shown e ∙ ap₂ (shownText (o .answer .tried)) (r .document) (r .result))) (shown-small (o .answer .tried) (d .limited) p)
 
 -- the text of any bytes has at most 21,263 bytes
 pub printed-small : (b : List ℕ) → AreBytes b → length (printed b) ≤ maxText
 unfolding verdictAccepted kindOf
 printed-small b small =
-    by-number (verdictRefusal b maxLimit 0 (length blank))
-    (λ z. go (verdict (caseOf b .summary) (caseOf b .first) (caseOf b .members) maxLimit) (ap (λ (x : VerdictOutcome). x .answer .kind) (verdict-accepted b maxLimit 0 blank z)))
-    (λ f. subst (λ (x : List ℕ). length x ≤ maxText) (sym (printed-refused b (λ z. f (ap (verdictRefusal b maxLimit 0) size ∙ z)))) (refused-small b))
+    by-number (verdictRefusal b maxLimit programCaller 0 (length blank))
+    (λ z. go (verdict (caseOf b .summary) (caseOf b .first) (caseOf b .members) maxLimit) (ap (λ (x : VerdictOutcome). x .answer .kind) (verdict-accepted b maxLimit programCaller 0 blank z)))
+    (λ f. subst (λ (x : List ℕ). length x ≤ maxText) (sym (printed-refused b (λ z. f (ap (verdictRefusal b maxLimit programCaller 0) size ∙ z)))) (refused-small b))
   where
     blank : List ℕ
     blank = replicate minBuffer 0
@@ -155,10 +155,10 @@ printed-small b small =
     size : length blank ≡ minBuffer
     size = length-replicate {A = ℕ} minBuffer 0
 
-    call : VerdictAnswered b maxLimit 0 blank (verdictCall b maxLimit 0 blank)
-    call = verdict-answered b small maxLimit 0 blank refl
+    call : VerdictAnswered b maxLimit programCaller 0 blank (verdictCall b maxLimit programCaller 0 blank)
+    call = verdict-answered b small maxLimit programCaller 0 blank refl
 
-    go : (v : Verdict) → verdictCall b maxLimit 0 blank .answer .kind ≡ kindOf v → length (printed b) ≤ maxText
+    go : (v : Verdict) → verdictCall b maxLimit programCaller 0 blank .answer .kind ≡ kindOf v → length (printed b) ≤ maxText
     go (included n) e = included-small b size call e
     go (notIncluded n es) e = not-small b size call small e
     go (stopped n) e = stopped-small b size call e

@@ -1,23 +1,23 @@
 -- Sets. A set of one gives the base's verdict, call by call; the order of the members, and a member twice, change nothing of a verdict;
 -- a further member never turns "included" into another verdict. All because a trial passes exactly when some member has its result, and
 -- the trials do not depend on the set. Assumes nothing.
-use Prim.Native.Nat.{ℕ, _*_, _≤_}
+use Prim.Native.Nat.{ℕ, _*_, _≤_, _<_}
 use mathlib.Core.Path.{_≡_, refl, sym, ap, ap₂, _∙_, subst}
 use mathlib.Core.Bool.{Bool, true, false, _&&_}
 use mathlib.Core.Logic.{_↔_}
 use mathlib.Core.List.{List, [], _∷_, _++_, append-assoc, List·Memᴰ, List·Memᴰ·head, List·Memᴰ·eq-of-singleton}
 use lib.Dec.{eqb}
 use lib.ListN.{length, length-map}
-use borrow.Author.Tests.{le-leb, eq-eqb}
+use borrow.Author.Tests.{le-leb, lt-ltb, eq-eqb}
 use Rattle.model.specs.Lists.{anyOf, allOf}
-use Rattle.model.specs.Limits.{maxSummary, maxPattern, maxCaseBytes, summaryWidth}
+use Rattle.model.specs.Limits.{callers, maxSummary, maxPattern, maxCaseBytes, summaryWidth}
 use Rattle.model.specs.Summary.{Summary}
 use Rattle.model.specs.Pattern.{Pattern, arity, Result, Contained, ContainedIn}
 use Rattle.model.specs.Embeddings.{summaryEmbeddings}
 use Rattle.model.specs.Canonical.{passes, covered}
 use Rattle.model.specs.Verdict.{Verdict, included, verdict}
 use Rattle.model.specs.Bytes.{summaryRecordAt, section, firstAt, Case, isWholeCase, sectionFields, caseFields, encodeCase}
-use Rattle.model.specs.Questions.{between, limitInRange, bufferLargeEnough, caseWhole, countInRange, countsInRange, setInRange, summaryKept, siblingsDiffer, patternKept, patternsKept, positionsOnce, positionsKept, tallyInRange, Question, ask, refusal, caseQuestions, verdictRefusal}
+use Rattle.model.specs.Questions.{between, limitInRange, bufferLargeEnough, caseWhole, countInRange, countsInRange, setInRange, summaryKept, siblingsDiffer, patternKept, patternsKept, positionsOnce, positionsKept, callerInRange, tallyInRange, Question, ask, refusal, caseQuestions, verdictRefusal}
 use Rattle.model.specs.Calls.{VerdictOutcome, outcomeBy, verdictAccepted, verdictCall, verdictRefused}
 use Rattle.model.specs.OldForm.{OldRecord, oldWidth, oldRecordFields, oldRecordAt, newRecord, newPattern, SetOfOne, OldCase, secondAt, oldEnd, oldCaseOf, oldFields, encodeOldCase, oneOf, oldWhole, oldCountsInRange, oldPatternsKept, oldPositionsKept, oldQuestions, oldVerdictRefusal, oldVerdict, oldAccepted, oldVerdictCall}
 use Rattle.model.proofs.ListLaws.{bool-ext, and-intro, any-intro, any-elim}
@@ -141,17 +141,20 @@ module _ {a b : List ℕ} (s : SetOfOne a b) where
       ∙ ap refusal (sym (append-assoc before four (set ∷ rest))) ∙ refusal-drop (before ++ four) set rest (one-in-range c) ∙ ap refusal (append-assoc before four rest)
       ∙ λ i. refusal (before ++ asked c ((s .new ∙ sym (s .old)) i) (counts-one c i) (kept-one c i) (positions-one c i) after)
 
-  refusal-one : (L tally bytes : ℕ) → verdictRefusal b L tally bytes ≡ oldVerdictRefusal a L tally bytes
-  unfolding verdictRefusal oldVerdictRefusal
-  refusal-one L tally bytes = refused-one (ask 1 (limitInRange L) ∷ ask 2 (bufferLargeEnough bytes) ∷ []) (ask 9 (tallyInRange tally L) ∷ [])
+  refusal-one : (L caller tally bytes : ℕ) → caller < callers → verdictRefusal b L caller tally bytes ≡ oldVerdictRefusal a L tally bytes
+  unfolding verdictRefusal oldVerdictRefusal callerInRange
+  refusal-one L caller tally bytes h =
+      let before : List Question = ask 1 (limitInRange L) ∷ ask 2 (bufferLargeEnough bytes) ∷ [] in
+      let after : List Question = ask 9 (tallyInRange tally L) ∷ [] in
+      refusal-drop (before ++ caseQuestions b) (ask 16 (callerInRange caller)) after (lt-ltb caller callers h) ∙ refused-one before after
 
-  -- the base's outcome, whole: refusal, kind, tried, tally, every byte
-  pub call-one : (L tally : ℕ) (buffer : List ℕ) → verdictCall b L tally buffer ≡ oldVerdictCall a L tally buffer
+  -- the base's outcome, whole: refusal, kind, tried, tally, every byte; whichever of the callers asks
+  pub call-one : (L caller tally : ℕ) (buffer : List ℕ) → caller < callers → verdictCall b L caller tally buffer ≡ oldVerdictCall a L tally buffer
   unfolding verdictCall oldVerdictCall verdictAccepted oldAccepted
-  call-one L tally buffer =
+  call-one L caller tally buffer h =
       let c : OldCase = oldCaseOf a in
       ap₂ (λ (n : ℕ) (o : VerdictOutcome). elim (eqb n 0) as (λ _. VerdictOutcome) [ true ↦ o | false ↦ verdictRefused n tally buffer ])
-      (refusal-one L tally (length buffer))
+      (refusal-one L caller tally (length buffer) h)
       (ap (λ (d : Case). verdictAccepted d L tally buffer) (s .same)
       ∙ ap (λ (v : Verdict). outcomeBy (c .summary) (newPattern (c .first)) v tally buffer) (verdict-one (c .summary) (newPattern (c .first)) (newPattern (c .second)) L))
 

@@ -13,13 +13,14 @@ use borrow.Author.Tests.{lt-ltb, le-ltb, ltb-true, ltb-false}
 use Rattle.model.specs.Lists.{upFrom}
 use Rattle.model.specs.Limits.{maxLimit, minBuffer, maxCanonical, maxPosition, maxText}
 use Rattle.model.specs.Tree.{Document, parentOf, labelOf}
-use Rattle.model.specs.Text.{ascii, digit, decimalIn, decimal, readOn, number, numbers, line, nodeLine, nodeLines, answerLine, firstLines, shownText, refusedText, caseText, printed, Told, told}
+use Rattle.model.specs.Text.{ascii, digit, decimalIn, decimal, readOn, number, numbers, line, nodeLine, nodeLines, answerLine, firstLines, shownText, refusedText, caseText, programCaller, programTallies, programRefusal, printed, Told, told}
 use Rattle.model.specs.Bytes.{caseOf}
 use Rattle.model.specs.OldForm.{oldQuestions}
 use Rattle.model.specs.Moving.{upgradeRefusal, downgradeRefusal}
 use Rattle.model.specs.Questions.{Question, refusal, caseQuestions, verdictRefusal}
 use Rattle.model.proofs.ListLaws.{true-or-false, length-upFrom, upFrom-mem}
 use Rattle.model.proofs.Refusals.{refusal-yes, refusal-no}
+use Rattle.model.specs.Calls.{tallyOf}
 use Rattle.model.proofs.Calls.{chosen-accepted, chosen-refused}
 
 -- ---- a number in decimal
@@ -262,20 +263,20 @@ refusal-most k (q ∷ qs) h = go (true-or-false (q .answer)) (refusal-most k qs 
     go (inl y) r = let e = refusal-yes q qs y in omega arith
     go (inr n) r = let e = refusal-no q qs n in let l = h .0 in omega arith
 
-verdict-most : (b : List ℕ) (L tally bufferBytes : ℕ) → verdictRefusal b L tally bufferBytes ≤ 14
+verdict-most : (b : List ℕ) (L caller tally bufferBytes : ℕ) → verdictRefusal b L caller tally bufferBytes ≤ 16
 unfolding verdictRefusal caseQuestions
-verdict-most b L tally bufferBytes =
-    refusal-most 14 _
-    (omega arith, (omega arith, (omega arith, (omega arith, (omega arith, (omega arith, (omega arith, (omega arith, (omega arith, (omega arith, tt))))))))))
+verdict-most b L caller tally bufferBytes =
+    refusal-most 16 _
+    (omega arith, (omega arith, (omega arith, (omega arith, (omega arith, (omega arith, (omega arith, (omega arith, (omega arith, (omega arith, (omega arith, tt)))))))))))
 
 module _ (b : List ℕ) where
-  pub printed-refused : verdictRefusal b maxLimit 0 minBuffer ≢ 0 → printed b ≡ refusedText (verdictRefusal b maxLimit 0 minBuffer)
+  pub printed-refused : programRefusal b ≢ 0 → printed b ≡ refusedText (programRefusal b)
   unfolding printed
-  printed-refused f = chosen-refused (verdictRefusal b maxLimit 0 minBuffer) (caseText (caseOf b)) (refusedText (verdictRefusal b maxLimit 0 minBuffer)) f
+  printed-refused f = chosen-refused (programRefusal b) (caseText (caseOf b)) (refusedText (programRefusal b)) f
 
-  pub printed-accepted : verdictRefusal b maxLimit 0 minBuffer ≡ 0 → printed b ≡ caseText (caseOf b)
+  pub printed-accepted : programRefusal b ≡ 0 → printed b ≡ caseText (caseOf b)
   unfolding printed
-  printed-accepted e = chosen-accepted (verdictRefusal b maxLimit 0 minBuffer) (caseText (caseOf b)) (refusedText (verdictRefusal b maxLimit 0 minBuffer)) e
+  printed-accepted e = chosen-accepted (programRefusal b) (caseText (caseOf b)) (refusedText (programRefusal b)) e
 
 -- a refusal's line is short
 pub refused-short : (n : ℕ) → n < 100 → length (refusedText n) ≤ 11
@@ -283,8 +284,8 @@ unfolding refusedText
 refused-short n h = let e = one-line-small (ascii "refused") 1 n (omega arith) in omega arith
 
 -- so it fits
-pub refused-small : (b : List ℕ) → length (refusedText (verdictRefusal b maxLimit 0 minBuffer)) ≤ maxText
-refused-small b = let m = verdict-most b maxLimit 0 minBuffer in omega (arith, refused-short (verdictRefusal b maxLimit 0 minBuffer) (omega arith))
+pub refused-small : (b : List ℕ) → length (refusedText (programRefusal b)) ≤ maxText
+refused-small b = let m = verdict-most b maxLimit programCaller (tallyOf programTallies programCaller) minBuffer in omega (arith, refused-short (programRefusal b) (omega arith))
 
 -- so do the first lines
 pub first-fits : (words : List ℕ) (n : ℕ) → length words ≤ 12 → n ≤ maxLimit → length (firstLines words n) ≤ maxText

@@ -1,10 +1,10 @@
--- The whole outcome of each of document 01's six calls: answer, buffer or table afterwards, tally afterwards. A refusal holds its
+-- The whole outcome of each of document 01's six calls: answer, buffer or table afterwards, tallies afterwards. A refusal holds its
 -- number and zero in every other field, and alters no lent byte, record or tally.
 use Prim.Native.Nat.{ℕ, _+_}
 use mathlib.Core.Bool.{Bool, true, false}
 use mathlib.Core.List.{List, [], _++_, map}
 use lib.Dec.{eqb}
-use lib.ListN.{length, replicate}
+use lib.ListN.{length, getD, set, replicate}
 use Rattle.model.specs.Lists.{upFrom}
 use Rattle.model.specs.Limits.{maxPattern}
 use Rattle.model.specs.Summary.{Summary, summaryLabel}
@@ -50,6 +50,7 @@ notIncludedAnswer n = record { refused = 0; kind = kindNotIncluded; tried = n }
 abbrev pub stoppedAnswer : ℕ → VerdictAnswer
 stoppedAnswer n = record { refused = 0; kind = kindStopped; tried = n }
 
+-- what a caller receives: the answer, the buffer and its own tally afterwards
 pub record VerdictOutcome : Type 0 where
   pub answer : VerdictAnswer
   pub buffer : List ℕ
@@ -72,11 +73,29 @@ verdictAccepted c L tally buffer = outcomeBy (c .summary) (c .first) (verdict (c
 unfoldable pub verdictRefused : ℕ → ℕ → List ℕ → VerdictOutcome
 verdictRefused number tally buffer = record { answer = refusedAnswer number; buffer = buffer; tally = tally }
 
--- Verdict: case, limit, tally, answer buffer
-unfoldable pub verdictCall : List ℕ → ℕ → ℕ → List ℕ → VerdictOutcome
-verdictCall b L tally buffer =
-    let number : ℕ = verdictRefusal b L tally (length buffer) in
+-- Verdict: case, limit, caller, that caller's tally, answer buffer
+unfoldable pub verdictCall : List ℕ → ℕ → ℕ → ℕ → List ℕ → VerdictOutcome
+verdictCall b L caller tally buffer =
+    let number : ℕ = verdictRefusal b L caller tally (length buffer) in
     elim (eqb number 0) [ true ↦ verdictAccepted (caseOf b) L tally buffer | false ↦ verdictRefused number tally buffer ]
+
+-- of the eight tallies, a caller's; whoever is not 0 to 7 has none, which counts as 0
+abbrev pub tallyOf : List ℕ → ℕ → ℕ
+tallyOf tallies caller = getD tallies caller 0
+
+-- the outcome on all eight
+pub record TalliedOutcome : Type 0 where
+  pub answer : VerdictAnswer
+  pub buffer : List ℕ
+  pub tallies : List ℕ
+
+-- the caller's own tally is as the outcome has it, every other as it was
+abbrev pub charged : List ℕ → ℕ → VerdictOutcome → TalliedOutcome
+charged tallies caller o = record { answer = o .answer; buffer = o .buffer; tallies = set tallies caller (o .tally) }
+
+-- Verdict: case, limit, caller, the eight tallies, answer buffer
+unfoldable pub talliedCall : List ℕ → ℕ → ℕ → List ℕ → List ℕ → TalliedOutcome
+talliedCall b L caller tallies buffer = charged tallies caller (verdictCall b L caller (tallyOf tallies caller) buffer)
 
 -- an answer that is yes (1) or no (0)
 pub record TestAnswer : Type 0 where

@@ -7,7 +7,7 @@ use mathlib.Core.Logic.{_↔_}
 use mathlib.Core.List.{List, _∷_, _++_, map, List·Memᴰ}
 use lib.Count.{ones}
 use lib.ListN.{length, getD, take, replicate}
-use Rattle.model.specs.Lists.{Ascending, has}
+use Rattle.model.specs.Lists.{Ascending, has, total}
 use Rattle.model.specs.Limits.{minBuffer, maxPattern, maxCanonical, documentWidth}
 use Rattle.model.specs.Tree.{Document}
 use Rattle.model.specs.Summary.{Summary, Fits}
@@ -16,7 +16,8 @@ use Rattle.model.specs.Embeddings.{summaryEmbeddings}
 use Rattle.model.specs.Canonical.{canonical, canonicalSpots, ownResult, covered}
 use Rattle.model.specs.Bytes.{field, sectionEnd, caseOf, documentOf, listOf, encodeDocument, encodeCounted, writtenAtFront, shownSection, shownList}
 use Rattle.model.specs.Questions.{selected, verdictRefusal, fitsRefusal, resultRefusal, nodesRefusal, pathsRefusal, layoutRefusal}
-use Rattle.model.specs.Calls.{refusedAnswer, VerdictOutcome, kindIncluded, kindNotIncluded, kindStopped, verdictCall, TestAnswer, yesAnswer, noAnswer, fitsCall, resultCall, CountOutcome, nodesCall, PathsAnswer, pathsCall, LaidRecord, laidRecord, LayoutOutcome, layoutCall}
+use Rattle.model.specs.Calls.{refusedAnswer, VerdictOutcome, kindIncluded, kindNotIncluded, kindStopped, verdictCall, tallyOf, TalliedOutcome, talliedCall, TestAnswer, yesAnswer, noAnswer, fitsCall, resultCall, CountOutcome, nodesCall, PathsAnswer, pathsCall, LaidRecord, laidRecord, LayoutOutcome, layoutCall}
+use Rattle.model.specs.Runs.{Call, receipts, talliesAfter, callsOf, receivedBy, triedOver}
 use Rattle.model.specs.OldForm.{SetOfOne}
 use Rattle.model.specs.Moving.{upgradeRefusal, downgradeRefusal, upgraded, downgraded, movedAccepted, movedCall, upgradeCall, downgradeCall}
 
@@ -145,6 +146,21 @@ pub record Demand3Of (b : List ℕ) (S : Summary) (P : Pattern) (Qs : List Patte
 abbrev pub Demand3 : List ℕ → ℕ → ℕ → List ℕ → VerdictOutcome → Type 0
 Demand3 b L tally buffer o = Demand3Of b (caseOf b .summary) (caseOf b .first) (caseOf b .members) L tally buffer o
 
+-- ---- Callers, over a run of calls that name them
+
+module _ {R : Type 0} {tally tried : R → ℕ} where
+  -- what caller i receives over the run, answers, buffers and tally, is what it receives from its own calls alone, in their order, on
+  -- tallies us
+  pub record Separated (i : ℕ) (ts us : List ℕ) (cs : List (Call R tally tried)) : Type 0 where
+    pub received : receivedBy i (receipts ts cs) ≡ receipts us (callsOf i cs)
+    pub left : tallyOf (talliesAfter ts cs) i ≡ tallyOf (talliesAfter us (callsOf i cs)) i
+
+  -- after the run the eight together are their start plus the sum of tried over all calls, and each is its own start plus the sum over
+  -- its caller's own
+  pub record Summed (ts : List ℕ) (cs : List (Call R tally tried)) : Type 0 where
+    pub together : total (talliesAfter ts cs) ≡ total ts + triedOver tried (receipts ts cs)
+    pub each : (i : ℕ) → tallyOf (talliesAfter ts cs) i ≡ tallyOf ts i + triedOver tried (receivedBy i (receipts ts cs))
+
 -- ---- Moving the filed cases over, of an accepted call
 
 -- what is written, whole, at the buffer's front is the given case in the other form, by `Same`; the call the other way accepts it, and
@@ -198,11 +214,22 @@ pub record LayoutAnswered (b : List ℕ) (s : ℕ) (l : List ℕ) (before : List
   pub demand1 : Demand1 (layoutRefusal b s l (length before)) o (λ n. record { answer = record { refused = n; count = 0 }; table = before })
   pub demand2 : layoutRefusal b s l (length before) ≡ 0 → LayoutTold (caseOf b .summary) (selected (caseOf b) s) (listOf l) before o
 
--- Verdict: case, limit, tally, answer buffer
-pub record VerdictAnswered (b : List ℕ) (L tally : ℕ) (before : List ℕ) (o : VerdictOutcome) : Type 0 where
-  pub outcome : o ≡ verdictCall b L tally before
-  pub demand1 : Demand1 (verdictRefusal b L tally (length before)) o (λ n. record { answer = refusedAnswer n; buffer = before; tally = tally })
-  pub demand3 : verdictRefusal b L tally (length before) ≡ 0 → Demand3 b L tally before o
+-- Verdict: case, limit, caller, that caller's tally, answer buffer
+pub record VerdictAnswered (b : List ℕ) (L caller tally : ℕ) (before : List ℕ) (o : VerdictOutcome) : Type 0 where
+  pub outcome : o ≡ verdictCall b L caller tally before
+  pub demand1 : Demand1 (verdictRefusal b L caller tally (length before)) o (λ n. record { answer = refusedAnswer n; buffer = before; tally = tally })
+  pub demand3 : verdictRefusal b L caller tally (length before) ≡ 0 → Demand3 b L tally before o
+
+-- what the caller receives, of an outcome on all eight tallies
+abbrev pub ownOutcome : ℕ → TalliedOutcome → VerdictOutcome
+ownOutcome caller o = record { answer = o .answer; buffer = o .buffer; tally = tallyOf (o .tallies) caller }
+
+-- Verdict: case, limit, caller, the eight tallies, answer buffer. Of the tallies the caller's own alone decides and alone may alter
+pub record TalliedAnswered (b : List ℕ) (L caller : ℕ) (tallies before : List ℕ) (o : TalliedOutcome) : Type 0 where
+  pub outcome : o ≡ talliedCall b L caller tallies before
+  pub demand1 : Demand1 (verdictRefusal b L caller (tallyOf tallies caller) (length before)) o (λ n. record { answer = refusedAnswer n; buffer = before; tallies = tallies })
+  pub demand3 : verdictRefusal b L caller (tallyOf tallies caller) (length before) ≡ 0 → Demand3 b L (tallyOf tallies caller) before (ownOutcome caller o)
+  pub others : (i : ℕ) → (i ≡ caller → ⊥) → tallyOf (o .tallies) i ≡ tallyOf tallies i
 
 -- A tool of #102 whose refusal has this number, or 0, and which then writes this and keeps that
 pub record MoveAnswered (number : ℕ) (written : List ℕ) (Kept : CountOutcome → Type 0) (before : List ℕ) (o : CountOutcome) : Type 0 where

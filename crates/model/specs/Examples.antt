@@ -10,7 +10,7 @@ use Rattle.model.specs.Tree.{DocumentRecord}
 use Rattle.model.specs.Summary.{SummaryRecord, Summary}
 use Rattle.model.specs.Pattern.{PatternRecord, Pattern}
 use Rattle.model.specs.Bytes.{Case, encodeCase, encodeDocument, encodeCounted}
-use Rattle.model.specs.Calls.{VerdictOutcome, PathsAnswer, verdictCall, pathsCall, kindIncluded, kindNotIncluded, kindStopped}
+use Rattle.model.specs.Calls.{TalliedOutcome, PathsAnswer, talliedCall, pathsCall, kindIncluded, kindNotIncluded, kindStopped}
 use Rattle.model.specs.Text.{ascii, printed}
 
 -- labels
@@ -49,21 +49,30 @@ exampleCase S P Q = record { summary = S; first = P; members = Q ∷ [] }
 abbrev second : Case → Pattern
 second c = getD (c .members) 0 []
 
--- an answer buffer full of bytes 170, and the tally before
+-- an answer buffer full of bytes 170; the caller; eight tallies, of which the caller's is this, and the others would be refused
 abbrev before : List ℕ
 before = replicate minBuffer 170
+
+abbrev caller : ℕ
+caller = 2
+
+abbrev talliesWith : ℕ → List ℕ
+talliesWith own = 18_446_744_073_709_551_615 ∷ 1_000_000_000_000 ∷ own ∷ replicate 5 1_000_000_000_001
 
 abbrev start : ℕ
 start = 7
 
--- the call is accepted with this kind and tried, the tally has grown by tried, and the front of the buffer alone is written
-unfoldable pub answers : VerdictOutcome → ℕ → ℕ → List ℕ → Bool
+-- the call is accepted with this kind and tried, the caller's tally has grown by tried, and the front of the buffer alone is written
+unfoldable pub answers : TalliedOutcome → ℕ → ℕ → List ℕ → Bool
 answers o kind tried written =
-    eqb (o .answer .refused) 0 && eqb (o .answer .kind) kind && eqb (o .answer .tried) tried && eqb (o .tally) (start + tried)
+    eqb (o .answer .refused) 0 && eqb (o .answer .kind) kind && eqb (o .answer .tried) tried && sameList (o .tallies) (talliesWith (start + tried))
     && sameList (o .buffer) (written ++ drop (length written) before)
 
+abbrev call : List ℕ → ℕ → TalliedOutcome
+call b limit = talliedCall b limit caller (talliesWith start) before
+
 unfoldable pub judged : Case → ℕ → ℕ → ℕ → List ℕ → Bool
-judged c limit = answers (verdictCall (encodeCase c) limit start before)
+judged c limit = answers (call (encodeCase c) limit)
 
 -- "not included" shows this volume and this result
 unfoldable pub shows : List DocumentRecord → List ℕ → List ℕ
@@ -134,7 +143,7 @@ examples =
     ∷ judged e6 1 kindStopped 1 []
     ∷ judged e6 2 kindNotIncluded 2 (shows (node 0 lr ∷ node 0 la ∷ node 1 lb ∷ []) (2 ∷ []))
     ∷ (eqb (length e6Bytes) 58 && sameList (encodeCase e6) e6Bytes)
-    ∷ answers (verdictCall e6Bytes 2 start before) kindNotIncluded 2 (shows (node 0 lr ∷ node 0 la ∷ node 1 lb ∷ []) (2 ∷ []))
+    ∷ answers (call e6Bytes 2) kindNotIncluded 2 (shows (node 0 lr ∷ node 0 la ∷ node 1 lb ∷ []) (2 ∷ []))
     -- and what the program prints of it
     ∷ sameList (printed e6Bytes) (ascii "not included\ntried 2\nnode 0 0 1\nnode 1 0 2\nnode 2 1 3\nanswer 2\n")
     -- E7: limit 1: included, tried 1

@@ -13,6 +13,7 @@ pub mod Strong
 pub mod Bytes
 pub mod Questions
 pub mod Calls
+pub mod Runs
 pub mod OldForm
 pub mod Moving
 pub mod Text

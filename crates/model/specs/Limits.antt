@@ -9,6 +9,10 @@ maxLimit = 1_000_000
 abbrev pub maxTally : ℕ
 maxTally = 1_000_000_000_000
 
+-- the callers, 0 to 7, with a tally each
+abbrev pub callers : ℕ
+callers = 8
+
 -- the bytes that an answer buffer has at least, and the records that a lent table has at least
 abbrev pub minBuffer : ℕ
 minBuffer = 4_096

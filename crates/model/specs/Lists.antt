@@ -1,7 +1,7 @@
 -- Lists that the other definitions compute with: ranges, tests over lists, sets of numbers as masks.
 use Prim.Native.Nat.{ℕ, zero, suc, _+_, _/_, _%_, _^_}
 use mathlib.Core.Bool.{Bool, true, false}
-use mathlib.Core.List.{List, [], _∷_, List·Memᴰ}
+use mathlib.Core.List.{List, [], _∷_, foldr, List·Memᴰ}
 use lib.Dec.{eqb}
 
 -- the n numbers from a on, ascending
@@ -40,6 +40,10 @@ module _ {A : Type 0} (R : A → A → Type 0) where
 unfoldable pub firstOf : (ℕ → Bool) → ℕ → List ℕ → ℕ
 firstOf test d [] = d
 firstOf test d (x ∷ xs) = elim (test x) [ true ↦ x | false ↦ firstOf test d xs ]
+
+-- the sum of numbers
+abbrev pub total : List ℕ → ℕ
+total ns = foldr (λ (m n : ℕ). m + n) 0 ns
 
 -- the two lists are equal
 unfoldable pub sameList : List ℕ → List ℕ → Bool

@@ -1,11 +1,11 @@
--- Questions 1 to 14, one definition each, and the refusal of each of document 01's six calls in the call's own order.
+-- Questions 1 to 14 and 16, one definition each, and the refusal of each of document 01's six calls in the call's own order.
 use Prim.Native.Nat.{ℕ, _+_, _-_}
 use mathlib.Core.Bool.{Bool, true, false, _&&_, _||_, not}
 use mathlib.Core.List.{List, [], _∷_, _++_}
 use lib.Dec.{eqb, leb, ltb}
 use lib.ListN.{length, getD}
 use Rattle.model.specs.Lists.{upFrom, anyOf, allOf, countOf, sameList}
-use Rattle.model.specs.Limits.{maxLimit, maxTally, minBuffer, minTable, maxSummary, maxPattern, maxMembers, maxDocument, maxPosition}
+use Rattle.model.specs.Limits.{maxLimit, maxTally, callers, minBuffer, minTable, maxSummary, maxPattern, maxMembers, maxDocument, maxPosition}
 use Rattle.model.specs.Tree.{Document, parentOf, labelOf}
 use Rattle.model.specs.Summary.{Summary, noSummaryRecord, summaryParent, summaryLabel}
 use Rattle.model.specs.Pattern.{PatternRecord, Pattern, noPatternRecord, patternParent, position, arity}
@@ -78,6 +78,10 @@ positionsOnce P = leb 1 (arity P) && allOf (λ p. eqb (countOf (λ (r : PatternR
 unfoldable pub positionsKept : Case → Bool
 positionsKept c = positionsOnce (c .first) && allOf (λ Q. positionsOnce Q && eqb (arity (c .first)) (arity Q)) (c .members)
 
+-- 16. Is the caller 0 to 7?
+unfoldable pub callerInRange : ℕ → Bool
+callerInRange caller = ltb caller callers
+
 -- 9. Is the tally plus the limit at most 1,000,000,000,000?
 unfoldable pub tallyInRange : ℕ → ℕ → Bool
 tallyInRange tally L = leb (tally + L) maxTally
@@ -129,10 +133,11 @@ caseQuestions b =
     ask 3 (caseWhole b) ∷ ask 4 (countsInRange (caseOf b)) ∷ ask 14 (setInRange (caseOf b)) ∷ ask 5 (summaryKept (caseOf b .summary))
     ∷ ask 6 (siblingsDiffer (caseOf b .summary)) ∷ ask 7 (patternsKept (caseOf b)) ∷ ask 8 (positionsKept (caseOf b)) ∷ []
 
--- Verdict: 1 to 9
-unfoldable pub verdictRefusal : List ℕ → ℕ → ℕ → ℕ → ℕ
-verdictRefusal b L tally bufferBytes =
-    refusal (ask 1 (limitInRange L) ∷ ask 2 (bufferLargeEnough bufferBytes) ∷ caseQuestions b ++ ask 9 (tallyInRange tally L) ∷ [])
+-- Verdict: 1 to 9, with 16 just before 9; the tally is the caller's own
+unfoldable pub verdictRefusal : List ℕ → ℕ → ℕ → ℕ → ℕ → ℕ
+verdictRefusal b L caller tally bufferBytes =
+    refusal
+    (ask 1 (limitInRange L) ∷ ask 2 (bufferLargeEnough bufferBytes) ∷ caseQuestions b ++ ask 16 (callerInRange caller) ∷ ask 9 (tallyInRange tally L) ∷ [])
 
 -- Fits: 3 to 8, 10
 unfoldable pub fitsRefusal : List ℕ → List ℕ → ℕ

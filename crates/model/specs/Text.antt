@@ -5,9 +5,9 @@ use Prim.Native.String.{String, [] as end, _∷_ as char}
 use mathlib.Core.Bool.{true, false}
 use mathlib.Core.List.{List, [], _∷_, _++_, flatMap}
 use lib.Dec.{eqb, ltb}
-use lib.ListN.{length}
+use lib.ListN.{length, replicate}
 use Rattle.model.specs.Lists.{upFrom}
-use Rattle.model.specs.Limits.{maxLimit, minBuffer}
+use Rattle.model.specs.Limits.{maxLimit, callers, minBuffer}
 use Rattle.model.specs.Tree.{Document, parentOf, labelOf}
 use Rattle.model.specs.Summary.{Summary}
 use Rattle.model.specs.Pattern.{Pattern}
@@ -15,6 +15,7 @@ use Rattle.model.specs.Canonical.{canonical, ownResult}
 use Rattle.model.specs.Verdict.{Verdict, included, notIncluded, stopped, verdict}
 use Rattle.model.specs.Bytes.{Case, caseOf}
 use Rattle.model.specs.Questions.{verdictRefusal}
+use Rattle.model.specs.Calls.{tallyOf}
 use Rattle.model.specs.Moving.{upgradeRefusal, downgradeRefusal, upgraded, downgraded}
 
 -- the characters' codes
@@ -84,11 +85,20 @@ refusedText n = line (ascii "refused") (n ∷ [])
 abbrev pub caseText : Case → List ℕ
 caseText c = verdictText (c .summary) (c .first) (verdict (c .summary) (c .first) (c .members) maxLimit)
 
--- the text for a case from standard input, with limit 1,000,000 and tally 0
+-- the program's caller, and the eight tallies that it begins with
+abbrev pub programCaller : ℕ
+programCaller = 0
+
+abbrev pub programTallies : List ℕ
+programTallies = replicate callers 0
+
+-- its refusal, with limit 1,000,000
+abbrev pub programRefusal : List ℕ → ℕ
+programRefusal b = verdictRefusal b maxLimit programCaller (tallyOf programTallies programCaller) minBuffer
+
+-- the text for a case from standard input
 unfoldable pub printed : List ℕ → List ℕ
-printed b =
-    let refused : ℕ = verdictRefusal b maxLimit 0 minBuffer in
-    elim (eqb refused 0) [ true ↦ caseText (caseOf b) | false ↦ refusedText refused ]
+printed b = elim (eqb (programRefusal b) 0) [ true ↦ caseText (caseOf b) | false ↦ refusedText (programRefusal b) ]
 
 -- what a program that moves a case writes, and where: the moved case's bytes to standard output, 1, and nothing else; or a refusal's line to
 -- standard error, 2, and nothing else

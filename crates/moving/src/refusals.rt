@@ -11,8 +11,8 @@ use crate::write::write_new;
 use format::limits::MAX_MOVED;
 use format::sections::set_at;
 use format::set::set_count;
+use questions::case_refusal;
 use questions::numbers::buffer_large_enough;
-use questions::refusals::case_refusal;
 
 // 15. Going back, has the set one pattern?
 pub fn goes_back(b: &[u8]) -> bool

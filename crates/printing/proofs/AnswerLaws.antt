@@ -14,7 +14,7 @@ use Rattle.model.specs.Questions.{fitsRefusal, verdictRefusal}
 use Rattle.model.specs.Calls.{TestAnswer, yesAnswer, fitsCall}
 use Rattle.model.specs.Facts.{CaseFacts}
 use Rattle.model.specs.Demands.{VerdictAnswered}
-use Rattle.model.specs.Text.{printed}
+use Rattle.model.specs.Text.{programCaller, printed}
 use Rattle.model.proofs.Calls.{by-number, fits-refused}
 use Rattle.model.proofs.CallFacts.{accepted-fits, accepted-verdict}
 use Rattle.model.proofs.ReadBack.{AreBytes, result-count}
@@ -51,8 +51,8 @@ section-whole b w e =
 result-few : (b : List ℕ) → CaseFacts (caseOf b) → {W : Document} {r : List ℕ} → Result (caseOf b .first) W r → length r ≤ maxPosition
 result-few b f k = let e = result-count k in let a = f .arityBound in omega arith
 
-module _ (b : List ℕ) {before after : List ℕ} {total : ℕ} (size : length before ≡ minBuffer) (long : length after ≡ minBuffer) where
-  shown-whole : {tried : ℕ} → VerdictAnswered b maxLimit 0 before (outcomeOf (NotContained tried) after total) → ShownWhole after
+module _ (b : List ℕ) {before after : List ℕ} (size : length before ≡ minBuffer) (long : length after ≡ minBuffer) where
+  shown-whole : {tried : ℕ} → VerdictAnswered b maxLimit programCaller 0 before (outcomeOf 0 (NotContained tried) after) → ShownWhole after
   shown-whole a =
       let d = a .demand3 accepted in
       let s = d .shown refl in
@@ -60,26 +60,26 @@ module _ (b : List ℕ) {before after : List ℕ} {total : ℕ} (size : length b
       let n = r .nodes in
       let k = r .positions in
       let few = s .small in
-      let held = result-few b (accepted-verdict b maxLimit 0 (length before) accepted .case .facts) (s .counterExample .ofFirst) in
+      let held = result-few b (accepted-verdict b maxLimit programCaller 0 (length before) accepted .case .facts) (s .counterExample .ofFirst) in
       record { inside = omega arith; whole = section-whole b (shownSection after) (r .fits) }
     where
-      accepted : verdictRefusal b maxLimit 0 (length before) ≡ 0
+      accepted : verdictRefusal b maxLimit programCaller 0 (length before) ≡ 0
       accepted = accepted-kind b size a refl (omega arith)
 
-  pub tellable : (answer : Answer) → VerdictAnswered b maxLimit 0 before (outcomeOf answer after total) → Tellable answer after
+  pub tellable : (answer : Answer) → VerdictAnswered b maxLimit programCaller 0 before (outcomeOf 0 answer after) → Tellable answer after
   tellable (Refused n) a = tt
   tellable (Contained n) a = tt
   tellable (NotContained n) a = shown-whole a
   tellable (Stopped n) a = tt
 
   -- its text is the one printed
-  pub told-printed : (answer : Answer) → VerdictAnswered b maxLimit 0 before (outcomeOf answer after total) → toldText answer after ≡ printed b
+  pub told-printed : (answer : Answer) → VerdictAnswered b maxLimit programCaller 0 before (outcomeOf 0 answer after) → toldText answer after ≡ printed b
   told-printed (Refused n) a = sym (prints-refused b size a refl)
   told-printed (Contained n) a = sym (prints-included b size a refl)
   told-printed (NotContained n) a = sym (prints-shown b size a refl)
   told-printed (Stopped n) a = sym (prints-stopped b size a refl)
 
-  module _ (small : AreBytes b) (answer : Answer) (a : VerdictAnswered b maxLimit 0 before (outcomeOf answer after total)) where
+  module _ (small : AreBytes b) (answer : Answer) (a : VerdictAnswered b maxLimit programCaller 0 before (outcomeOf 0 answer after)) where
     pub told-fits : {out : List ℕ} → length out ≡ maxText → Room (toldText answer after) 0 out
     told-fits l =
         let s : length (toldText answer after) ≤ maxText = subst (λ (x : List ℕ). length x ≤ maxText) (sym (told-printed answer a)) (printed-small b small) in

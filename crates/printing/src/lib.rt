@@ -35,11 +35,11 @@ fn answer_text(told: Answer, answer: &[u8], out: &mut [u8]) -> usize
     }
 }
 
-// The text of a case from standard input, with limit 1,000,000 and tally 0, and how many bytes it has.
+// The text of a case from standard input, with limit 1,000,000, caller 0 and its tally 0, and how many bytes it has.
 pub fn verdict_text(case: &[u8], out: &mut [u8; 21263]) -> usize
     ensures { λ r. ⌜ Printed (now (case .entry)) (now (out .entry)) (now (out .exit)) r ⌝ }
 {
     let mut answer = [0u8; 4096];
-    let told = verdict_call(case, 1000000, 0, &mut answer).answer;
+    let told = verdict_call(case, 1000000, 0, 0, &mut answer);
     answer_text(told, &answer, out)
 }

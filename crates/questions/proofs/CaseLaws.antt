@@ -19,7 +19,7 @@ use Rattle.model.proofs.Bytes.{set-starts}
 use Rattle.format.specs.Given.{summaryIn, patternAt}
 use Rattle.questions.specs.Front.{afterFirst, frontWhole, frontEnd}
 use Rattle.questions.proofs.TestLaws.{and-no}
-use Rattle.questions.proofs.NumberedLaws.{first-pattern, set-members}
+use Rattle.questions.proofs.SectionLaws.{first-pattern, set-members}
 
 -- ---- what stands before the sections after the first pattern
 

@@ -1,11 +1,8 @@
 pub mod TestLaws
-pub mod NumberedLaws
+pub mod SectionLaws
 pub mod LoopLaws
 pub mod MemberLaws
 pub mod CaseLaws
 pub mod SummaryLaws
 pub mod PatternLaws
-pub mod DocumentLaws
 pub mod RefusalLaws
-pub mod AcceptedLaws
-pub mod EmbeddingLaws

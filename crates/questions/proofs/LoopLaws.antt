@@ -14,7 +14,7 @@ use borrow.Author.Needs.{needs}
 use Rattle.model.specs.Lists.{upFrom, allOf, countOf}
 use Rattle.model.proofs.ListLaws.{true-or-false, not-both, all-intro, all-elim, mem-upFrom, upFrom-mem}
 use Rattle.questions.proofs.TestLaws.{said-no, said-yes}
-use Rattle.questions.proofs.NumberedLaws.{whole-summary}
+use Rattle.questions.proofs.SectionLaws.{whole-summary}
 
 -- ---- every number passes
 

@@ -1,26 +1,25 @@
--- Questions 7, 8 and 12 by what the code reads of a pattern's section. Assumes nothing.
+-- Questions 7 and 8 by what the code reads of a pattern's section. Assumes nothing.
 use Prim.Native.Nat.{ℕ, _+_, _≤_, _<_}
 use mathlib.Core.Path.{_≡_, refl, sym, ap, _∙_}
 use mathlib.Core.Bool.{Bool, true, false, _&&_, _||_}
 use mathlib.Core.List.{List}
 use native.Mathlib.Omega.{arith}
 use lib.Dec.{eqb, leb, ltb}
-use lib.ListN.{length, getD}
+use lib.ListN.{getD}
 use borrow.Author.Needs.{needs}
 use borrow.Author.Tests.{le-leb, lt-leb, eq-eqb, ne-eqb}
 use Rattle.model.specs.Lists.{upFrom, allOf, countOf}
 use Rattle.model.specs.Limits.{maxPosition}
 use Rattle.model.specs.Pattern.{PatternRecord, Pattern, noPatternRecord, patternParent, position, arity}
 use Rattle.model.specs.Fitting.{parentRule}
-use Rattle.model.specs.Bytes.{Case, firstAt, setAt, setOf, caseOf}
-use Rattle.model.specs.Questions.{patternRecordKept, patternKept, patternsKept, positionsOnce, positionsKept, patternGiven, positionGiven, between, selected}
+use Rattle.model.specs.Bytes.{firstAt, setAt, setOf, caseOf}
+use Rattle.model.specs.Questions.{patternRecordKept, patternKept, patternsKept, positionsOnce, positionsKept}
 use Rattle.format.specs.Given.{patternAt}
 use Rattle.questions.specs.declared.members.Asked.the-variants.{Positions}
 use Rattle.questions.specs.Members.{askedOf}
-use Rattle.questions.specs.Numbered.{numberedAt}
-use Rattle.questions.proofs.TestLaws.{and-no, and-assoc, and-no-left}
+use Rattle.questions.proofs.TestLaws.{and-no, and-assoc}
 use Rattle.questions.proofs.LoopLaws.{Passed, passed-none, passed-more, all-passed, one-failed}
-use Rattle.questions.proofs.NumberedLaws.{first-pattern, set-members, numbered-pattern}
+use Rattle.questions.proofs.SectionLaws.{first-pattern, set-members}
 
 -- 7, with the rule for the flag by itself
 module _ (P : Pattern) (q : ℕ) where
@@ -41,20 +40,6 @@ module _ (b : List ℕ) (first on : ℕ) (r : Bool) (p : first ≡ firstAt b) (s
   pub positions-asked : (k : ℕ) → k ≡ arity (patternAt b first) → r ≡ (positionsOnce (patternAt b first) && allOf (askedOf (Positions k)) (setOf b on)) → r ≡ positionsKept (caseOf b)
   unfolding positionsKept
   positions-asked k a e = rw (first-pattern b first p, set-members b on s, ← a) e
-
--- 12 by the set's count, and by the pattern that the number gives
-pub number-asked : (b : List ℕ) (on n s : ℕ) (r : Bool) → on ≡ setAt b → n ≡ length (setOf b on) → r ≡ between 1 (n + 1) s → r ≡ patternGiven (caseOf b) s
-unfolding patternGiven
-number-asked b on n s r p q e = rw (set-members b on p, ← q) e
-
-pub position-no : (c : Case) (s p : ℕ) → false ≡ patternGiven c s → false ≡ positionGiven c s p
-unfolding positionGiven
-position-no c s p e = and-no-left (patternGiven c s) (between 1 (arity (selected c s)) p) e
-
-pub position-asked : (b : List ℕ) (s at p : ℕ) (r : Bool) → patternGiven (caseOf b) s ≡ true → at ≡ numberedAt b s → r ≡ between 1 (arity (patternAt b at)) p
-    → r ≡ positionGiven (caseOf b) s p
-unfolding positionGiven
-position-asked b s at p r g e a = rw (g, numbered-pattern b s at g e) a
 
 -- 8 of one pattern, whose k is read and whose positions are then counted
 abbrev pub heldOnce : Pattern → ℕ → Bool

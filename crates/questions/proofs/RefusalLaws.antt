@@ -8,18 +8,11 @@ use mathlib.Core.Bool.{Bool, true, false, not}
 use mathlib.Core.List.{List, [], _∷_, _++_}
 use native.Mathlib.Omega.{arith}
 use borrow.Author.Needs.{needs}
-use Rattle.model.specs.Limits.{documentWidth}
-use Rattle.model.specs.Bytes.{isWholeCase, WholeSection}
+use Rattle.model.specs.Bytes.{isWholeCase}
 use Rattle.model.specs.Summary.{Summary}
-use Rattle.model.specs.Questions.{caseWhole, summaryKept, documentKept, ask, Question, refusal, caseQuestions}
-use Rattle.model.specs.Facts.{AcceptedCase}
-use Rattle.model.proofs.Bytes.{whole-case}
-use Rattle.model.proofs.CallFacts.{document-facts}
-use Rattle.model.proofs.CaseFacts.{accepted-case}
+use Rattle.model.specs.Questions.{caseWhole, summaryKept, ask, Question, refusal, caseQuestions}
 use Rattle.model.proofs.Refusals.{AllYes, Numbered, accepted-all-yes, refusal-after, refusal-kept, refusal-yes, refusal-no}
-use Rattle.format.proofs.GivenLaws.{whole-document}
 use Rattle.questions.proofs.TestLaws.{said-no, said-yes}
-use Rattle.questions.proofs.NumberedLaws.{number-told}
 
 -- ---- one question
 
@@ -65,12 +58,6 @@ pub accepted-whole : (b : List ℕ) → refusal (caseQuestions b) ≡ 0 → isWh
 unfolding caseQuestions caseWhole
 accepted-whole b e = all-yes b e .0
 
-pub accepted : (b : List ℕ) → refusal (caseQuestions b) ≡ 0 → AcceptedCase b
-accepted b e = record { whole = whole-case b .0 (accepted-whole b e); facts = accepted-case b e }
-
-pub asked-document : (answer : Bool) (w : List ℕ) → answer ≡ documentKept w → not answer ≡ false → WholeSection documentWidth w 0
-asked-document answer w e t = whole-document w (document-facts w (said-yes answer (documentKept w) e t) .whole)
-
 pub ruleset asked = (needs, asked-no, asked-yes, asked-all, case-no, case-yes)
 
-pub ruleset required = (needs, asked-whole, case-accepts, accepted-whole, asked-document, number-told)
+pub ruleset required = (needs, asked-whole, case-accepts, accepted-whole)

@@ -1,8 +1,9 @@
-// The questions on numbers alone: 1, 2 and 9.
+// The questions on numbers alone: 1, 2, 16 and 9.
 
 ghost use mathlib.Core.Path.{_≡_};
-ghost use Rattle.model.specs.Questions.{limitInRange, bufferLargeEnough, tableLargeEnough, tallyInRange};
+ghost use Rattle.model.specs.Questions.{limitInRange, bufferLargeEnough, tableLargeEnough, callerInRange, tallyInRange};
 use crate::rules::between;
+use format::limits::CALLERS;
 use format::limits::MAX_LIMIT;
 use format::limits::MAX_TALLY;
 use format::limits::MIN_BUFFER;
@@ -27,6 +28,13 @@ pub fn table_large_enough(records: usize) -> bool
     ensures { λ r. ⌜ r ≡ tableLargeEnough records ⌝ }
 {
     MIN_TABLE <= records
+}
+
+// 16. Is the caller 0 to 7?
+pub fn caller_in_range(caller: u64) -> bool
+    ensures { λ r. ⌜ r ≡ callerInRange caller ⌝ }
+{
+    caller < CALLERS
 }
 
 // 9. Is the tally plus the limit at most 1,000,000,000,000? The sum itself could wrap.

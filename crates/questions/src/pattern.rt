@@ -1,18 +1,17 @@
-// What is asked of one pattern: its part of 4, 7 and 8, and 12. A pattern is known by the field `at` that holds its count, so each
+// What is asked of one pattern: its part of 4, 7 and 8. A pattern is known by the field `at` that holds its count, so each
 // function serves every pattern of a case. Before question 7 a parent may be any number.
 
 ghost use mathlib.Core.Path.{_≡_};
-ghost use mathlib.Core.Bool.{true, _&&_};
+ghost use mathlib.Core.Bool.{_&&_};
 ghost use Prim.Native.Nat.{_<_};
 ghost use lib.Dec.{eqb};
 ghost use lib.ListN.{length};
 ghost use Rattle.model.specs.Limits.{patternWidth};
 ghost use Rattle.model.specs.Lists.{countOf};
 ghost use Rattle.model.specs.Pattern.{PatternRecord, arity as arityOf};
-ghost use Rattle.model.specs.Bytes.{caseOf, isWholeCase, WholeSection};
-ghost use Rattle.model.specs.Questions.{countInRange, patternRecordKept, patternKept, positionsOnce, patternGiven, positionGiven};
+ghost use Rattle.model.specs.Bytes.{WholeSection};
+ghost use Rattle.model.specs.Questions.{countInRange, patternRecordKept, patternKept, positionsOnce};
 ghost use Rattle.format.specs.Given.{patternAt};
-ghost use Rattle.questions.specs.Numbered.{numberedAt};
 use crate::rules::between;
 use crate::rules::flag_rule;
 use crate::rules::parent_rule;
@@ -23,10 +22,6 @@ use format::pattern::pattern_count;
 use format::pattern::pattern_edge;
 use format::pattern::pattern_parent;
 use format::pattern::pattern_position;
-use format::sections::first_at;
-use format::sections::set_at;
-use format::set::member_at;
-use format::set::set_count;
 
 // The pattern has 1 to 16 nodes.
 pub fn count_in_range(b: &[u8], at: usize) -> bool
@@ -124,36 +119,4 @@ pub fn positions_to(b: &[u8], at: usize, k: usize) -> bool
         return false;
     }
     k == arity(b, at)
-}
-
-// 12. Is the pattern's number 1 to one more than the set's count?
-pub fn pattern_given(b: &[u8], number: u64) -> bool
-    requires { ⌜ isWholeCase (now b) ≡ true ⌝ }
-    ensures { λ r. ⌜ r ≡ patternGiven (caseOf (now (b .entry))) number ⌝ }
-{
-    between(1, (set_count(b, set_at(b)) + 1) as u64, number)
-}
-
-// The field that holds the count of the pattern that a number gives.
-pub fn numbered_at(b: &[u8], number: u64) -> usize
-    requires { ⌜ isWholeCase (now b) ≡ true ⌝ }
-    requires { ⌜ patternGiven (caseOf (now b)) number ≡ true ⌝ }
-    ensures { λ r. ⌜ r ≡ numberedAt (now (b .entry)) number ⌝ }
-{
-    if number == 1 {
-        return first_at(b);
-    }
-    member_at(b, set_at(b), (number - 2) as usize)
-}
-
-// 12. Is the pattern's number 1 to one more than the set's count, and the position 1 to k?
-pub fn position_given(b: &[u8], number: u64, position: u64) -> bool
-    requires { ⌜ isWholeCase (now b) ≡ true ⌝ }
-    ensures { λ r. ⌜ r ≡ positionGiven (caseOf (now (b .entry))) number position ⌝ }
-{
-    if !pattern_given(b, number) {
-        return false;
-    }
-    let k = arity(b, numbered_at(b, number));
-    between(1, k as u64, position)
 }

@@ -43,12 +43,8 @@ fn print_answer(a: Answer) {
 }
 
 fn run_verdict(h: Head, case: &[u8], answer: &mut [u8]) {
-    let r = verdict_call(case, h.limit, h.tally, answer);
-    let tally = r.tally;
-    let a = r.answer;
-    print_answer(a);
-    print::word(b" tally");
-    print::number(tally);
+    let r = verdict_call(case, h.limit, h.caller, h.tally, answer);
+    print_answer(r);
     print::lent(wide64(answer.len()), print::hash(answer));
 }
 

@@ -11,6 +11,7 @@ pub struct Head {
     pub call: u64,
     pub limit: u64,
     pub tally: u64,
+    pub caller: u64,
     pub number: u64,
     pub position: u64,
     pub length: u64,
@@ -26,27 +27,29 @@ fn number(s: &[u8], i: usize) -> u64
         + 281474976710656 * wide64(field(s, i + 3))
 }
 
-// The numbers of a vector's first 44 bytes.
-fn head_of(bytes: &[u8; 44]) -> Head {
+// The numbers of a vector's first 52 bytes.
+fn head_of(bytes: &[u8; 52]) -> Head {
     Head {
         call: wide64(field(bytes, 0)),
         limit: number(bytes, 2),
         tally: number(bytes, 6),
-        number: number(bytes, 10),
-        position: number(bytes, 14),
-        length: number(bytes, 18),
+        caller: number(bytes, 10),
+        number: number(bytes, 14),
+        position: number(bytes, 18),
+        length: number(bytes, 22),
     }
 }
 
 // The next vector's head.
 pub fn read_head() -> Head {
-    let mut bytes = [0u8; 44];
+    let mut bytes = [0u8; 52];
     let got = io::read_full(0, &mut bytes);
-    if got < 44 {
+    if got < 52 {
         return Head {
             call: 0,
             limit: 0,
             tally: 0,
+            caller: 0,
             number: 0,
             position: 0,
             length: 0,

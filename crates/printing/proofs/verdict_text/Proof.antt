@@ -15,7 +15,7 @@ small v i = omega (arith, v .before .before .shared-slice-known .given i)
 answer-text-requires : tie.Need-answer-text-requires
 answer-text-requires c κs =
     let v = c .before .before .before in
-    let a = v .verdict-call .result .answer in (
+    let a = v .verdict-call .result in (
       tellable _ refl (search needs) a (v .verdict-call .ensures),
       told-fits _ refl (search needs) (small v) a (v .verdict-call .ensures) (search needs),
     )
@@ -23,7 +23,7 @@ answer-text-requires c κs =
 returns : tie.Need-returns
 returns c =
     let v = c .before .before .before .before in
-    text-printed _ refl (search needs) (small v) (v .verdict-call .result .answer) (v .verdict-call .ensures) (search needs) (c .answer-text .ensures)
+    text-printed _ refl (search needs) (small v) (v .verdict-call .result) (v .verdict-call .ensures) (search needs) (c .answer-text .ensures)
 
 pub verdict-text-spec : {M : Type 1} → statement M
 verdict-text-spec = tie.close (tie.spec (λ c. search needs) (λ c κs. search needs) (λ c. search needs) answer-text-requires returns)

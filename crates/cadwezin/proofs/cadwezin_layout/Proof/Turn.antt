@@ -33,7 +33,7 @@ use Rattle.laying.proofs.laid.NodeRecord.Laws as N′
 use Rattle.laying.proofs.laid.Laid.Laws as L′
 use Rattle.calls.proofs.answers.CountAnswer.Laws as A′
 use Rattle.cadwezin.proofs.TableLaws.{blank, filled, Filling, filled-length, filled-next}
-use Rattle.cadwezin.proofs.While.{whiles}
+use Rattle.cadwezin.proofs.Tests.{whiles}
 use Rattle.cadwezin.proofs.cadwezin_layout.Code.Mir as text
 
 abbrev pub R : RattleType

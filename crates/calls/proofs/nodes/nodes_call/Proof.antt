@@ -8,10 +8,10 @@ use borrow.Author.Needs.{needs}
 use Rattle.model.specs.Pattern.{Pattern, arity}
 use Rattle.model.proofs.CallFacts.{NodesFacts, accepted-nodes}
 use Rattle.format.proofs.GivenLaws.{given-document}
-use Rattle.questions.proofs.NumberedLaws.{numbered-pattern}
-use Rattle.questions.proofs.AcceptedLaws.{accepted-whole}
+use Rattle.refusals.proofs.NumberedLaws.{numbered-pattern}
+use Rattle.refusals.proofs.AcceptedLaws.{accepted-whole}
 use Rattle.calls.proofs.NodesLaws.{nodes-few, nodes-fit, nodes-no, nodes-yes}
-use Rattle.questions.proofs.AcceptedLaws.{numbered-facts, given-numbered}
+use Rattle.refusals.proofs.AcceptedLaws.{numbered-facts, given-numbered}
 use Rattle.calls.proofs.nodes.nodes_call.Statement.{statement}
 use Rattle.calls.proofs.nodes.nodes_call.Tie as tie
 

@@ -4,10 +4,10 @@ use mathlib.Core.Path.{sym, _∙_}
 use borrow.Author.Needs.{needs}
 use Rattle.model.proofs.CallFacts.{PathsFacts, accepted-paths}
 use Rattle.format.proofs.GivenLaws.{given-summary}
-use Rattle.questions.proofs.NumberedLaws.{numbered-pattern}
-use Rattle.questions.proofs.AcceptedLaws.{accepted-whole}
+use Rattle.refusals.proofs.NumberedLaws.{numbered-pattern}
+use Rattle.refusals.proofs.AcceptedLaws.{accepted-whole}
 use Rattle.calls.proofs.PathLaws.{paths-no, paths-yes}
-use Rattle.questions.proofs.AcceptedLaws.{given-numbered}
+use Rattle.refusals.proofs.AcceptedLaws.{given-numbered}
 use Rattle.calls.proofs.paths.paths_call.Statement.{statement}
 use Rattle.calls.proofs.paths.paths_call.Tie as tie
 

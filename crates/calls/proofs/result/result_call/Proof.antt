@@ -14,10 +14,10 @@ use Rattle.model.proofs.CallFacts.{ResultFacts, accepted-result}
 use Rattle.model.proofs.Calls.{result-refused, result-accepted}
 use Rattle.model.proofs.Demands.{result-answered}
 use Rattle.format.proofs.GivenLaws.{given-document}
-use Rattle.questions.proofs.NumberedLaws.{numbered-pattern}
-use Rattle.questions.proofs.AcceptedLaws.{accepted-whole}
+use Rattle.refusals.proofs.NumberedLaws.{numbered-pattern}
+use Rattle.refusals.proofs.AcceptedLaws.{accepted-whole}
 use Rattle.calls.proofs.AnswerLaws.{answer-refused, answer-given}
-use Rattle.questions.proofs.AcceptedLaws.{numbered-facts, given-numbered}
+use Rattle.refusals.proofs.AcceptedLaws.{numbered-facts, given-numbered}
 use Rattle.calls.proofs.result.result_call.Statement.{statement}
 use Rattle.calls.proofs.result.result_call.Tie as tie
 

@@ -8,7 +8,7 @@ use borrow.Author.Needs.{needs}
 use Rattle.model.proofs.CallFacts.{LayoutFacts, accepted-layout}
 use Rattle.model.specs.Limits.{minTable}
 use Rattle.format.proofs.GivenLaws.{given-summary}
-use Rattle.questions.proofs.AcceptedLaws.{accepted-whole}
+use Rattle.refusals.proofs.AcceptedLaws.{accepted-whole}
 use Rattle.canonical.specs.Given.{Embedded}
 use Rattle.canonical.proofs.LayoutLaws.{spots-few}
 use Rattle.canonical.proofs.ReadBackLaws.{back-whole, back-count}

@@ -5,7 +5,7 @@ use lib.Dec.{eqb}
 use lib.ListN.{length}
 use Rattle.model.specs.Moving.{goesBack}
 use Rattle.model.specs.Pattern.{Pattern}
-use Rattle.questions.proofs.NumberedLaws.{sections, set-members}
+use Rattle.questions.proofs.SectionLaws.{sections, set-members}
 use Rattle.moving.proofs.refusals.goes_back.Statement.{statement}
 use Rattle.moving.proofs.refusals.goes_back.Tie as tie
 

@@ -1,7 +1,7 @@
 -- `questions::case::counts_in_range` meets its contract: a whole case has every count, and each is tested as the definition says. Assumes nothing.
 use Rattle.model.specs.Questions.{between}
 use Rattle.questions.proofs.TestLaws.{joined, ruled-no, ruled-yes}
-use Rattle.questions.proofs.NumberedLaws.{sections}
+use Rattle.questions.proofs.SectionLaws.{sections}
 use Rattle.questions.proofs.CaseLaws.{counts-asked}
 use Rattle.questions.proofs.case.counts_in_range.Statement.{statement}
 use Rattle.questions.proofs.case.counts_in_range.Tie as tie

@@ -1,5 +1,5 @@
 -- `questions::case::set_in_range` meets its contract: the count that is tested is the set's. Assumes nothing.
-use Rattle.questions.proofs.NumberedLaws.{sections}
+use Rattle.questions.proofs.SectionLaws.{sections}
 use Rattle.questions.proofs.CaseLaws.{set-asked}
 use Rattle.questions.proofs.case.set_in_range.Statement.{statement}
 use Rattle.questions.proofs.case.set_in_range.Tie as tie

@@ -1,6 +1,6 @@
 -- `questions::members::patterns_kept` meets its contract: a whole case has every section, and each pattern is tested. Assumes nothing.
 use Rattle.questions.proofs.TestLaws.{joined}
-use Rattle.questions.proofs.NumberedLaws.{sections}
+use Rattle.questions.proofs.SectionLaws.{sections}
 use Rattle.questions.proofs.PatternLaws.{patterns-asked}
 use Rattle.questions.proofs.members.patterns_kept.Statement.{statement}
 use Rattle.questions.proofs.members.patterns_kept.Tie as tie

@@ -1,6 +1,6 @@
 -- `questions::members::positions_kept` meets its contract: a whole case has every section, and each test is the definition's. Assumes nothing.
 use Rattle.questions.proofs.TestLaws.{joined}
-use Rattle.questions.proofs.NumberedLaws.{sections}
+use Rattle.questions.proofs.SectionLaws.{sections}
 use Rattle.questions.proofs.PatternLaws.{positions-asked}
 use Rattle.questions.proofs.members.positions_kept.Statement.{statement}
 use Rattle.questions.proofs.members.positions_kept.Tie as tie

@@ -1,0 +1,4 @@
+pub mod NumberedLaws
+pub mod DocumentLaws
+pub mod AcceptedLaws
+pub mod EmbeddingLaws

@@ -1,0 +1,16 @@
+-- `refusals::nodes_refusal` meets its contract: each return comes after the questions before it were answered yes. Assumes nothing.
+use Rattle.model.specs.Questions.{nodesRefusal}
+use Rattle.questions.proofs.RefusalLaws.{asked, required}
+use Rattle.refusals.proofs.nodes_refusal.Statement.{statement}
+use Rattle.refusals.proofs.nodes_refusal.Tie as tie
+
+pub nodes-refusal-spec : {M : Type 1} → statement M
+unfolding nodesRefusal
+nodes-refusal-spec =
+    tie.close
+    (tie.spec
+    (λ c κs. search required) (λ c. search asked)
+    (λ c κs. search required) (λ c. search asked)
+    (λ c κs. search required) (λ c. search asked)
+    (λ c κs. search required) (λ c. search asked)
+    (λ c. search asked))

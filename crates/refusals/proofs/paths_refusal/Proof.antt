@@ -1,0 +1,14 @@
+-- `refusals::paths_refusal` meets its contract: each return comes after the questions before it were answered yes. Assumes nothing.
+use Rattle.model.specs.Questions.{pathsRefusal}
+use Rattle.questions.proofs.RefusalLaws.{asked, required}
+use Rattle.refusals.proofs.paths_refusal.Statement.{statement}
+use Rattle.refusals.proofs.paths_refusal.Tie as tie
+
+pub paths-refusal-spec : {M : Type 1} → statement M
+unfolding pathsRefusal
+paths-refusal-spec =
+    tie.close
+    (tie.spec
+    (λ c κs. search required) (λ c. search asked)
+    (λ c κs. search required) (λ c. search asked)
+    (λ c. search asked))

@@ -1,0 +1,68 @@
+// The question on a document: 10. Before it a parent may be any number.
+
+ghost use mathlib.Core.Path.{_≡_};
+ghost use Prim.Native.Nat.{_<_};
+ghost use lib.ListN.{length};
+ghost use Rattle.model.specs.Limits.{documentWidth};
+ghost use Rattle.model.specs.Lists.{upFrom, allOf};
+ghost use Rattle.model.specs.Bytes.{documentOf, isWholeDocument, WholeSection};
+ghost use Rattle.model.specs.Questions.{documentRecordKept, documentKept};
+use format::document::document_count;
+use format::document::document_label;
+use format::document::document_parent;
+use format::field::field;
+use format::limits::DOCUMENT_WIDTH;
+use format::limits::MAX_DOCUMENT;
+use format::nodes::DocumentNode;
+use questions::rules::between;
+use questions::rules::parent_rule;
+
+// The document is whole, nothing after. Its count is read only where it is whole.
+pub fn document_whole(w: &[u8]) -> bool
+    ensures { λ r. ⌜ r ≡ isWholeDocument (now (w .entry)) ⌝ }
+{
+    let bytes = w.len();
+    if bytes <= 1 {
+        return false;
+    }
+    bytes == 2 * (1 + DOCUMENT_WIDTH * field(w, 0))
+}
+
+// Record i keeps the rules for parent and label.
+pub fn document_record_kept(w: &[u8], i: DocumentNode) -> bool
+    requires { ⌜ WholeSection documentWidth (now w) 0 ⌝ }
+    requires { ⌜ i .0 < length (documentOf (now w)) ⌝ }
+    ensures { λ r. ⌜ r ≡ documentRecordKept (documentOf (now (w .entry))) (i .0) ⌝ }
+{
+    if !parent_rule(i.0, document_parent(w, i).0) {
+        return false;
+    }
+    0 < document_label(w, i)
+}
+
+// All records of the document do.
+pub fn document_records_kept(w: &[u8]) -> bool
+    requires { ⌜ WholeSection documentWidth (now w) 0 ⌝ }
+    ensures { λ r. ⌜ r ≡ allOf (documentRecordKept (documentOf (now (w .entry)))) (upFrom 0 (length (documentOf (now (w .entry))))) ⌝ }
+{
+    let n = document_count(w);
+    for i in 0..n {
+        if !document_record_kept(w, DocumentNode(i)) {
+            return false;
+        }
+    }
+    true
+}
+
+// 10. Is the document whole, nothing after, with 1 to 1,024 nodes, parents by the rule and labels not 0?
+pub fn document_kept(w: &[u8]) -> bool
+    ensures { λ r. ⌜ r ≡ documentKept (now (w .entry)) ⌝ }
+{
+    if !document_whole(w) {
+        return false;
+    }
+    if !between(1, MAX_DOCUMENT, document_count(w) as u64) {
+        return false;
+    }
+    document_records_kept(w)
+}

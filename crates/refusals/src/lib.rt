@@ -1,0 +1,132 @@
+// The refusal of each of document 01's calls: the number of the first question whose answer is no, in the call's own order, or 0. Any bytes
+// and any numbers may be asked about. The questions on a document, on lists and on a pattern's number, which only some calls ask, are here.
+
+use document::document_kept;
+use embedding::is_embedding_list;
+use list::result_in_range;
+use numbered::pattern_given;
+use numbered::position_given;
+use questions::case_refusal;
+use questions::numbers::buffer_large_enough;
+use questions::numbers::caller_in_range;
+use questions::numbers::limit_in_range;
+use questions::numbers::table_large_enough;
+use questions::numbers::tally_in_range;
+ghost use mathlib.Core.Path.{_≡_};
+ghost use Rattle.model.specs.Questions.{verdictRefusal, fitsRefusal, resultRefusal, nodesRefusal, pathsRefusal, layoutRefusal};
+
+pub mod document;
+pub mod embedding;
+pub mod list;
+pub mod numbered;
+
+// Verdict: 1 to 9, with 16 just before 9; the tally is the caller's own.
+pub fn verdict_refusal(b: &[u8], limit: u64, caller: u64, tally: u64, buffer: usize) -> u64
+    ensures { λ r. ⌜ r ≡ verdictRefusal (now (b .entry)) limit caller tally buffer ⌝ }
+{
+    if !limit_in_range(limit) {
+        return 1;
+    }
+    if !buffer_large_enough(buffer) {
+        return 2;
+    }
+    let refused = case_refusal(b);
+    if refused != 0 {
+        return refused;
+    }
+    if !caller_in_range(caller) {
+        return 16;
+    }
+    if !tally_in_range(tally, limit) {
+        return 9;
+    }
+    0
+}
+
+// Fits: 3 to 8, 10.
+pub fn fits_refusal(b: &[u8], w: &[u8]) -> u64
+    ensures { λ r. ⌜ r ≡ fitsRefusal (now (b .entry)) (now (w .entry)) ⌝ }
+{
+    let refused = case_refusal(b);
+    if refused != 0 {
+        return refused;
+    }
+    if !document_kept(w) {
+        return 10;
+    }
+    0
+}
+
+// Is it a result: 3 to 8, 10, 12, 11.
+pub fn result_refusal(b: &[u8], number: u64, w: &[u8], r: &[u8]) -> u64
+    ensures { λ x. ⌜ x ≡ resultRefusal (now (b .entry)) number (now (w .entry)) (now (r .entry)) ⌝ }
+{
+    let refused = case_refusal(b);
+    if refused != 0 {
+        return refused;
+    }
+    if !document_kept(w) {
+        return 10;
+    }
+    if !pattern_given(b, number) {
+        return 12;
+    }
+    if !result_in_range(b, number, w, r) {
+        return 11;
+    }
+    0
+}
+
+// Nodes at a position: 2 to 8, 10, 12.
+pub fn nodes_refusal(b: &[u8], number: u64, w: &[u8], position: u64, buffer: usize) -> u64
+    ensures { λ r. ⌜ r ≡ nodesRefusal (now (b .entry)) number (now (w .entry)) position buffer ⌝ }
+{
+    if !buffer_large_enough(buffer) {
+        return 2;
+    }
+    let refused = case_refusal(b);
+    if refused != 0 {
+        return refused;
+    }
+    if !document_kept(w) {
+        return 10;
+    }
+    if !position_given(b, number, position) {
+        return 12;
+    }
+    0
+}
+
+// Paths of each node: 3 to 8, 12.
+pub fn paths_refusal(b: &[u8], number: u64) -> u64
+    ensures { λ r. ⌜ r ≡ pathsRefusal (now (b .entry)) number ⌝ }
+{
+    let refused = case_refusal(b);
+    if refused != 0 {
+        return refused;
+    }
+    if !pattern_given(b, number) {
+        return 12;
+    }
+    0
+}
+
+// Lay out a canonical document: 2 to 8, 12, 13.
+pub fn layout_refusal(b: &[u8], number: u64, l: &[u8], table: usize) -> u64
+    ensures { λ r. ⌜ r ≡ layoutRefusal (now (b .entry)) number (now (l .entry)) table ⌝ }
+{
+    if !table_large_enough(table) {
+        return 2;
+    }
+    let refused = case_refusal(b);
+    if refused != 0 {
+        return refused;
+    }
+    if !pattern_given(b, number) {
+        return 12;
+    }
+    if !is_embedding_list(b, number, l) {
+        return 13;
+    }
+    0
+}
