@@ -22,7 +22,8 @@
  *    6  Do siblings in the summary have different labels?
  *    7  Do all records of all patterns keep the rules for parent and edge (0 on the root), with positions at most 8?
  *    8  Has each pattern the positions 1 to k once each, k at least 1, the same k in all?
- *    9  Is the tally plus the limit at most 1,000,000,000,000?
+ *   16  Is the caller 0 to 7?
+ *    9  Is the caller's tally plus the limit at most 1,000,000,000,000?
  *   10  Is the document whole, nothing after, with 1 to 1,024 nodes, parents by the rule and labels not 0?
  *   11  Is the list k fields, each below the document's count?
  *   12  Is the pattern's number 1 to 1 + the set's count and, where given, the position 1 to k?
@@ -33,8 +34,8 @@
  * call is accepted `refused` is 0, and what lies after what it writes keeps its contents.
  *
  * Pointers. A slice is a pointer and a length, of bytes or of records; the pointer is to as many that may be read, or written where it
- * is not const. With length 0 nothing is read or written, and the pointer may be null. The tally and, with a length that is not 0,
- * the table must be there and aligned as their types ask. What a call writes (tally, answer, table) must not overlap anything else
+ * is not const. With length 0 nothing is read or written, and the pointer may be null. The tallies and, with a length that is not 0,
+ * the table must be there and aligned as their types ask. What a call writes (tallies, answer, table) must not overlap anything else
  * that the call is given. No pointer is kept, there is no state between calls, and nothing is allocated: several threads may call at
  * once, each with what it lends to be written for itself. A call takes at most 128 KiB of stack. */
 #ifndef CADWEZIN_H
@@ -59,15 +60,16 @@ extern "C" {
 #define CADWEZIN_DOCUMENT_NODES_MOST 1024              /* the greatest count of a document */
 #define CADWEZIN_PATTERN_NODES_MOST 16                 /* the greatest count of a pattern */
 #define CADWEZIN_MEMBERS_MOST 8                        /* the greatest count of a set */
+#define CADWEZIN_CALLERS 8                             /* how many callers there are, from 0 on */
 
 /* The kind of a verdict. A refused one has kind 0. */
 #define CADWEZIN_CONTAINED UINT64_C(1)     /* document 01: included */
 #define CADWEZIN_NOT_CONTAINED UINT64_C(2) /* document 01: not included */
 #define CADWEZIN_STOPPED UINT64_C(3)
 
-/* How many canonical documents (document 01: trials) were tried, over all verdicts since it was set. */
-struct cadwezin_tally {
-  uint64_t count;
+/* For each caller, how many canonical documents (document 01: trials) were tried, over all of that caller's verdicts since it was set. */
+struct cadwezin_tallies {
+  uint64_t counts[CADWEZIN_CALLERS];
 };
 
 struct cadwezin_verdict_answer {
@@ -105,15 +107,16 @@ struct cadwezin_node_record {
 };
 
 /* Verdict: is the first pattern contained in the union of the set: in every document that conforms to the summary, is each of its
- * results a result of at least one member? Takes a case, a limit on the canonical documents tried, a tally and an answer buffer.
- * Questions 1 to 9. Answers CADWEZIN_CONTAINED (all pass; tried is how many there are, or 0 where there are none),
+ * results a result of at least one member? Takes a case, a limit on the canonical documents tried, a caller, the tallies and an answer
+ * buffer. Questions 1 to 8, 16, 9. Answers CADWEZIN_CONTAINED (all pass; tried is how many there are, or 0 where there are none),
  * CADWEZIN_NOT_CONTAINED (one of the first `limit` does not pass; tried is the earliest one's rank, from 1) or CADWEZIN_STOPPED (the
  * first `limit` all pass and there are more; tried is the limit). One passes if its list is, as a whole, a result of some member; the
- * members' order does not matter. Adds tried to the tally. CADWEZIN_NOT_CONTAINED writes to the front of the answer buffer: the section
- * of the document that does not pass, then a count k and the k document nodes that are a result of the first pattern and of no member.
- * The other two write nothing there. */
-struct cadwezin_verdict_answer cadwezin_verdict(const uint8_t *case_bytes, size_t case_length, uint64_t limit,
-                                                struct cadwezin_tally *tally, uint8_t *answer, size_t answer_length);
+ * members' order does not matter. Adds tried to the caller's tally. The other seven may hold any numbers: they change nothing in the
+ * answer, and are not altered. CADWEZIN_NOT_CONTAINED writes to the front of the answer buffer: the section of the document that does
+ * not pass, then a count k and the k document nodes that are a result of the first pattern and of no member. The other two write nothing
+ * there. */
+struct cadwezin_verdict_answer cadwezin_verdict(const uint8_t *case_bytes, size_t case_length, uint64_t limit, uint64_t caller,
+                                                struct cadwezin_tallies *tallies, uint8_t *answer, size_t answer_length);
 
 /* Fits: does the document conform to the case's summary? Takes a case and a document. Questions 3 to 8, 10. Answers holds. Writes
  * nothing. */

@@ -1,10 +1,12 @@
-/* verdict CASE: the verdict on the case in a file, with limit 1,000,000 and tally 0, printed as document 01 says. Exit status: 0 included,
- * 1 not included, 2 stopped, 3 refused; 4 the case can't be read, 5 the answer can't be written, 7 wrong usage. */
+/* verdict CASE: the verdict on the case in a file, with limit 1,000,000, caller 0 and tallies 0, printed as document 01 says. Exit status:
+ * 0 included, 1 not included, 2 stopped, 3 refused; 4 the case can't be read, 5 the answer can't be written, 7 wrong usage. */
 #include "cadwezin.h"
 #include <errno.h>
 #include <inttypes.h>
 #include <signal.h>
 #include <stdio.h>
+
+#define CALLER 0
 
 enum status { INCLUDED, NOT_INCLUDED, STOPPED, REFUSED, UNREADABLE, UNWRITABLE, MISUSED = 7 };
 
@@ -32,9 +34,9 @@ static void print_shown(void) {
 }
 
 static enum status print_verdict(size_t length) {
-  struct cadwezin_tally tally = {0};
+  struct cadwezin_tallies tallies = {{0}};
   const struct cadwezin_verdict_answer got =
-      cadwezin_verdict(case_bytes, length, CADWEZIN_LIMIT_MOST, &tally, answer, sizeof answer);
+      cadwezin_verdict(case_bytes, length, CADWEZIN_LIMIT_MOST, CALLER, &tallies, answer, sizeof answer);
   if (got.refused != 0) {
     printf("refused %" PRIu64 "\n", got.refused);
     return REFUSED;

@@ -1,5 +1,6 @@
 //! The eight calls, each with its questions in the order that the documents give;
-//! question 14 comes with those about the case, right after question 4.
+//! question 14 comes with those about the case, right after question 4, and
+//! question 16 just before question 9.
 //!
 //! "A refusal holds its number and zero in every other field. No lent byte,
 //! record or tally is altered."
@@ -12,9 +13,15 @@ use crate::records::{
 use crate::trials::{each_placement, lay_out, outline_as_volume, strong_children, Trial};
 
 const LIMIT: u64 = 1_000_000;
-const TALLY: u64 = 1_000_000_000_000;
 const ANSWER_BYTES: usize = 4_096;
 const TABLE_RECORDS: usize = 1_024;
+/// What a tally and a limit may come to.
+pub const TALLY_MOST: u64 = 1_000_000_000_000;
+/// "The single tally becomes eight".
+pub const CALLERS: usize = 8;
+
+/// One for each caller.
+pub type Tallies = [u64; CALLERS];
 
 pub const NONE: u64 = 0;
 pub const INCLUDED: u64 = 1;
@@ -58,10 +65,16 @@ pub struct NodeRecord {
     pub label: u16,
 }
 
-/// Verdict. Questions 1 to 9.
-pub fn verdict(case: &[u8], limit: u64, tally: &mut u64, answer: &mut [u8]) -> VerdictAnswer {
-    let case = match verdict_questions(case, limit, *tally, answer.len()) {
-        Ok(case) => case,
+/// Verdict, "and a verdict names its caller, 0 to 7". Questions 1 to 8, 16, 9.
+pub fn verdict(
+    case: &[u8],
+    limit: u64,
+    caller: u64,
+    tallies: &mut Tallies,
+    answer: &mut [u8],
+) -> VerdictAnswer {
+    let (case, caller) = match verdict_questions(case, limit, caller, tallies, answer.len()) {
+        Ok(accepted) => accepted,
         Err(refused) => {
             return VerdictAnswer {
                 refused,
@@ -73,8 +86,9 @@ pub fn verdict(case: &[u8], limit: u64, tally: &mut u64, answer: &mut [u8]) -> V
     if let Some(trial) = failed {
         write_trial(&case, &trial, answer);
     }
-    // "it grows by tried with each verdict"
-    *tally += tried;
+    // "it grows by tried with each verdict"; "the growth concern[s] that
+    // caller's tally only".
+    tallies[caller] += tried;
     VerdictAnswer {
         refused: 0,
         kind,
@@ -207,8 +221,14 @@ pub fn downgrade(case: &[u8], answer: &mut [u8]) -> CountAnswer {
 }
 
 /// The verdict's refusal alone, 0 where it is accepted; so for each call.
-pub fn verdict_refusal(case: &[u8], limit: u64, tally: u64, answer_len: usize) -> u64 {
-    refusal(verdict_questions(case, limit, tally, answer_len))
+pub fn verdict_refusal(
+    case: &[u8],
+    limit: u64,
+    caller: u64,
+    tallies: &Tallies,
+    answer_len: usize,
+) -> u64 {
+    refusal(verdict_questions(case, limit, caller, tallies, answer_len))
 }
 
 pub fn fits_refusal(case: &[u8], volume: &[u8]) -> u64 {
@@ -251,13 +271,23 @@ fn refusal<T>(questions: Result<T, u64>) -> u64 {
     questions.err().unwrap_or(0)
 }
 
-fn verdict_questions(case: &[u8], limit: u64, tally: u64, answer_len: usize) -> Result<Case, u64> {
+/// The case, and the place of the caller's tally.
+fn verdict_questions(
+    case: &[u8],
+    limit: u64,
+    caller: u64,
+    tallies: &Tallies,
+    answer_len: usize,
+) -> Result<(Case, usize), u64> {
     ask(1, (1..=LIMIT).contains(&limit))?;
     ask(2, answer_len >= ANSWER_BYTES)?;
     let case = read_case(case)?;
+    ask(16, caller < CALLERS as u64)?;
+    let caller = caller as usize;
     // A sum past 64 bits is past the bound too.
-    ask(9, tally.checked_add(limit).is_some_and(|sum| sum <= TALLY))?;
-    Ok(case)
+    let sum = tallies[caller].checked_add(limit);
+    ask(9, sum.is_some_and(|sum| sum <= TALLY_MOST))?;
+    Ok((case, caller))
 }
 
 fn fits_questions(case: &[u8], volume: &[u8]) -> Result<(Case, Vec<VolumeNode>), u64> {

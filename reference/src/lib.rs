@@ -1,7 +1,7 @@
-//! Document 01 as a plain program, with document 02's requests #101, sets, and
-//! #102, moving the filed cases over: outlines, selections and the inclusion
-//! verdict. It follows the documents' sentences one by one and shares nothing
-//! with the program it is compared with.
+//! Document 01 as a plain program, with document 02's requests #101, sets,
+//! #102, moving the filed cases over, and #104, a tally for each caller:
+//! outlines, selections and the inclusion verdict. It follows the documents'
+//! sentences one by one and shares nothing with the program it is compared with.
 //!
 //! * `records`: sections, records and the questions about bytes.
 //! * `old`: the old form of a case, and what it is today.
@@ -24,5 +24,6 @@ pub mod vectors;
 pub use calls::{
     downgrade, downgrade_refusal, fits, fits_refusal, is_result, layout, layout_refusal, nodes_at,
     nodes_refusal, paths, paths_refusal, result_refusal, upgrade, upgrade_refusal, verdict,
-    verdict_refusal, CountAnswer, NodeRecord, PathsAnswer, TestAnswer, VerdictAnswer,
+    verdict_refusal, CountAnswer, NodeRecord, PathsAnswer, Tallies, TestAnswer, VerdictAnswer,
+    CALLERS,
 };

@@ -6,7 +6,7 @@
 
 use reference::calls::{INCLUDED, NOT_INCLUDED};
 use reference::vectors::read_all;
-use reference::CountAnswer;
+use reference::{CountAnswer, CALLERS};
 use std::fmt::Write as _;
 use std::io::{self, Read, Write};
 use std::process::ExitCode;
@@ -73,10 +73,11 @@ fn nth_case(number: &str) -> Result<Vec<u8>, String> {
 }
 
 /// "The verdict program reads a case from standard input, with limit
-/// 1,000,000 and tally 0."
+/// 1,000,000 and tally 0"; as a caller "the program is 0".
 fn verdict_lines(case: &[u8]) -> String {
     let mut answer = [0; 4_096];
-    let got = reference::verdict(case, 1_000_000, &mut 0, &mut answer);
+    let mut tallies = [0; CALLERS];
+    let got = reference::verdict(case, 1_000_000, 0, &mut tallies, &mut answer);
     if got.refused != 0 {
         return format!("refused {}\n", got.refused);
     }

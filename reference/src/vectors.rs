@@ -1,7 +1,7 @@
 //! Test vectors: one call each, with its numbers and byte strings. The format
 //! is described in README.md.
 
-use crate::calls::{self, CountAnswer, NodeRecord};
+use crate::calls::{self, CountAnswer, NodeRecord, Tallies, CALLERS, TALLY_MOST};
 
 pub const VERDICT: u32 = 1;
 pub const FITS: u32 = 2;
@@ -24,7 +24,9 @@ const LENT_MOST: u64 = 1 << 24;
 pub struct Vector {
     pub call: u32,
     pub limit: u64,
+    /// The caller's own, before the call.
     pub tally: u64,
+    pub caller: u64,
     pub selection: u64,
     pub position: u64,
     /// Bytes of the answer buffer, or records of the table.
@@ -40,6 +42,7 @@ impl Vector {
         for number in [
             self.limit,
             self.tally,
+            self.caller,
             self.selection,
             self.position,
             self.length,
@@ -55,11 +58,11 @@ impl Vector {
     /// Reads the first vector and steps past it; `None` where it is damaged.
     pub fn read(rest: &mut &[u8]) -> Option<Vector> {
         let call = read_u32(rest)?;
-        let mut numbers = [0; 5];
+        let mut numbers = [0; 6];
         for number in &mut numbers {
             *number = read_u64(rest)?;
         }
-        let [limit, tally, selection, position, length] = numbers;
+        let [limit, tally, caller, selection, position, length] = numbers;
         let case = read_bytes(rest)?;
         let volume = read_bytes(rest)?;
         let list = read_bytes(rest)?;
@@ -68,6 +71,7 @@ impl Vector {
             call,
             limit,
             tally,
+            caller,
             selection,
             position,
             length,
@@ -81,7 +85,9 @@ impl Vector {
     pub fn refusal(&self) -> u64 {
         let length = self.length as usize;
         match self.call {
-            VERDICT => calls::verdict_refusal(&self.case, self.limit, self.tally, length),
+            VERDICT => {
+                calls::verdict_refusal(&self.case, self.limit, self.caller, &self.tallies(), length)
+            }
             FITS => calls::fits_refusal(&self.case, &self.volume),
             IS_RESULT => {
                 calls::result_refusal(&self.case, self.selection, &self.volume, &self.list)
@@ -103,18 +109,7 @@ impl Vector {
     /// The whole outcome on one line, the lent buffer or table included.
     pub fn outcome(&self) -> String {
         match self.call {
-            VERDICT => {
-                let mut answer = vec![FILLING; self.length as usize];
-                let mut tally = self.tally;
-                let got = calls::verdict(&self.case, self.limit, &mut tally, &mut answer);
-                format!(
-                    "verdict refused {} kind {} tried {} tally {tally} {}",
-                    got.refused,
-                    got.kind,
-                    got.tried,
-                    seen(&answer, answer.len())
-                )
-            }
+            VERDICT => self.judged(),
             FITS => {
                 let got = calls::fits(&self.case, &self.volume);
                 format!("fits refused {} holds {}", got.refused, u8::from(got.holds))
@@ -168,6 +163,56 @@ impl Vector {
                 format!("layout refused {} count {} {seen}", got.refused, got.count)
             }
         }
+    }
+
+    /// The eight tallies before a verdict: the vector's for the caller, and for
+    /// the others, who "may hold anything", something drawn from the vector.
+    pub fn tallies(&self) -> Tallies {
+        let mut tallies = std::array::from_fn(|other| self.drawn_tally(other as u64));
+        if let Some(own) = self.caller_index() {
+            tallies[own] = self.tally;
+        }
+        tallies
+    }
+
+    /// Nothing, the most there can be, too much for question 9, or any number.
+    fn drawn_tally(&self, other: u64) -> u64 {
+        let case_length = self.case.len() as u64;
+        let from = [self.limit, self.tally, self.caller, case_length, other];
+        let drawn = fnv1a(from.map(u64::to_le_bytes).as_flattened());
+        [0, u64::MAX, TALLY_MOST + drawn % TALLY_MOST, drawn][(drawn >> 32) as usize % 4]
+    }
+
+    /// Which tally is the caller's; `None` where there is no such caller.
+    fn caller_index(&self) -> Option<usize> {
+        let index = usize::try_from(self.caller).ok()?;
+        (index < CALLERS).then_some(index)
+    }
+
+    /// The verdict's line, as of a call that is given its caller's tally as a
+    /// number; so the tallies are looked at here.
+    fn judged(&self) -> String {
+        let mut answer = vec![FILLING; self.length as usize];
+        let mut tallies = self.tallies();
+        let mut expected = tallies;
+        let got = calls::verdict(
+            &self.case,
+            self.limit,
+            self.caller,
+            &mut tallies,
+            &mut answer,
+        );
+        if let Some(own) = self.caller_index() {
+            expected[own] += got.tried;
+        }
+        assert_eq!(tallies, expected, "the tallies after the call");
+        format!(
+            "verdict refused {} kind {} tried {} {}",
+            got.refused,
+            got.kind,
+            got.tried,
+            seen(&answer, answer.len())
+        )
     }
 
     fn moved(&self, name: &str, call: fn(&[u8], &mut [u8]) -> CountAnswer) -> String {
@@ -244,6 +289,7 @@ mod tests {
             call: LAYOUT,
             limit: 1,
             tally: u64::MAX,
+            caller: 7,
             selection: 2,
             position: 3,
             length: 1_024,
@@ -254,10 +300,33 @@ mod tests {
         let mut bytes = Vec::new();
         vector.write(&mut bytes);
         vector.write(&mut bytes);
-        assert_eq!(bytes.len(), 2 * (4 + 40 + 12 + 4));
+        assert_eq!(bytes.len(), 2 * (4 + 48 + 12 + 4));
         assert_eq!(read_all(&bytes), Ok(vec![vector.clone(), vector]));
         for cut in 1..bytes.len() / 2 {
             assert!(read_all(&bytes[..cut]).is_err());
         }
+    }
+
+    #[test]
+    fn the_vectors_tally_is_the_callers_and_the_others_hold_anything() {
+        let of_caller = |caller| Vector {
+            tally: 12,
+            caller,
+            ..Vector::default()
+        };
+        let mut others = Vec::new();
+        for caller in 0..CALLERS {
+            let mut tallies = of_caller(caller as u64).tallies().to_vec();
+            assert_eq!(tallies.remove(caller), 12);
+            others.extend(tallies);
+        }
+        others.extend(of_caller(8).tallies());
+        others.extend(of_caller(u64::MAX).tallies());
+        for extreme in [0, u64::MAX] {
+            assert!(others.contains(&extreme));
+        }
+        let too_much = |tally: &u64| (TALLY_MOST..2 * TALLY_MOST).contains(tally);
+        assert!(others.iter().any(too_much));
+        assert!(!others.contains(&12));
     }
 }

@@ -1,8 +1,8 @@
-//! `verdict CASE`: the verdict on the case in a file, with limit 1,000,000 and tally 0, printed as
-//! document 01 says. Exit status: 0 included, 1 not included, 2 stopped, 3 refused; 4 the case can't
-//! be read, 5 the answer can't be written, 7 wrong usage.
+//! `verdict CASE`: the verdict on the case in a file, with limit 1,000,000, caller 0 and tallies 0,
+//! printed as document 01 says. Exit status: 0 included, 1 not included, 2 stopped, 3 refused; 4 the
+//! case can't be read, 5 the answer can't be written, 7 wrong usage.
 
-use cadwezin::{verdict, Shown, Tally, Verdict, ANSWER_BYTES, LIMIT_MOST};
+use cadwezin::{verdict, Shown, Tallies, Verdict, ANSWER_BYTES, LIMIT_MOST};
 use std::ffi::{OsStr, OsString};
 use std::fs::File;
 use std::io::{self, ErrorKind, Read, Write};
@@ -10,6 +10,8 @@ use std::os::fd::AsFd;
 use std::path::Path;
 use std::process::ExitCode;
 use std::sync::atomic::{AtomicBool, Ordering};
+
+const CALLER: u64 = 0;
 
 const INCLUDED: u8 = 0;
 const NOT_INCLUDED: u8 = 1;
@@ -85,7 +87,13 @@ fn write(text: &str) -> io::Result<()> {
 
 fn answer(case: &[u8]) -> (u8, String) {
     let mut answer = [0; ANSWER_BYTES];
-    match verdict(case, LIMIT_MOST, &mut Tally::default(), &mut answer) {
+    match verdict(
+        case,
+        LIMIT_MOST,
+        CALLER,
+        &mut Tallies::default(),
+        &mut answer,
+    ) {
         Ok(Verdict::Contained { tried }) => (INCLUDED, format!("included\ntried {tried}\n")),
         Ok(Verdict::Stopped { tried }) => (STOPPED, format!("stopped\ntried {tried}\n")),
         Ok(Verdict::NotContained { tried }) => {

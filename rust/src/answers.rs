@@ -1,6 +1,7 @@
-//! What goes in and out besides bytes: the pattern meant, the tally, verdicts, paths, refusals.
+//! What goes in and out besides bytes: the pattern meant, the tallies, verdicts, paths, refusals.
 
 use crate::nodes::{PatternNode, SummaryNode};
+use crate::CALLERS;
 use std::fmt;
 
 /// One of the patterns of a case.
@@ -25,12 +26,13 @@ impl Pattern {
     }
 }
 
-/// How many canonical documents were tried, over all verdicts since it was made.
+/// For each caller, how many canonical documents were tried, over all of that caller's verdicts since
+/// it was made.
 #[repr(C)]
 #[derive(Clone, Copy, Debug, Default, PartialEq, Eq)]
-pub struct Tally {
-    /// The sum of tried.
-    pub count: u64,
+pub struct Tallies {
+    /// The sum of tried, by caller.
+    pub counts: [u64; CALLERS],
 }
 
 /// The answer of an accepted verdict, with how many canonical documents were tried.
@@ -84,7 +86,7 @@ impl Refusal {
         }
     }
 
-    /// The question's number, 1 to 15.
+    /// The question's number, 1 to 16.
     pub fn number(self) -> u64 {
         self.0
     }
@@ -100,13 +102,14 @@ impl Refusal {
             6 => "siblings in the summary share a label",
             7 => "a record of a pattern breaks the rules",
             8 => "the positions are not 1 to k, once each and the same in all patterns",
-            9 => "the tally and the limit come to more than 1,000,000,000,000",
+            9 => "the caller's tally and the limit come to more than 1,000,000,000,000",
             10 => "the document is not whole or breaks the rules",
             11 => "the list is not one document node for each position",
             12 => "there is no such pattern or position",
             13 => "the list is not a placement of the pattern",
             14 => "the set has not 1 to 8 members",
-            _ => "the set has more than one member",
+            15 => "the set has more than one member",
+            _ => "the caller is not 0 to 7",
         }
     }
 }

@@ -3,11 +3,11 @@
 //!
 //! Why the calls below are sound: the exported functions are proved for any bytes, any numbers and
 //! slices of any length, the empty one included. They read what is lent and write within the buffer,
-//! table or tally that is lent by `&mut`, keep no pointer and have no state of their own. What nothing
+//! table or tallies that are lent by `&mut`, keep no pointer and have no state of their own. What nothing
 //! proves is that these declarations are those of `crates/cadwezin/src/lib.rt`; so every call is
 //! compared with the reference by `tests/differential`.
 
-use crate::{NodeRecord, Tally};
+use crate::{NodeRecord, Tallies};
 
 /// The kind of an accepted verdict; a refused one has kind 0.
 pub const CONTAINED: u64 = 1;
@@ -49,14 +49,15 @@ pub struct PathsAnswer {
 
 /// A slice is a pointer and a length.
 mod archive {
-    use super::{CountAnswer, NodeRecord, PathsAnswer, Tally, TestAnswer, VerdictAnswer};
+    use super::{CountAnswer, NodeRecord, PathsAnswer, Tallies, TestAnswer, VerdictAnswer};
 
     extern "C" {
         pub fn cadwezin_verdict(
             case: *const u8,
             case_length: usize,
             limit: u64,
-            tally: *mut Tally,
+            caller: u64,
+            tallies: *mut Tallies,
             answer: *mut u8,
             answer_length: usize,
         ) -> VerdictAnswer;
@@ -117,14 +118,21 @@ mod archive {
     }
 }
 
-pub fn verdict(case: &[u8], limit: u64, tally: &mut Tally, answer: &mut [u8]) -> VerdictAnswer {
+pub fn verdict(
+    case: &[u8],
+    limit: u64,
+    caller: u64,
+    tallies: &mut Tallies,
+    answer: &mut [u8],
+) -> VerdictAnswer {
     // SAFETY: each pointer comes from a reference that lasts for the call, with its own length.
     unsafe {
         archive::cadwezin_verdict(
             case.as_ptr(),
             case.len(),
             limit,
-            tally,
+            caller,
+            tallies,
             answer.as_mut_ptr(),
             answer.len(),
         )

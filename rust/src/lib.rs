@@ -6,7 +6,7 @@
 //! length, and answers or refuses; a refusal alters nothing that was lent.
 //!
 //! ```
-//! use cadwezin::{verdict, Shown, Tally, Verdict, ANSWER_BYTES, LIMIT_MOST};
+//! use cadwezin::{verdict, Shown, Tallies, Verdict, ANSWER_BYTES, LIMIT_MOST};
 //!
 //! // Summary r(a(b)); first pattern r//*, and a set of one, r/*, each with position 1 at the star.
 //! let fields: [u16; 29] = [
@@ -16,11 +16,12 @@
 //!     2, 0, 1, 0, 0, 0, 0, 0, 1,
 //! ];
 //! let case: Vec<u8> = fields.iter().flat_map(|field| field.to_le_bytes()).collect();
-//! let (mut tally, mut answer) = (Tally::default(), [0; ANSWER_BYTES]);
+//! let (mut tallies, mut answer) = (Tallies::default(), [0; ANSWER_BYTES]);
 //!
-//! let judged = verdict(&case, LIMIT_MOST, &mut tally, &mut answer);
+//! // Caller 3 of the callers 0 to 7.
+//! let judged = verdict(&case, LIMIT_MOST, 3, &mut tallies, &mut answer);
 //! assert_eq!(judged, Ok(Verdict::NotContained { tried: 2 }));
-//! assert_eq!(tally.count, 2);
+//! assert_eq!(tallies.counts, [0, 0, 0, 2, 0, 0, 0, 0]);
 //! let shown = Shown::read(&answer).expect("a document is shown");
 //! assert_eq!((shown.document.len(), shown.result[0].0), (3, 2));
 //! ```
@@ -35,7 +36,7 @@ pub mod ffi;
 mod nodes;
 mod shown;
 
-pub use answers::{Paths, Pattern, Refusal, Tally, Verdict};
+pub use answers::{Paths, Pattern, Refusal, Tallies, Verdict};
 pub use nodes::{DocumentNode, NodeRecord, PatternNode, SummaryNode};
 pub use shown::{nodes_shown, Shown, ShownNode};
 
@@ -49,19 +50,23 @@ pub const LIMIT_MOST: u64 = 1_000_000;
 pub const TALLY_MOST: u64 = 1_000_000_000_000;
 /// The most members of a set.
 pub const MEMBERS_MOST: u64 = 8;
+/// How many callers there are, from 0 on.
+pub const CALLERS: usize = 8;
 
 /// Is the first pattern contained in the union of the set: in every document that conforms to the
 /// summary, is each result of the first a result of at least one member? Canonical documents are tried
-/// in order, at most `limit` of them. The tally grows by how many were tried. Where the answer is
-/// [`Verdict::NotContained`], a document and a result of the first pattern that is one of no member are
-/// written to the front of `answer`, for [`Shown::read`]. Questions 1 to 9.
+/// in order, at most `limit` of them. The caller's tally grows by how many were tried; the other seven may
+/// hold any numbers, and change nothing in the answer. Where the answer is [`Verdict::NotContained`], a
+/// document and a result of the first pattern that is one of no member are written to the front of
+/// `answer`, for [`Shown::read`]. Questions 1 to 8, 16, 9.
 pub fn verdict(
     case: &[u8],
     limit: u64,
-    tally: &mut Tally,
+    caller: u64,
+    tallies: &mut Tallies,
     answer: &mut [u8],
 ) -> Result<Verdict, Refusal> {
-    let got = ffi::verdict(case, limit, tally, answer);
+    let got = ffi::verdict(case, limit, caller, tallies, answer);
     let tried = got.tried;
     Refusal::or(got.refused, || match got.kind {
         ffi::CONTAINED => Verdict::Contained { tried },

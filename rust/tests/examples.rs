@@ -1,9 +1,10 @@
-//! E1 to E10 of document 01 through the library, sets, the old form, and each call's way to refuse.
+//! E1 to E10 of document 01 through the library, sets, the old form, callers, and each call's way to
+//! refuse.
 
 use cadwezin::{
     downgrade, fits, is_result, layout, nodes_at, nodes_shown, paths, upgrade, verdict,
-    DocumentNode, NodeRecord, Pattern, PatternNode, Shown, ShownNode, SummaryNode, Tally, Verdict,
-    ANSWER_BYTES, LIMIT_MOST, MEMBERS_MOST, TABLE_RECORDS, TALLY_MOST,
+    DocumentNode, NodeRecord, Pattern, PatternNode, Refusal, Shown, ShownNode, SummaryNode,
+    Tallies, Verdict, ANSWER_BYTES, CALLERS, LIMIT_MOST, MEMBERS_MOST, TABLE_RECORDS, TALLY_MOST,
 };
 
 const E1: &[u8] = include_bytes!("../../tests/examples/e1.case");
@@ -46,15 +47,22 @@ fn bytes(fields: &[u16]) -> Vec<u8> {
         .collect()
 }
 
-/// The verdict, with the tally and the rest of the buffer held to what document 01 says.
-fn judged(case: &[u8], limit: u64, written: &[u16]) -> Verdict {
-    let mut answer = [FILLING; ANSWER_BYTES];
-    let mut tally = Tally { count: 5 };
-    let got = verdict(case, limit, &mut tally, &mut answer).expect("the case is accepted");
+fn tried(verdict: Verdict) -> u64 {
     let (Verdict::Contained { tried }
     | Verdict::NotContained { tried }
-    | Verdict::Stopped { tried }) = got;
-    assert_eq!(tally.count, 5 + tried);
+    | Verdict::Stopped { tried }) = verdict;
+    tried
+}
+
+/// The verdict, with the tallies and the rest of the buffer held to what the documents say.
+fn judged(case: &[u8], limit: u64, written: &[u16]) -> Verdict {
+    let mut answer = [FILLING; ANSWER_BYTES];
+    let mut tallies = Tallies {
+        counts: [5; CALLERS],
+    };
+    let got = verdict(case, limit, 0, &mut tallies, &mut answer).expect("the case is accepted");
+    assert_eq!(tallies.counts[0], 5 + tried(got));
+    assert_eq!(tallies.counts[1..], [5; CALLERS - 1]);
     let written = bytes(written);
     assert_eq!(answer[..written.len()], written);
     assert!(answer[written.len()..].iter().all(|&byte| byte == FILLING));
@@ -117,7 +125,7 @@ fn e10() {
 #[test]
 fn what_is_shown_reads_back() {
     let mut answer = [FILLING; ANSWER_BYTES];
-    let judged = verdict(E6, LIMIT_MOST, &mut Tally::default(), &mut answer);
+    let judged = verdict(E6, LIMIT_MOST, 0, &mut Tallies::default(), &mut answer);
     assert_eq!(judged, Ok(Verdict::NotContained { tried: 2 }));
     let shown = Shown::read(&answer).expect("a document is shown");
     let node = |parent, label| ShownNode {
@@ -253,25 +261,100 @@ fn a_set_of_one_alone_goes_back() {
     assert_eq!(refused(back(MEMBERS_MOST + 1)), 14);
 }
 
+/// Numbers that no caller but their own has to do with.
+const ANYTHING: [u64; CALLERS] = [
+    0,
+    u64::MAX,
+    TALLY_MOST,
+    TALLY_MOST + 1,
+    3,
+    u64::MAX - 1,
+    1 << 32,
+    TALLY_MOST - 1,
+];
+
+/// A verdict on E6, with the tallies and the buffer held to be as they were where it is refused.
+fn called(limit: u64, caller: u64, counts: [u64; CALLERS]) -> (Result<Verdict, Refusal>, Tallies) {
+    let (mut tallies, mut answer) = (Tallies { counts }, [FILLING; ANSWER_BYTES]);
+    let got = verdict(E6, limit, caller, &mut tallies, &mut answer);
+    if got.is_err() {
+        assert_eq!(tallies, Tallies { counts });
+        assert_eq!(answer, [FILLING; ANSWER_BYTES]);
+    }
+    (got, tallies)
+}
+
+#[test]
+fn a_verdict_is_about_its_callers_tally_alone() {
+    for caller in 0..CALLERS {
+        let bound = TALLY_MOST - LIMIT_MOST;
+        for (tally, accepted) in [
+            (0, true),
+            (bound, true),
+            (bound + 1, false),
+            (TALLY_MOST, false),
+            (u64::MAX - LIMIT_MOST + 1, false),
+            (u64::MAX, false),
+        ] {
+            let mut counts = ANYTHING;
+            counts[caller] = tally;
+            let (got, tallies) = called(LIMIT_MOST, caller as u64, counts);
+            if accepted {
+                counts[caller] += tried(got.expect("the tally is in range"));
+                assert_eq!(tallies.counts, counts);
+                assert_eq!(counts[caller], tally + 2);
+            } else {
+                assert_eq!(refused(got), 9);
+            }
+        }
+    }
+}
+
+#[test]
+fn callers_are_0_to_7() {
+    let wide = (0..CALLERS as u64).map(|low| (1 << 32) + low);
+    for nobody in wide.chain([8, 9, 255, 256, 1 << 63, u64::MAX]) {
+        for counts in [[0; CALLERS], [u64::MAX; CALLERS], ANYTHING] {
+            assert_eq!(refused(called(1, nobody, counts).0), 16);
+        }
+    }
+    // After the questions about the case, before the one about the tally.
+    let mut tallies = Tallies {
+        counts: [u64::MAX; CALLERS],
+    };
+    let mut answer = [FILLING; ANSWER_BYTES];
+    let mut unheld = E6.to_vec();
+    unheld[E6.len() - 2] = 0;
+    let mut ask =
+        |case: &[u8], caller| refused(verdict(case, 1, caller, &mut tallies, &mut answer));
+    assert_eq!(ask(&unheld, 8), 8);
+    assert_eq!(ask(E6, 8), 16);
+    assert_eq!(ask(E6, 7), 9);
+}
+
 /// The number of a refusal.
-fn refused<T: std::fmt::Debug>(got: Result<T, cadwezin::Refusal>) -> u64 {
+fn refused<T: std::fmt::Debug>(got: Result<T, Refusal>) -> u64 {
     got.expect_err("a refusal").number()
 }
 
 #[test]
 fn refusals_alter_nothing() {
     let mut answer = [FILLING; ANSWER_BYTES];
-    let mut tally = Tally { count: TALLY_MOST };
+    let full = Tallies {
+        counts: [TALLY_MOST; CALLERS],
+    };
+    let mut tallies = full;
     let short = &mut [FILLING; ANSWER_BYTES - 1];
-    assert_eq!(refused(verdict(E6, 0, &mut tally, &mut answer)), 1);
-    assert_eq!(
-        refused(verdict(E6, LIMIT_MOST + 1, &mut tally, &mut answer)),
-        1
-    );
-    assert_eq!(refused(verdict(E6, 1, &mut tally, short)), 2);
-    assert_eq!(refused(verdict(&[], 1, &mut tally, &mut answer)), 3);
-    assert_eq!(refused(verdict(&[0; 6], 1, &mut tally, &mut answer)), 4);
-    assert_eq!(refused(verdict(E6, 1, &mut tally, &mut answer)), 9);
+    let mut ask = |case: &[u8], limit, answer: &mut [u8]| {
+        refused(verdict(case, limit, 0, &mut tallies, answer))
+    };
+    assert_eq!(ask(E6, 0, &mut answer), 1);
+    assert_eq!(ask(E6, LIMIT_MOST + 1, &mut answer), 1);
+    assert_eq!(ask(E6, 1, short), 2);
+    assert_eq!(ask(&[], 1, &mut answer), 3);
+    assert_eq!(ask(&[0; 6], 1, &mut answer), 4);
+    assert_eq!(ask(E6, 1, &mut answer), 9);
+    assert_eq!(tallies, full);
     assert_eq!(refused(fits(E6, &[])), 10);
     let document = bytes(&[1, 0, 1]);
     assert_eq!(refused(is_result(E6, Pattern::First, &document, &[])), 11);
@@ -300,7 +383,6 @@ fn refusals_alter_nothing() {
     assert_eq!(refused(downgrade(old, &mut answer)), 3);
     let two = with_set(&[[0, 0, 0, 1]; 2]);
     assert_eq!(refused(downgrade(&two, &mut answer)), 15);
-    assert_eq!(tally.count, TALLY_MOST);
     assert!(answer
         .iter()
         .chain(short.iter())
@@ -325,4 +407,6 @@ fn a_refusal_says_what_is_wrong() {
         refusal.to_string(),
         "refused 15: the set has more than one member"
     );
+    let refusal = called(1, 8, ANYTHING).0.expect_err("a refusal");
+    assert_eq!(refusal.to_string(), "refused 16: the caller is not 0 to 7");
 }

@@ -1,5 +1,5 @@
-/* The eight calls from C, by include/cadwezin.h: E6 and E10 of document 01, a set of two, E6 out of the old form and back, empty slices
- * with a null pointer, and refusals, which alter nothing. Prints how many answers were as they should be. */
+/* The eight calls from C, by include/cadwezin.h: E6 and E10 of document 01, a set of two, E6 out of the old form and back, callers and
+ * their tallies, empty slices with a null pointer, and refusals, which alter nothing. Prints how many answers were as they should be. */
 #include "cadwezin.h"
 #include <stdio.h>
 #include <stdlib.h>
@@ -17,13 +17,15 @@ static const uint8_t e6[] = {SUMMARY, FIRST, 1, 0, CHILD};
 static const uint8_t two[] = {SUMMARY, FIRST, 2, 0, CHILD, BELOW};
 static const uint8_t old[] = {SUMMARY, FIRST, CHILD};
 static const uint8_t none[] = {SUMMARY, FIRST, 0, 0};
+static const uint8_t unheld[] = {SUMMARY, FIRST, 1, 0, 1, 0, 0, 0, 1, 0, 0, 0, 0, 0};
 static const uint8_t document[] = {3, 0, 0, 0, 1, 0, 0, 0, 2, 0, 1, 0, 3, 0};
 static const uint8_t node_2[] = {2, 0};
 static const uint8_t placement[] = {0, 0, 2, 0};
 
 static uint8_t answer[CADWEZIN_ANSWER_BYTES + 1];
 static struct cadwezin_node_record table[CADWEZIN_TABLE_RECORDS + 1];
-static struct cadwezin_tally tally;
+/* The tallies lent, and what each is to hold after the calls so far. */
+static struct cadwezin_tallies tallies, wanted;
 static unsigned held;
 
 static void hold(int right, const char *what) {
@@ -34,10 +36,13 @@ static void hold(int right, const char *what) {
   held++;
 }
 
+/* Caller 0's tally is small. Those of the others are of all sizes, and no call of caller 0 has to do with them. */
 static void fill(void) {
+  static const struct cadwezin_tallies mixed = {
+      {7, UINT64_MAX, CADWEZIN_TALLY_MOST, 0, CADWEZIN_TALLY_MOST + 1, UINT64_MAX - 1, 3, CADWEZIN_TALLY_MOST - 1}};
   memset(answer, FILLING, sizeof answer);
   memset(table, FILLING, sizeof table);
-  tally.count = 7;
+  tallies = wanted = mixed;
 }
 
 /* Field by field, since the bytes after the label are free. */
@@ -45,10 +50,10 @@ static int same_record(const struct cadwezin_node_record *a, const struct cadwez
   return a->parent == b->parent && a->at == b->at && a->label == b->label;
 }
 
-/* Whether everything lent is as fill left it, from these bytes and records on. */
-static int untouched(size_t bytes, size_t records, uint64_t count) {
+/* Whether everything lent is as fill left it, from these bytes and records on, and the tallies are as wanted. */
+static int untouched(size_t bytes, size_t records) {
   struct cadwezin_node_record filled;
-  int same = tally.count == count;
+  int same = memcmp(&tallies, &wanted, sizeof tallies) == 0;
   memset(&filled, FILLING, sizeof filled);
   for (size_t i = bytes; i < sizeof answer; i++) {
     same = same && answer[i] == FILLING;
@@ -59,12 +64,21 @@ static int untouched(size_t bytes, size_t records, uint64_t count) {
   return same;
 }
 
+/* A verdict with all that is lent; tried is to be in the caller's tally, if there is such a caller. */
+static struct cadwezin_verdict_answer verdict_on(const uint8_t *bytes, size_t length, uint64_t limit, uint64_t caller) {
+  const struct cadwezin_verdict_answer got = cadwezin_verdict(bytes, length, limit, caller, &tallies, answer, sizeof answer);
+  if (caller < CADWEZIN_CALLERS) {
+    wanted.counts[caller] += got.tried;
+  }
+  return got;
+}
+
 static void judged(uint64_t limit, uint64_t kind, uint64_t tried, const uint8_t *shown, size_t length) {
   fill();
-  const struct cadwezin_verdict_answer got = cadwezin_verdict(e6, sizeof e6, limit, &tally, answer, sizeof answer);
+  const struct cadwezin_verdict_answer got = verdict_on(e6, sizeof e6, limit, 0);
   hold(got.refused == 0 && got.kind == kind && got.tried == tried, "a verdict");
   hold(length == 0 || memcmp(answer, shown, length) == 0, "what a verdict shows");
-  hold(untouched(length, 0, 7 + tried), "what a verdict leaves alone");
+  hold(untouched(length, 0) && tallies.counts[0] == 7 + tried, "what a verdict leaves alone");
 }
 
 static void accepted(void) {
@@ -84,27 +98,27 @@ static void accepted(void) {
   const struct cadwezin_paths_answer paths = cadwezin_paths(e6, sizeof e6, 1);
   hold(paths.refused == 0 && paths.masks[0] == 1 && paths.masks[1] == 6 && paths.masks[2] == 0, "masks");
   hold(paths.counts[0] == 1 && paths.counts[1] == 2 && paths.counts[15] == 0, "counts");
-  hold(untouched(0, 0, 7), "what three calls leave alone");
+  hold(untouched(0, 0), "what three calls leave alone");
   const struct cadwezin_count_answer found =
       cadwezin_nodes(e6, sizeof e6, 1, document, sizeof document, 1, answer, sizeof answer);
   hold(found.refused == 0 && found.count == 2 && memcmp(answer, nodes, sizeof nodes) == 0, "nodes at a position");
-  hold(untouched(sizeof nodes, 0, 7), "what nodes at a position leaves alone");
+  hold(untouched(sizeof nodes, 0), "what nodes at a position leaves alone");
   fill();
   const struct cadwezin_count_answer count = cadwezin_layout(e6, sizeof e6, 1, placement, sizeof placement, table, COUNT(table));
   hold(count.refused == 0 && count.count == COUNT(laid), "a layout");
   for (size_t i = 0; i < COUNT(laid); i++) {
     hold(same_record(&table[i], &laid[i]), "a node laid out");
   }
-  hold(untouched(0, COUNT(laid), 7), "what a layout leaves alone");
+  hold(untouched(0, COUNT(laid)), "what a layout leaves alone");
 }
 
 /* The union of two members has what neither has alone, and each call is about the pattern that it names. */
 static void sets(void) {
   static const uint64_t masks[] = {6, 2, 4};
   fill();
-  const struct cadwezin_verdict_answer got = cadwezin_verdict(two, sizeof two, CADWEZIN_LIMIT_MOST, &tally, answer, sizeof answer);
+  const struct cadwezin_verdict_answer got = verdict_on(two, sizeof two, CADWEZIN_LIMIT_MOST, 0);
   hold(got.refused == 0 && got.kind == CADWEZIN_CONTAINED && got.tried == 2, "a verdict on a union");
-  hold(untouched(0, 0, 9), "what a verdict on a union leaves alone");
+  hold(untouched(0, 0), "what a verdict on a union leaves alone");
   for (uint64_t number = 1; number <= 3; number++) {
     const struct cadwezin_paths_answer paths = cadwezin_paths(two, sizeof two, number);
     hold(paths.refused == 0 && paths.masks[1] == masks[number - 1], "a pattern by its number");
@@ -114,15 +128,15 @@ static void sets(void) {
   }
   hold(cadwezin_paths(two, sizeof two, 4).refused == 12, "a number past the last member");
   hold(cadwezin_fits(none, sizeof none, document, sizeof document).refused == 14, "a set of none");
-  hold(cadwezin_verdict(none, sizeof none, 1, &tally, answer, sizeof answer).refused == 14, "a verdict on a set of none");
-  hold(untouched(0, 0, 9), "what the calls about sets leave alone");
+  hold(verdict_on(none, sizeof none, 1, 0).refused == 14, "a verdict on a set of none");
+  hold(untouched(0, 0), "what the calls about sets leave alone");
 }
 
 /* One call of the two that move a case: what it answers, and what it writes or leaves alone. */
 static void moved(struct cadwezin_count_answer got, uint64_t refused, const uint8_t *wanted, size_t length, const char *what) {
   hold(got.refused == refused && got.count == length, what);
   hold(length == 0 || memcmp(answer, wanted, length) == 0, "the case that is moved");
-  hold(untouched(length, 0, 7), "what moving a case leaves alone");
+  hold(untouched(length, 0), "what moving a case leaves alone");
   fill();
 }
 
@@ -143,12 +157,58 @@ static void moves(void) {
   moved(cadwezin_upgrade(none, sizeof none, answer, sizeof answer), 4, NULL, 0, "an old case with an empty pattern");
 }
 
+/* One verdict that is refused or, with 0, accepted; everything else stays, the other seven tallies among it. */
+static void asked(const uint8_t *bytes, size_t length, uint64_t caller, uint64_t refused, const char *what) {
+  const struct cadwezin_verdict_answer got = verdict_on(bytes, length, 1, caller);
+  hold(got.refused == refused && (refused == 0 || (got.kind == 0 && got.tried == 0)), what);
+  hold(untouched(0, 0), "what a verdict of a caller leaves alone");
+}
+
+static void set_tally(size_t caller, uint64_t count) {
+  tallies.counts[caller] = wanted.counts[caller] = count;
+}
+
+/* Each caller's tally at the bound and one above it, whatever the others hold. */
+static void tallies_of_callers(void) {
+  static const uint64_t full[] = {CADWEZIN_TALLY_MOST, CADWEZIN_TALLY_MOST + 1, UINT64_MAX - 1, UINT64_MAX};
+  for (size_t caller = 0; caller < CADWEZIN_CALLERS; caller++) {
+    fill();
+    set_tally(caller, CADWEZIN_TALLY_MOST - 1);
+    asked(e6, sizeof e6, caller, 0, "a tally one below the bound");
+    hold(tallies.counts[caller] == CADWEZIN_TALLY_MOST, "a tally at the bound");
+    asked(e6, sizeof e6, caller, 9, "a tally at the bound");
+    for (size_t i = 0; i < COUNT(full); i++) {
+      set_tally(caller, full[i]);
+      asked(e6, sizeof e6, caller, 9, "a tally past the bound");
+    }
+    memset(&tallies, 0xFF, sizeof tallies);
+    wanted = tallies;
+    asked(e6, sizeof e6, caller, 9, "all tallies as great as can be");
+    set_tally(caller, 0);
+    asked(e6, sizeof e6, caller, 0, "all other tallies as great as can be");
+  }
+}
+
+/* Callers that there are not: after question 8, before question 9, with no tally touched. */
+static void callers(void) {
+  static const uint64_t nobody[] = {8, 9, 255, 256, 65536, UINT64_C(1) << 32, (UINT64_C(1) << 32) + 7, UINT64_C(1) << 63, UINT64_MAX};
+  for (size_t i = 0; i < COUNT(nobody); i++) {
+    fill();
+    asked(e6, sizeof e6, nobody[i], 16, "no such caller");
+    asked(unheld, sizeof unheld, nobody[i], 8, "no such caller and no position");
+    memset(&tallies, 0xFF, sizeof tallies);
+    wanted = tallies;
+    asked(e6, sizeof e6, nobody[i], 16, "no such caller and no room in a tally");
+  }
+  asked(unheld, sizeof unheld, 7, 8, "no position and no room in a tally");
+}
+
 /* Each call with empty slices that have no address, then with only its last slice so. */
 static void empty(void) {
   fill();
-  struct cadwezin_verdict_answer verdict = cadwezin_verdict(NULL, 0, 1, &tally, answer, sizeof answer);
+  struct cadwezin_verdict_answer verdict = cadwezin_verdict(NULL, 0, 1, 0, &tallies, answer, sizeof answer);
   hold(verdict.refused == 3 && verdict.kind == 0 && verdict.tried == 0, "a verdict on nothing");
-  verdict = cadwezin_verdict(e6, sizeof e6, 1, &tally, NULL, 0);
+  verdict = cadwezin_verdict(e6, sizeof e6, 1, 0, &tallies, NULL, 0);
   hold(verdict.refused == 2 && verdict.kind == 0 && verdict.tried == 0, "a verdict without a buffer");
   struct cadwezin_test_answer test = cadwezin_fits(NULL, 0, NULL, 0);
   hold(test.refused == 3 && test.holds == 0, "fits of nothing");
@@ -179,13 +239,15 @@ static void empty(void) {
   for (size_t i = 0; i < CADWEZIN_PATTERN_NODES_MOST; i++) {
     hold(paths.masks[i] == 0 && paths.counts[i] == 0, "paths of a refusal");
   }
-  hold(untouched(0, 0, 7), "what refusals leave alone");
+  hold(untouched(0, 0), "what refusals leave alone");
 }
 
 int main(void) {
   accepted();
   sets();
   moves();
+  tallies_of_callers();
+  callers();
   empty();
   printf("calls: %u answers from C as they should be\n", held);
   return 0;

@@ -26,7 +26,7 @@ struct bytes {
 static struct {
   enum call call;
   struct bytes given, document, list;
-  uint64_t limit, tally, number, position;
+  uint64_t limit, caller, tally, number, position;
   size_t answer_length, table_length;
   uint64_t refused, value;
 } asked;
@@ -35,6 +35,7 @@ static uint8_t rooms[CALLS][ROOM];
 static uint8_t answer[CADWEZIN_ANSWER_BYTES];
 static struct cadwezin_node_record table[CADWEZIN_TABLE_RECORDS];
 static struct cadwezin_paths_answer paths;
+static struct cadwezin_tallies tallies;
 static ucontext_t outside, inside;
 static unsigned held;
 
@@ -42,9 +43,9 @@ static unsigned held;
 static void make_call(void) {
   const uint8_t *given = asked.given.at, *document = asked.document.at, *list = asked.list.at;
   const size_t length = asked.given.length, document_length = asked.document.length, list_length = asked.list.length;
-  struct cadwezin_tally tally = {asked.tally};
   if (asked.call == VERDICT) {
-    const struct cadwezin_verdict_answer got = cadwezin_verdict(given, length, asked.limit, &tally, answer, asked.answer_length);
+    const struct cadwezin_verdict_answer got =
+        cadwezin_verdict(given, length, asked.limit, asked.caller, &tallies, answer, asked.answer_length);
     asked.refused = got.refused, asked.value = got.kind;
   } else if (asked.call == FITS) {
     const struct cadwezin_test_answer got = cadwezin_fits(given, length, document, document_length);
@@ -75,6 +76,9 @@ static void make_call(void) {
 /* The call on its painted stack, with what is asked now. */
 static void expect(enum call call, uint64_t refused, uint64_t value, const char *what) {
   asked.call = call;
+  for (uint64_t caller = 0; caller < CADWEZIN_CALLERS; caller++) {
+    tallies.counts[caller] = caller == asked.caller ? asked.tally : UINT64_MAX;
+  }
   if (getcontext(&inside) != 0) {
     exit(1);
   }
@@ -195,6 +199,7 @@ static void put_deep(void) {
 /* What every call takes where nothing else is said. */
 static void ask_whole(void) {
   asked.limit = CADWEZIN_LIMIT_MOST;
+  asked.caller = CADWEZIN_CALLERS - 1;
   asked.tally = 0;
   asked.number = asked.position = 1;
   asked.answer_length = sizeof answer;
@@ -300,16 +305,17 @@ static void break_question(unsigned question) {
     }
     break;
   case 15: pattern_root[16 * 8]++, put_pattern(0, 0); break;
+  case 16: asked.caller = CADWEZIN_CALLERS; break;
   default: asked.list.length -= 2;
   }
 }
 
 /* Each call's questions, each answered no. */
 static void refusals(void) {
-  static const unsigned questions[CALLS][11] = {
-      {1, 2, 3, 4, 14, 5, 6, 7, 8, 9},   {3, 4, 14, 5, 6, 7, 8, 10}, {3, 4, 14, 5, 6, 7, 8, 10, 12, 11},
-      {2, 3, 4, 14, 5, 6, 7, 8, 10, 12}, {3, 4, 14, 5, 6, 7, 8, 12}, {2, 3, 4, 14, 5, 6, 7, 8, 12, 13},
-      {2, 3, 4, 5, 6, 7, 8},             {2, 3, 4, 14, 5, 6, 7, 8, 15}};
+  static const unsigned questions[CALLS][12] = {
+      {1, 2, 3, 4, 14, 5, 6, 7, 8, 16, 9}, {3, 4, 14, 5, 6, 7, 8, 10}, {3, 4, 14, 5, 6, 7, 8, 10, 12, 11},
+      {2, 3, 4, 14, 5, 6, 7, 8, 10, 12},   {3, 4, 14, 5, 6, 7, 8, 12}, {2, 3, 4, 14, 5, 6, 7, 8, 12, 13},
+      {2, 3, 4, 5, 6, 7, 8},               {2, 3, 4, 14, 5, 6, 7, 8, 15}};
   for (enum call call = 0; call < CALLS; call++) {
     for (const unsigned *question = questions[call]; *question != 0; question++) {
       ask_whole();

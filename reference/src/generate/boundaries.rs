@@ -1,11 +1,13 @@
 //! Every boundary of every question, through all eight calls.
 
-use super::changes::{changes, lone_changes, long_changes, Change};
+use super::callers;
+use super::changes::{changes, lone_changes, long_changes, tallies, Change};
 use super::layouts::layouts;
 use super::plan::{questions, OutlineRow, Plan, SelectionRow, CALLS, MOVES};
+use crate::calls::CALLERS;
 use crate::records::{read_case, SET_SELECTIONS};
 use crate::trials::each_placement;
-use crate::vectors::{Vector, FITS, IS_RESULT, LAYOUT, NODES_AT};
+use crate::vectors::{Vector, FITS, IS_RESULT, LAYOUT, NODES_AT, VERDICT};
 
 pub fn boundaries() -> Vec<Vector> {
     let (small, lone, long) = (changes(), lone_changes(), long_changes());
@@ -23,6 +25,8 @@ pub fn boundaries() -> Vec<Vector> {
             out.extend(cut_everywhere(&plan.for_call(call)));
         }
     }
+    let mut out = callers::by_turns(out);
+    out.extend(tallies_of_each());
     out
 }
 
@@ -44,6 +48,18 @@ pub fn stored() -> Vec<Vector> {
     }
     out.retain(|vector| vector.case.len() + vector.volume.len() < BYTES);
     out.extend(layouts(1, 20));
+    let mut out = callers::by_turns(out);
+    out.extend(tallies_of_each());
+    out
+}
+
+/// Each caller's tally at every bound.
+fn tallies_of_each() -> Vec<Vector> {
+    let mut out = Vec::new();
+    for caller in 0..CALLERS as u64 {
+        let plan = Plan { caller, ..rich() };
+        out.extend(singly(VERDICT, &plan, &tallies()));
+    }
     out
 }
 
@@ -508,6 +524,16 @@ mod tests {
                     }
                 }
             }
+        }
+    }
+
+    #[test]
+    fn each_caller_is_refused_and_accepted_at_every_bound() {
+        let all = tallies_of_each();
+        for caller in 0..CALLERS as u64 {
+            let own = all.iter().filter(|vector| vector.caller == caller);
+            let refusals: Vec<u64> = own.map(Vector::refusal).collect();
+            assert_eq!(refusals, [9, 9, 9, 9, 9, 9, 0, 0]);
         }
     }
 

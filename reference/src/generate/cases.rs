@@ -1,6 +1,7 @@
 //! Random verdict cases near the limits: 64 outline nodes, 16 selection
 //! nodes, no placement or thousands, failing first, in the middle or last.
 
+use super::callers;
 use super::plan::{OutlineRow, Plan, SelectionRow, Set};
 use super::prng::Prng;
 use super::sets;
@@ -14,7 +15,8 @@ const TRIALS_MOST: u64 = 4_000;
 
 pub fn cases(seed: u64, count: usize) -> Vec<Vector> {
     let mut prng = Prng::new(seed);
-    (0..count).map(|index| one(&mut prng, index)).collect()
+    let drawn = (0..count).map(|index| one(&mut prng, index)).collect();
+    callers::draw(seed, 0, drawn)
 }
 
 fn one(prng: &mut Prng, index: usize) -> Vector {
@@ -36,8 +38,7 @@ fn one(prng: &mut Prng, index: usize) -> Vector {
 /// The answer's own rank and its neighbours decide between the three kinds;
 /// the greatest limit is taken only where the answer comes early.
 fn limit(prng: &mut Prng, plan: &Plan) -> u64 {
-    let mut answer = [0; 4_096];
-    let got = crate::verdict(&plan.case_bytes(), TRIALS_MOST, &mut 0, &mut answer);
+    let got = plan.judged(TRIALS_MOST);
     match prng.below(6) {
         0 => got.tried.max(1),
         1 => got.tried.saturating_sub(1).max(1),
@@ -91,8 +92,7 @@ fn related(prng: &mut Prng, outline: Vec<OutlineRow>, mut first: Vec<SelectionRo
     };
     for _ in 0..prng.between(1, 8) {
         plan.set = sets::set(prng, &plan.first, &plan.outline, |prng| member(prng, &plan));
-        let mut answer = [0; 4_096];
-        let got = crate::verdict(&plan.case_bytes(), 200, &mut 0, &mut answer);
+        let got = plan.judged(200);
         if got.kind == NOT_INCLUDED && got.tried > 1 {
             break;
         }

@@ -1,11 +1,11 @@
 //! Changes to a plan: those that break one question, and those that move a
 //! number to a bound where it is still accepted.
 
+use super::callers;
 use super::plan::{least_length, questions, Plan, SelectionRow};
+use crate::calls::TALLY_MOST;
 use crate::records::{CASE_BYTES, OUTLINE_NODES, SELECTION_NODES, SET_SELECTIONS, VOLUME_NODES};
 use crate::vectors::{IS_RESULT, LAYOUT, NODES_AT, UPGRADE};
-
-const TALLY_MOST: u64 = 1_000_000_000_000;
 
 /// `question` is the one that the change breaks, 0 where it breaks none. A
 /// change that does not find what it would alter leaves the plan alone.
@@ -98,6 +98,7 @@ pub fn changes() -> Vec<Change> {
     all.extend(common_positions());
     all.extend(volumes());
     all.extend(lists());
+    all.extend(callers());
     all
 }
 
@@ -127,21 +128,7 @@ fn numbers() -> Vec<Change> {
     for more in [1, 4_096] {
         all.push(change(0, move |plan| plan.length += more));
     }
-    for over in [1, 2, 1_000_000] {
-        all.push(change(9, move |plan| {
-            plan.tally = TALLY_MOST.saturating_sub(plan.limit) + over
-        }));
-    }
-    all.push(change(9, |plan| plan.tally = u64::MAX));
-    all.push(change(9, |plan| plan.tally = u64::MAX - plan.limit));
-    all.push(change(9, |plan| {
-        plan.tally = (u64::MAX - plan.limit).wrapping_add(1)
-    }));
-    for under in [0, 1] {
-        all.push(change(0, move |plan| {
-            plan.tally = TALLY_MOST.saturating_sub(plan.limit + under)
-        }));
-    }
+    all.extend(tallies());
     for selection in [0, 257, 65_537, (1 << 32) + 1, u64::MAX] {
         all.push(change(12, move |plan| plan.selection = selection));
     }
@@ -165,6 +152,33 @@ fn numbers() -> Vec<Change> {
     }
     all.push(change(0, |plan| plan.selection = plan.last_selection()));
     all
+}
+
+/// Question 9, and the greatest tallies that it lets pass.
+pub fn tallies() -> Vec<Change> {
+    let mut all = Vec::new();
+    for over in [1, 2, 1_000_000] {
+        all.push(change(9, move |plan| {
+            plan.tally = TALLY_MOST.saturating_sub(plan.limit) + over
+        }));
+    }
+    all.push(change(9, |plan| plan.tally = u64::MAX));
+    all.push(change(9, |plan| plan.tally = u64::MAX - plan.limit));
+    all.push(change(9, |plan| {
+        plan.tally = (u64::MAX - plan.limit).wrapping_add(1)
+    }));
+    for under in [0, 1] {
+        all.push(change(0, move |plan| {
+            plan.tally = TALLY_MOST.saturating_sub(plan.limit + under)
+        }));
+    }
+    all
+}
+
+/// Question 16.
+fn callers() -> Vec<Change> {
+    let one = |caller| change(16, move |plan| plan.caller = caller);
+    callers::REFUSED.map(one).into()
 }
 
 /// Question 3.

@@ -4,6 +4,7 @@
 //! through different members by turns; passing by turns up to a failure at the
 //! first rank, in the middle, at the limit and one past it.
 
+use super::callers;
 use super::cases;
 use super::plan::{least_length, OutlineRow, Plan, SelectionRow};
 use super::prng::Prng;
@@ -49,7 +50,7 @@ pub fn many(seed: u64, count: usize) -> Vec<Vector> {
     let sizes = (1..=SET_SELECTIONS).flat_map(|members| at_ranks(&mut prng, members));
     let mut all: Vec<Vector> = fixed.chain(sizes).collect();
     all.extend((0..count).map(|_| drawn(&mut prng)));
-    all
+    callers::draw(seed, 0, all)
 }
 
 /// With the greatest limit: failing at the first rank, in the middle, at the

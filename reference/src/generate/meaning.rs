@@ -49,7 +49,7 @@ fn a_shown_volume_fits_and_tells_the_selections_apart() {
         let plan = selections(&mut prng);
         let case = plan.case_bytes();
         let mut answer = [0; 4_096];
-        if verdict(&case, 500, &mut 0, &mut answer).kind == NOT_INCLUDED {
+        if verdict(&case, 500, 0, &mut [0; CALLERS], &mut answer).kind == NOT_INCLUDED {
             let (volume, list) = shown(&answer);
             assert!(fits(&case, volume).holds);
             assert!(is_result(&case, 1, volume, list).holds);
@@ -70,7 +70,7 @@ fn included_holds_in_fitting_volumes() {
             ..selections(&mut prng)
         };
         let case = plan.case_bytes();
-        if verdict(&case, 500, &mut 0, &mut [0; 4_096]).kind != INCLUDED {
+        if verdict(&case, 500, 0, &mut [0; CALLERS], &mut [0; 4_096]).kind != INCLUDED {
             continue;
         }
         for _ in 0..10 {
@@ -126,7 +126,7 @@ fn a_trial_passes_through_any_member() {
                 ..plan.clone()
             };
             let mut answer = [0xAA; 4_096];
-            let got = verdict(&plan.case_bytes(), 100, &mut 0, &mut answer);
+            let got = verdict(&plan.case_bytes(), 100, 0, &mut [0; CALLERS], &mut answer);
             ((got.kind, got.tried), answer)
         };
         let whole = judged(plan.set.clone());
@@ -245,7 +245,7 @@ fn an_old_case_moved_over_is_judged_by_its_second_selection() {
         let new = moved(upgrade, &plan.case_bytes()).expect("the plan is accepted");
         plan.old = false;
         assert_eq!(new, plan.case_bytes());
-        let got = verdict(&new, 100, &mut 0, &mut [0; 4_096]);
+        let got = verdict(&new, 100, 0, &mut [0; CALLERS], &mut [0; 4_096]);
         assert_eq!((got.kind, got.tried), worked_out(&plan, 100));
         seen += u32::from(got.tried > 0);
     }

@@ -3,9 +3,10 @@
 //! singly and in pairs, `trees` draws outlines, selections and volumes, `sets`
 //! draws sets, and `random`, `cases` and `layouts` put them together; `many` has
 //! verdicts over very many placements, and `turns` those of them that pass by
-//! turns and fail at a rank that is chosen.
+//! turns and fail at a rank that is chosen. `callers` says whose a verdict is.
 
 mod boundaries;
+mod callers;
 mod cases;
 mod changes;
 mod layouts;

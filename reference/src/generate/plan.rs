@@ -1,6 +1,7 @@
 //! A call being built: rows of numbers that still can be spoilt, and how they
 //! become a vector.
 
+use crate::calls::{verdict, VerdictAnswer, CALLERS};
 use crate::vectors::{
     Vector, DOWNGRADE, FITS, IS_RESULT, LAYOUT, NODES_AT, PATHS, UPGRADE, VERDICT,
 };
@@ -19,7 +20,7 @@ pub type VolumeRow = [u16; 2];
 /// The questions of a call, in its order.
 pub fn questions(call: u32) -> &'static [u64] {
     match call {
-        VERDICT => &[1, 2, 3, 4, 14, 5, 6, 7, 8, 9],
+        VERDICT => &[1, 2, 3, 4, 14, 5, 6, 7, 8, 16, 9],
         FITS => &[3, 4, 14, 5, 6, 7, 8, 10],
         IS_RESULT => &[3, 4, 14, 5, 6, 7, 8, 10, 12, 11],
         NODES_AT => &[2, 3, 4, 14, 5, 6, 7, 8, 10, 12],
@@ -76,6 +77,7 @@ pub struct Plan {
     pub call: u32,
     pub limit: u64,
     pub tally: u64,
+    pub caller: u64,
     pub selection: u64,
     pub position: u64,
     pub length: u64,
@@ -164,6 +166,12 @@ impl Plan {
         self.set = self.set.iter().cycle().take(count).cloned().collect();
     }
 
+    /// The verdict on the case, of a caller who has made none before.
+    pub fn judged(&self, limit: u64) -> VerdictAnswer {
+        let (mut tallies, mut answer) = ([0; CALLERS], [0; 4_096]);
+        verdict(&self.case_bytes(), limit, 0, &mut tallies, &mut answer)
+    }
+
     /// The vector, with only what the call takes.
     pub fn vector(&self) -> Vector {
         let call = self.call;
@@ -173,6 +181,7 @@ impl Plan {
             call,
             limit: given(&[VERDICT], self.limit),
             tally: given(&[VERDICT], self.tally),
+            caller: given(&[VERDICT], self.caller),
             selection: given(&[IS_RESULT, NODES_AT, PATHS, LAYOUT], self.selection),
             position: given(&[NODES_AT], self.position),
             length: given(&LENDING, self.length),

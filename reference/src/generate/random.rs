@@ -1,5 +1,6 @@
 //! Random calls, accepted and nearly accepted.
 
+use super::callers;
 use super::changes::{changes, Change};
 use super::plan::{OutlineRow, Plan, SelectionRow, VolumeRow, CALLS};
 use super::prng::Prng;
@@ -11,10 +12,16 @@ use crate::vectors::{Vector, DOWNGRADE, LAYOUT, VERDICT};
 /// that thousands of vectors take seconds.
 const TRIALS_MOST: u64 = 2_000;
 
+/// So many verdicts in a hundred have a caller that there is not.
+const NOBODY: usize = 3;
+
 pub fn random(seed: u64, count: usize) -> Vec<Vector> {
     let mut prng = Prng::new(seed);
-    let changes = changes();
-    (0..count).map(|_| one(&mut prng, &changes)).collect()
+    let mut changes = changes();
+    // Those are drawn with the other callers.
+    changes.retain(|change| change.question != 16);
+    let drawn = (0..count).map(|_| one(&mut prng, &changes)).collect();
+    callers::draw(seed, NOBODY, drawn)
 }
 
 fn one(prng: &mut Prng, changes: &[Change]) -> Vector {
@@ -220,8 +227,7 @@ fn placement(prng: &mut Prng, plan: &Plan) -> Vec<u16> {
 
 /// A limit around the answer's own rank, or anything that is not too long.
 fn limit(prng: &mut Prng, plan: &Plan) -> u64 {
-    let mut answer = [0; 4_096];
-    let got = crate::verdict(&plan.case_bytes(), TRIALS_MOST, &mut 0, &mut answer);
+    let got = plan.judged(TRIALS_MOST);
     let around = [got.tried, got.tried.saturating_sub(1).max(1), got.tried + 1][prng.below(3)];
     match prng.below(4) {
         0 => 1 + prng.draw() % 10,

@@ -608,8 +608,7 @@ mod tests {
     use crate::calls::{INCLUDED, NOT_INCLUDED, STOPPED};
 
     fn judged(plan: &Plan, limit: u64) -> (u64, u64) {
-        let mut answer = [0; 4_096];
-        let got = crate::verdict(&plan.case_bytes(), limit, &mut 0, &mut answer);
+        let got = plan.judged(limit);
         assert_eq!(got.refused, 0);
         (got.kind, got.tried)
     }

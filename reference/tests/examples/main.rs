@@ -1,6 +1,8 @@
 //! E1 to E10 with sets of one, the misreadings to catch, and the readings where
-//! two differ; those about sets are in `sets`, those about the old form in `moving`.
+//! two differ; those about sets are in `sets`, those about the old form in
+//! `moving`, those about callers in `callers`.
 
+mod callers;
 mod moving;
 mod notation;
 mod sets;
@@ -14,10 +16,10 @@ const LIMIT: u64 = 1_000_000;
 /// Kind and tried, with what was written checked against the expectation.
 fn judged(case: &[u8], limit: u64, written: &[u8]) -> (u64, u64) {
     let mut answer = [0xAA; 4_096];
-    let mut tally = 5;
-    let got = verdict(case, limit, &mut tally, &mut answer);
+    let mut tallies = [5; CALLERS];
+    let got = verdict(case, limit, 0, &mut tallies, &mut answer);
     assert_eq!(got.refused, 0);
-    assert_eq!(tally, 5 + got.tried);
+    assert_eq!(tallies, [5 + got.tried, 5, 5, 5, 5, 5, 5, 5]);
     assert_eq!(&answer[..written.len()], written);
     assert!(answer[written.len()..].iter().all(|&byte| byte == 0xAA));
     (got.kind, got.tried)
@@ -150,7 +152,7 @@ fn positions_are_tested_as_one_list() {
     let crossed = case("r(a(!b,!c))", "r(a(b^),a(c^2))", "r(a(b^,c^2))");
     let trial = shown("r(a(b),a(c))", &[2, 4]);
     let mut answer = [0xAA; 4_096];
-    let got = verdict(&crossed, LIMIT, &mut 0, &mut answer);
+    let got = verdict(&crossed, LIMIT, 0, &mut [0; CALLERS], &mut answer);
     assert_eq!((got.kind, got.tried), (NOT_INCLUDED, 1));
     // Seven nodes: the missing c and b are appended as nodes 5 and 6.
     let mut wanted = list(&[7]);
@@ -250,24 +252,25 @@ fn nodes_are_written_ascending_after_their_count() {
 #[test]
 fn a_refusal_alters_nothing() {
     let mut answer = [0xAA; 4_095];
-    let mut tally = 7;
+    let mut tallies = [7; CALLERS];
     let refused = |refused| VerdictAnswer {
         refused,
         kind: 0,
         tried: 0,
     };
-    assert_eq!(verdict(&e6(), 0, &mut tally, &mut answer), refused(1));
-    assert_eq!(verdict(&e6(), 1, &mut tally, &mut answer), refused(2));
-    assert_eq!((tally, answer), (7, [0xAA; 4_095]));
+    assert_eq!(verdict(&e6(), 0, 0, &mut tallies, &mut answer), refused(1));
+    assert_eq!(verdict(&e6(), 1, 0, &mut tallies, &mut answer), refused(2));
+    assert_eq!((tallies, answer), ([7; CALLERS], [0xAA; 4_095]));
 }
 
 #[test]
 fn the_tally_never_wraps() {
     let most = 1_000_000_000_000;
-    assert_eq!(verdict_refusal(&e6(), 1, most - 1, 4_096), 0);
-    assert_eq!(verdict_refusal(&e6(), 1, most, 4_096), 9);
-    assert_eq!(verdict_refusal(&e6(), 2, u64::MAX, 4_096), 9);
-    assert_eq!(verdict_refusal(&e6(), LIMIT + 1, u64::MAX, 4_096), 1);
+    let refusal = |limit, tally| verdict_refusal(&e6(), limit, 0, &[tally; CALLERS], 4_096);
+    assert_eq!(refusal(1, most - 1), 0);
+    assert_eq!(refusal(1, most), 9);
+    assert_eq!(refusal(2, u64::MAX), 9);
+    assert_eq!(refusal(LIMIT + 1, u64::MAX), 1);
 }
 
 #[test]

@@ -46,7 +46,7 @@ fn the_examples_there_and_back() {
         let new = case(outline, first, second);
         assert_eq!(moved(upgrade, &old), new);
         assert_eq!(moved(downgrade, &new), old);
-        assert_eq!(verdict_refusal(&new, LIMIT, 0, 4_096), 0);
+        assert_eq!(verdict_refusal(&new, LIMIT, 0, &[0; CALLERS], 4_096), 0);
     }
 }
 

@@ -8,7 +8,7 @@ use reference::*;
 
 /// The verdict's refusal with nothing else to refuse.
 fn refused(case: &[u8]) -> u64 {
-    verdict_refusal(case, LIMIT, 0, 4_096)
+    verdict_refusal(case, LIMIT, 0, &[0; CALLERS], 4_096)
 }
 
 /// A case of r alone, with a set announced so and these sections after it.

@@ -1,9 +1,9 @@
-//! One call of the library and one of the reference, held to each other whole: the answer, the tally,
-//! and the lent buffer or table with what stands around it. A refusal also has zero in every other
-//! field and leaves everything as it was. A case that is moved is also moved back.
+//! One call of the library and one of the reference, held to each other whole: the answer, the eight
+//! tallies, and the lent buffer or table, each with what stands around it. A refusal also has zero in
+//! every other field and leaves everything as it was. A case that is moved is also moved back.
 
 use crate::lent::{Lent, Loans};
-use cadwezin::{ffi, NodeRecord, Tally, ANSWER_BYTES};
+use cadwezin::{ffi, NodeRecord, Tallies, ANSWER_BYTES};
 use reference::vectors::{
     fnv1a, Vector, DOWNGRADE, FITS, IS_RESULT, NODES_AT, PATHS, UPGRADE, VERDICT,
 };
@@ -45,20 +45,41 @@ pub fn compare(vector: &Vector, loans: &mut Loans) -> Result<Answered, Differenc
 
 fn verdict(vector: &Vector, loans: &mut Loans) -> Result<Answered, Difference> {
     let length = vector.length as usize;
-    let mut tally = Tally {
-        count: vector.tally,
+    let before = Tallies {
+        counts: vector.tallies(),
     };
-    let mut their_tally = vector.tally;
+    // The middle one is lent.
+    let mut tallies = [before; 3];
+    let mut their_tallies = before.counts;
     let lent = loans.bytes.lend(length);
-    let ours = ffi::verdict(&vector.case, vector.limit, &mut tally, lent);
+    let ours = ffi::verdict(
+        &vector.case,
+        vector.limit,
+        vector.caller,
+        &mut tallies[1],
+        lent,
+    );
     let lent = loans.reference_bytes.lend(length);
-    let theirs = reference::verdict(&vector.case, vector.limit, &mut their_tally, lent);
+    let theirs = reference::verdict(
+        &vector.case,
+        vector.limit,
+        vector.caller,
+        &mut their_tallies,
+        lent,
+    );
     same(
         "the answer",
         (ours.refused, ours.kind, ours.tried),
         (theirs.refused, theirs.kind, theirs.tried),
     )?;
-    same("the tally", tally.count, their_tally)?;
+    same("the tallies", tallies[1].counts, their_tallies)?;
+    let mut raised = [before; 3];
+    if let Some(own) = raised[1].counts.get_mut(vector.caller as usize) {
+        *own += ours.tried;
+    }
+    hold(tallies == raised, || {
+        format!("the tallies: {tallies:?} and not {raised:?}")
+    })?;
     let written = if ours.kind == ffi::NOT_CONTAINED {
         shown_bytes(loans.bytes.now())
     } else {
@@ -66,9 +87,6 @@ fn verdict(vector: &Vector, loans: &mut Loans) -> Result<Answered, Difference> {
     };
     buffers(loans, written)?;
     refusal(ours.refused, &[ours.kind, ours.tried])?;
-    if ours.refused != 0 {
-        same("the tally of a refusal", tally.count, vector.tally)?;
-    }
     Ok(Answered {
         refused: ours.refused,
         value: ours.kind,
@@ -262,7 +280,8 @@ fn refusal(refused: u64, others: &[u64]) -> Result<(), Difference> {
     })
 }
 
-fn hold(right: bool, difference: impl Fn() -> Difference) -> Result<(), Difference> {
+/// What differs, unless all is right.
+pub fn hold(right: bool, difference: impl Fn() -> Difference) -> Result<(), Difference> {
     if right {
         Ok(())
     } else {

@@ -17,7 +17,7 @@ const NAMES: [(u32, &str); 8] = [
     (DOWNGRADE, "new to old"),
 ];
 
-const QUESTIONS: usize = 15;
+const QUESTIONS: usize = 16;
 
 /// One row of the table.
 #[derive(Clone, Copy, Debug, Default)]

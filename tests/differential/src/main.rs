@@ -7,6 +7,7 @@ use differential::compare::compare;
 use differential::counts::Counts;
 use differential::lent::Loans;
 use differential::old::filed;
+use differential::seed_of;
 use differential::vary::vary;
 use reference::generate::{boundaries, cases, layouts, random, Prng};
 use reference::vectors::Vector;
@@ -77,7 +78,7 @@ fn worker(seed: u64, portions: u64, next: &AtomicU64) -> Result<Counts, String> 
         if portion >= portions {
             return Ok(counts);
         }
-        let mut prng = Prng::new(seed.wrapping_mul(0x2545_F491_4F6C_DD1D) ^ portion);
+        let mut prng = Prng::new(seed_of(seed, portion));
         if let Err(difference) = calls_of(&mut prng, portion, &mut loans, &mut counts) {
             // The others stop too.
             next.store(portions, Ordering::Relaxed);

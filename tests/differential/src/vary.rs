@@ -3,7 +3,7 @@
 //! one.
 
 use crate::lent::LENT_MOST;
-use reference::calls::STOPPED;
+use reference::calls::{CALLERS, STOPPED, TALLY_MOST};
 use reference::embedding::{has, Shape};
 use reference::generate::Prng;
 use reference::old::read_old_case;
@@ -16,7 +16,6 @@ use reference::vectors::{
 const CALLS: [u32; 8] = [
     VERDICT, FITS, IS_RESULT, NODES_AT, PATHS, LAYOUT, UPGRADE, DOWNGRADE,
 ];
-const TALLY_MOST: u64 = 1_000_000_000_000;
 /// A limit below which the reference is quick on any case.
 const QUICK: u64 = 60;
 
@@ -57,6 +56,7 @@ fn for_call(prng: &mut Prng, drawn: &[Vector], vector: Vector) -> Vector {
         selection: 1,
         position: prng.between(1, 2) as u64,
         tally: prng.draw() % TALLY_MOST,
+        caller: prng.below(CALLERS) as u64,
         length: least + [0, 0, 1, 904][prng.below(4)],
         ..vector
     };
@@ -174,7 +174,7 @@ fn number(prng: &mut Prng, vector: &mut Vector) {
     let any = prng.draw() >> prng.below(64);
     let one_of = |prng: &mut Prng, numbers: &[u64]| numbers[prng.below(numbers.len())];
     let past = u64::from(u32::MAX) + 2;
-    match prng.below(5) {
+    match prng.below(6) {
         0 => {
             let bounds = [0, 1, 2, 999_999, 1_000_000, 1_000_001, past, u64::MAX, any];
             vector.limit = one_of(prng, &bounds);
@@ -190,9 +190,19 @@ fn number(prng: &mut Prng, vector: &mut Vector) {
             let bounds = [0, 1, 2, last, last + 1, 9, 10, 65_537, past, u64::MAX, any];
             vector.selection = one_of(prng, &bounds);
         }
-        3 => vector.position = one_of(prng, &[0, 1, 2, 3, 8, 9, 65_537, past, u64::MAX, any]),
+        3 => vector.caller = caller(prng, any),
+        4 => vector.position = one_of(prng, &[0, 1, 2, 3, 8, 9, 65_537, past, u64::MAX, any]),
         _ => vector.length = length(prng),
     }
+}
+
+/// Up to one past the last, at the bounds of widths, one of the eight with a higher bit set, or the number
+/// given.
+pub fn caller(prng: &mut Prng, any: u64) -> u64 {
+    let low = prng.below(CALLERS + 1) as u64;
+    let high = low | 1 << prng.between(3, 63);
+    let bounds = [low, low, high, high, 7, 8, 9, 255, 256, u64::MAX, any];
+    bounds[prng.below(bounds.len())]
 }
 
 /// How much is lent: around both least lengths, little, or anything up to the most.
@@ -335,6 +345,6 @@ fn lengthen(prng: &mut Prng, vector: &mut Vector) {
 
 /// Whether many trials pass, so that a great limit takes long.
 fn slow(vector: &Vector) -> bool {
-    let mut answer = [0; 4_096];
-    reference::verdict(&vector.case, QUICK, &mut 0, &mut answer).kind == STOPPED
+    let (mut tallies, mut answer) = ([0; CALLERS], [0; 4_096]);
+    reference::verdict(&vector.case, QUICK, 0, &mut tallies, &mut answer).kind == STOPPED
 }

@@ -5,7 +5,7 @@
 
 #![forbid(unsafe_code)]
 
-use cadwezin::{ffi, NodeRecord, Tally};
+use cadwezin::{ffi, NodeRecord, Tallies};
 use differential::compare::compare;
 use differential::lent::Loans;
 use differential::vary::set_of;
@@ -18,6 +18,8 @@ use std::process::ExitCode;
 use std::time::{Duration, Instant};
 
 const ROUND: Duration = Duration::from_millis(4);
+/// Whose all verdicts are.
+const CALLER: usize = 0;
 
 fn main() -> ExitCode {
     let word = std::env::args().nth(1);
@@ -111,6 +113,7 @@ impl Row {
 }
 
 struct Ours {
+    tallies: Tallies,
     answer: Vec<u8>,
     table: Vec<NodeRecord>,
 }
@@ -118,6 +121,7 @@ struct Ours {
 impl Ours {
     fn new() -> Self {
         Ours {
+            tallies: Tallies::default(),
             answer: vec![0; 5_000],
             table: vec![NodeRecord::default(); 2_000],
         }
@@ -128,8 +132,10 @@ impl Ours {
         let (answer, table) = (&mut self.answer, &mut self.table);
         match v.call {
             VERDICT => {
-                let mut tally = Tally { count: v.tally };
-                black_box(ffi::verdict(&v.case, v.limit, &mut tally, answer));
+                let tallies = &mut self.tallies;
+                tallies.counts[CALLER] = v.tally;
+                let got = ffi::verdict(&v.case, v.limit, CALLER as u64, tallies, answer);
+                black_box(got);
             }
             FITS => drop(black_box(ffi::fits(&v.case, &v.volume))),
             IS_RESULT => {
@@ -148,6 +154,7 @@ impl Ours {
 }
 
 struct Theirs {
+    tallies: reference::Tallies,
     answer: Vec<u8>,
     table: Vec<reference::NodeRecord>,
 }
@@ -155,6 +162,7 @@ struct Theirs {
 impl Theirs {
     fn new() -> Self {
         Theirs {
+            tallies: reference::Tallies::default(),
             answer: vec![0; 5_000],
             table: vec![reference::NodeRecord::default(); 2_000],
         }
@@ -165,8 +173,10 @@ impl Theirs {
         let (answer, table) = (&mut self.answer, &mut self.table);
         match v.call {
             VERDICT => {
-                let mut tally = v.tally;
-                black_box(reference::verdict(&v.case, v.limit, &mut tally, answer));
+                let tallies = &mut self.tallies;
+                tallies[CALLER] = v.tally;
+                let got = reference::verdict(&v.case, v.limit, CALLER as u64, tallies, answer);
+                black_box(got);
             }
             FITS => drop(black_box(reference::fits(&v.case, &v.volume))),
             IS_RESULT => {
@@ -506,27 +516,36 @@ fn old_form(case: &[u8]) -> Vec<u8> {
     [&case[..at], &members.concat()].concat()
 }
 
-/// Calls as the generators draw them, but for their sets; their mean.
+/// Calls as the generators draw them, but for their callers and sets; their mean.
 fn drawn() -> Vec<Row> {
+    let near_limits = || of_one_caller(cases(1, 80));
+    let any = || of_one_caller(random(1, 1_000));
     let alone = |vectors: Vec<Vector>| vectors.iter().map(alone).collect();
     let mut rows = vec![row(
         "lay out a trial",
         "200 near the limits",
         alone(layouts(1, 200)),
     )];
-    rows.extend(both("verdict", "80 near the limits", alone(cases(1, 80))));
+    rows.extend(both("verdict", "80 near the limits", alone(near_limits())));
     rows.push(row(
         "verdict",
         "80 near the limits, sets as they are drawn",
-        cases(1, 80),
+        near_limits(),
     ));
-    rows.extend(both("all eight", "1,000 random", alone(random(1, 1_000))));
+    rows.extend(both("all eight", "1,000 random", alone(any())));
     rows.push(row(
         "all eight",
         "1,000 random, sets as they are drawn",
-        random(1, 1_000),
+        any(),
     ));
     rows
+}
+
+fn of_one_caller(mut vectors: Vec<Vector>) -> Vec<Vector> {
+    for vector in &mut vectors {
+        vector.caller = CALLER as u64;
+    }
+    vectors
 }
 
 fn fields(numbers: &[u16]) -> Vec<u8> {

@@ -12,7 +12,7 @@
 mod clock;
 mod rows;
 
-use cadwezin::{ffi, Tally};
+use cadwezin::{ffi, Tallies};
 use clock::timed;
 use differential::compare::compare;
 use differential::lent::Loans;
@@ -24,6 +24,7 @@ use std::process::ExitCode;
 use std::time::{Duration, Instant};
 
 const LIMIT: u64 = 1_000_000;
+const CALLER: u64 = 0;
 /// So many trials the reference lays out soon, whatever their size; and so many within seconds, for the
 /// worst.
 const FEW: u64 = 300;
@@ -225,9 +226,9 @@ impl Search {
     fn verdict(&mut self, rows: &Rows) -> (Duration, ffi::VerdictAnswer) {
         self.calls += 1;
         let case = rows.bytes();
-        let mut tally = Tally::default();
+        let mut tallies = Tallies::default();
         let answer = self.loans.bytes.lend(cadwezin::ANSWER_BYTES);
-        timed(|| ffi::verdict(&case, LIMIT, &mut tally, answer))
+        timed(|| ffi::verdict(&case, LIMIT, CALLER, &mut tallies, answer))
     }
 
     /// Holds a case to the reference, and says so where it is the worst so far.
@@ -276,7 +277,7 @@ impl Search {
     /// What is shown fits, has the first pattern's result, and no member has it; by the reference.
     fn counterexample(&mut self, case: &[u8]) -> Result<(), String> {
         let answer = self.loans.bytes.lend(cadwezin::ANSWER_BYTES);
-        ffi::verdict(case, LIMIT, &mut Tally::default(), answer);
+        ffi::verdict(case, LIMIT, CALLER, &mut Tallies::default(), answer);
         let answer = self.loans.bytes.now();
         let field = |at: usize| usize::from(u16::from_le_bytes([answer[at], answer[at + 1]]));
         let end = 2 + 4 * field(0);
