@@ -1,8 +1,10 @@
 -- The counts of the tallies, as the struct owns them: there are eight, each of 64 bits, and any such list is owned. Assumes nothing.
-use mathlib.Core.Path.{_≡_, refl, _∙_, ap}
-use Prim.Native.Nat.{ℕ, zero, suc, _<_, _^_}
+use mathlib.Core.Path.{_≡_, refl, sym, _∙_, ap}
+use Prim.Native.Nat.{ℕ, zero, suc, _+_, _≤_, _<_, _^_}
+use native.Mathlib.Omega.{arith}
 use mathlib.Core.List.{List, [], _∷_, map}
-use lib.ListN.{length, getD, set, length-map, length-set}
+use lib.ListN.{length, getD, set, length-map, length-set, List·getD-eq-default}
+use lib.Seq.{set-getD}
 use mir.Syntax.{w64}
 use mir.Val.{Val, vint}
 use denote.Array.{each, arrayVal}
@@ -29,6 +31,14 @@ pub counts-known : (t : Tallies) (vs : List Val) → Is T.the-row t vs → Count
 counts-known t vs is =
     let a = LL.owed T.the-type T′.the-laws t vs is .0 in
     record { eight = length-unmapped ℕ (t .counts) 8 (a .1 .0 .1); fits = λ i. elem-fits-field w64 w64 (t .counts) _ i (a .1 .1) tt .fits }
+
+-- above 7 the count is 0
+pub none-read : (ms : List ℕ) (i : ℕ) → Counts ms → 8 ≤ i → 0 ≡ getD ms i 0
+none-read ms i c above = let e : length ms ≡ 8 = c .eight in sym (List·getD-eq-default ms 0 {n = i} (omega arith))
+
+-- a count raised by 0 is as it was
+pub raised-none : (ms : List ℕ) (i m : ℕ) → m ≡ 0 → ms ≡ set ms i (getD ms i 0 + m)
+raised-none ms i m e = let same : getD ms i 0 + m ≡ getD ms i 0 = omega arith in sym (ap (set ms i) same ∙ set-getD ms i 0)
 
 set-fits : (ms : List ℕ) (i m : ℕ) → m < 2 ^ 64 → ((j : ℕ) → getD ms j 0 < 2 ^ 64) → (j : ℕ) → getD (set ms i m) j 0 < 2 ^ 64
 set-fits [] i m l f j = f j

@@ -1,11 +1,10 @@
 -- From what the covered verdict promises of one caller's tally to the eight: that tally raised by the answer's tried, which fits, and the
--- others as they were; of a caller above 7 all of them. Assumes nothing.
+-- others as they were. Assumes nothing.
 use Prim.Native.Nat.{ℕ, _+_, _≤_, _<_, _^_}
-use mathlib.Core.Path.{_≡_, ap, sym, subst}
+use mathlib.Core.Path.{_≡_, ap, sym, _∙_, subst}
 use mathlib.Core.List.{List}
 use native.Mathlib.Omega.{arith}
-use lib.ListN.{length, set, List·getD-eq-default}
-use lib.Seq.{set-out}
+use lib.ListN.{length, set}
 use Rattle.model.specs.Limits.{callers, maxTally}
 use Rattle.model.specs.Questions.{verdictRefusal}
 use Rattle.model.specs.Calls as model
@@ -34,15 +33,17 @@ module _ {b : List ℕ} {L caller n : ℕ} {before after : List ℕ} {v : Verdic
       omega arith)
       (λ f. let none : v .tried ≡ 0 = ap (λ (o : model.VerdictOutcome). o .answer .tried) (a .demand1 f) in omega arith)
 
+  -- an accepted call's caller is one of the eight, and a refused call tried nothing
+  pub accepted-known : VerdictAnswered b L caller n before (toldOutcome n v after) → v .refused ≡ 0 → caller < callers
+  accepted-known a e =
+      by-number (verdictRefusal b L caller n (length before)) (λ z. accepted-verdict b L caller n (length before) z .known)
+      (λ f. absurd (f (sym (ap (λ (o : model.VerdictOutcome). o .answer .refused) (a .demand1 f)) ∙ e)))
+
+  pub refused-none : VerdictAnswered b L caller n before (toldOutcome n v after) → (v .refused ≡ 0 → ⊥) → v .tried ≡ 0
+  refused-none a r = by-number (verdictRefusal b L caller n (length before)) (λ z. absurd (r (a .demand3 z .accepted))) (λ f. ap (λ (o : model.VerdictOutcome). o .answer .tried) (a .demand1 f))
+
 module _ {b : List ℕ} {L caller : ℕ} {before after : List ℕ} {v : VerdictAnswer} (tallies : List ℕ) (size : length tallies ≡ callers) where
+  -- of a caller above 7 too: its tally counts as 0, and to set it alters none
   pub charged-own : VerdictAnswered b L caller (model.tallyOf tallies caller) before (toldOutcome (model.tallyOf tallies caller) v after)
       → TalliedAnswered b L caller tallies before (exportedOutcome v after (record { counts = set tallies caller (model.tallyOf tallies caller + v .tried) }))
   charged-own a = tallied-answered b L caller tallies size before a
-
-  -- a caller above 7 has no tally, which counts as 0, and alters none
-  pub charged-none : callers ≤ caller → VerdictAnswered b L caller 0 before (toldOutcome 0 v after) → TalliedAnswered b L caller tallies before (exportedOutcome v after (record { counts = tallies }))
-  charged-none h a =
-      let none : 0 ≡ model.tallyOf tallies caller = sym (List·getD-eq-default tallies 0 {n = caller} (omega arith)) in
-      subst (TalliedAnswered b L caller tallies before)
-      (ap {B = model.TalliedOutcome} (λ (ts : List ℕ). record { answer = numbersOf v; buffer = after; tallies = ts }) (set-out tallies caller (model.tallyOf tallies caller + v .tried) (omega arith)))
-      (charged-own (subst (λ (t : ℕ). VerdictAnswered b L caller t before (toldOutcome t v after)) none a))

@@ -85,13 +85,16 @@ pub extern "C" fn cadwezin_verdict(
     ensures { λ r. ⌜ TalliedAnswered (now (case .entry)) limit caller (now (tallies .entry) .counts) (now (answer .entry))
         (exportedOutcome r (now (answer .exit)) (now (tallies .exit))) ⌝ }
 {
-    if caller >= 8 {
-        return told(case, limit, caller, 0, answer);
-    }
     let at = caller as usize;
-    let tally = tallies.counts[at];
+    let mut tally = 0;
+    if caller < 8 {
+        tally = tallies.counts[at];
+    }
     let r = told(case, limit, caller, tally, answer);
-    tallies.counts[at] = tally + r.tried;
+    // Accepted, so the caller is below 8. A second test of the caller would have the compiler double the call.
+    if r.refused == 0 {
+        tallies.counts[at] = tally + r.tried;
+    }
     r
 }
 
