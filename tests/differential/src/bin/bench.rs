@@ -132,10 +132,9 @@ impl Ours {
         let (answer, table) = (&mut self.answer, &mut self.table);
         match v.call {
             VERDICT => {
-                let tallies = &mut self.tallies;
+                let (caller, tallies) = (CALLER as u64, &mut self.tallies);
                 tallies.counts[CALLER] = v.tally;
-                let got = ffi::verdict(&v.case, v.limit, CALLER as u64, tallies, answer);
-                black_box(got);
+                black_box(ffi::verdict(&v.case, v.limit, caller, tallies, answer));
             }
             FITS => drop(black_box(ffi::fits(&v.case, &v.volume))),
             IS_RESULT => {
@@ -173,10 +172,11 @@ impl Theirs {
         let (answer, table) = (&mut self.answer, &mut self.table);
         match v.call {
             VERDICT => {
-                let tallies = &mut self.tallies;
+                let (caller, tallies) = (CALLER as u64, &mut self.tallies);
                 tallies[CALLER] = v.tally;
-                let got = reference::verdict(&v.case, v.limit, CALLER as u64, tallies, answer);
-                black_box(got);
+                black_box(reference::verdict(
+                    &v.case, v.limit, caller, tallies, answer,
+                ));
             }
             FITS => drop(black_box(reference::fits(&v.case, &v.volume))),
             IS_RESULT => {
