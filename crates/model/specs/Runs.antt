@@ -1,6 +1,7 @@
 -- Runs: calls that name their caller, one after another on the eight tallies; what a caller receives over a run, and what was tried.
 use Prim.Native.Nat.{ℕ, _+_, _≤_}
 use mathlib.Core.Path.{_≡_}
+use mathlib.Core.Logic.{_⊎_, inl, inr, ⊎-elim}
 use mathlib.Core.List.{List, [], _∷_, map}
 use lib.Dec.{eqb}
 use lib.ListN.{set}
@@ -15,6 +16,14 @@ pub record Call (R : Type 0) (tally tried : R → ℕ) : Type 0 where
   pub receives : ℕ → R
   pub raises : (t : ℕ) → tally (receives t) ≡ t + tried (receives t)
   pub nobody : callers ≤ caller → (t : ℕ) → tried (receives t) ≡ 0
+
+-- Calls of two kinds in one run: what is received there is of the one kind or of the other, with its own tally and tried
+module _ {R S : Type 0} {tally tried : R → ℕ} {tally′ tried′ : S → ℕ} where
+  abbrev pub ofOne : Call R tally tried → Call (R ⊎ S) (⊎-elim tally tally′) (⊎-elim tried tried′)
+  ofOne c = record { caller = c .caller; receives = λ t. inl (c .receives t); raises = c .raises; nobody = c .nobody }
+
+  abbrev pub ofOther : Call S tally′ tried′ → Call (R ⊎ S) (⊎-elim tally tally′) (⊎-elim tried tried′)
+  ofOther c = record { caller = c .caller; receives = λ t. inr (c .receives t); raises = c .raises; nobody = c .nobody }
 
 -- who received, and what
 pub record Receipt (R : Type 0) : Type 0 where
