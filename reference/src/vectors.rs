@@ -175,12 +175,14 @@ impl Vector {
         tallies
     }
 
-    /// Nothing, the most there can be, too much for question 9, or any number.
+    /// Nothing, the most there can be, what question 9 may let pass, too much for
+    /// it, or any number.
     fn drawn_tally(&self, other: u64) -> u64 {
         let case_length = self.case.len() as u64;
         let from = [self.limit, self.tally, self.caller, case_length, other];
         let drawn = fnv1a(from.map(u64::to_le_bytes).as_flattened());
-        [0, u64::MAX, TALLY_MOST + drawn % TALLY_MOST, drawn][(drawn >> 32) as usize % 4]
+        let small = drawn % TALLY_MOST;
+        [0, u64::MAX, small, TALLY_MOST + small, drawn][(drawn >> 32) as usize % 5]
     }
 
     /// Which tally is the caller's; `None` where there is no such caller.
@@ -325,8 +327,10 @@ mod tests {
         for extreme in [0, u64::MAX] {
             assert!(others.contains(&extreme));
         }
-        let too_much = |tally: &u64| (TALLY_MOST..2 * TALLY_MOST).contains(tally);
-        assert!(others.iter().any(too_much));
+        for least in [1, TALLY_MOST] {
+            let within = |tally: &u64| (least..least + TALLY_MOST).contains(tally);
+            assert!(others.iter().any(within));
+        }
         assert!(!others.contains(&12));
     }
 }

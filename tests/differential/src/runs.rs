@@ -47,11 +47,10 @@ pub struct Told {
 }
 
 /// Makes so many calls in one run and holds it to itself and to the reference; or tells what differs, a
-/// line for each way in which it is held. In every fourth run all tallies begin low: else a library that
-/// refuses by what all of them hold would refuse the caller's calls alone just as much.
+/// line for each way in which it is held.
 pub fn run(seed: u64, number: u64, calls: usize) -> Result<Told, String> {
     let mut prng = Prng::new(seed_of(seed, number));
-    let start = start(&mut prng, number % 4 == 0);
+    let start = start(&mut prng, number);
     let calls = drawn(&mut prng, calls);
     let together = by_library(&calls, start);
     let mut held = vec![
@@ -64,11 +63,16 @@ pub fn run(seed: u64, number: u64, calls: usize) -> Result<Told, String> {
     Ok(told(&calls, &together))
 }
 
-/// In any order: three tallies near the bound, two past it, and three far below; or all eight so low that
-/// together they are below it too.
-fn start(prng: &mut Prng, low: bool) -> [u64; CALLERS] {
-    let mut counts = [0; CALLERS].map(|_| prng.draw() % (TALLY_MOST / 10));
-    if low {
+/// By turns: all eight so low that together they are below the bound too, since a library that refuses by
+/// what all of them hold would else refuse the caller's calls alone just as much; each far below the bound
+/// and together past it; and twice, in any order, three near it, two past it and three far below.
+fn start(prng: &mut Prng, number: u64) -> [u64; CALLERS] {
+    let (least, more) = match number % 4 {
+        1 => (TALLY_MOST / 8, TALLY_MOST / 8),
+        _ => (0, TALLY_MOST / 10),
+    };
+    let mut counts = [0; CALLERS].map(|_| least + prng.draw() % more);
+    if number % 4 < 2 {
         return counts;
     }
     for near in &mut counts[..3] {
