@@ -190,7 +190,7 @@ module _ (b : List ℕ) (small : AreBytes b) where
         returns = upgraded-returns y;
       }
 
--- every verdict on what is written is the base's verdict on the old case: refusal, kind, tried, tally, every byte
+-- every verdict of a caller 0 to 7 on what is written is the base's verdict on the old case: refusal, kind, tried, tally, every byte
 pub upgraded-verdict : (b : List ℕ) → AreBytes b → (bufferBytes : ℕ) → upgradeRefusal b bufferBytes ≡ 0 → (L caller tally : ℕ) (buffer : List ℕ)
     → caller < callers → verdictCall (upgraded b) L caller tally buffer ≡ oldVerdictCall b L tally buffer
 unfolding oldQuestions
