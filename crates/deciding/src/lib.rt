@@ -5,9 +5,10 @@ use containment::Containment;
 use containment::verdict::verdict;
 use format::sections::first_at;
 use format::sections::set_at;
+use judging::rows::STRONG_ROW;
+use judging::rows::summary_rows;
 use questions::pattern::arity;
 use refusals::verdict_refusal;
-use strong::strong_table;
 ghost use mathlib.Core.Path.{_≡_};
 ghost use Prim.Native.Nat.{_≤_};
 ghost use lib.ListN.{length};
@@ -27,7 +28,7 @@ pub enum Answer {
     Stopped(u64),
 }
 
-// The verdict on an accepted case, whose strong children are gathered once, for judging and for what is shown. What "not included" shows
+// The verdict on an accepted case, whose summary's rows are gathered once, for judging and for what is shown. What "not included" shows
 // goes to the front of the answer buffer.
 fn accepted(case: &[u8], limit: u64, answer: &mut [u8]) -> Containment
     requires { ⌜ AcceptedCase (now case) × (minBuffer ≤ length (now answer)) × (limit ≤ maxLimit) ⌝ }
@@ -35,13 +36,13 @@ fn accepted(case: &[u8], limit: u64, answer: &mut [u8]) -> Containment
 {
     let first = first_at(case);
     let set = set_at(case);
-    let strong = strong_table(case);
+    let rows = summary_rows(case);
     let mut images = [0u16; 16];
-    let r = verdict(case, &strong, case, first, set, &mut images, limit);
+    let r = verdict(case, &rows, case, first, set, &mut images, limit);
     let Containment::NotContained(rank) = r else {
         return r;
     };
-    show(case, &strong, first, &images, arity(case, first), answer);
+    show(case, &rows[STRONG_ROW], first, &images, arity(case, first), answer);
     Containment::NotContained(rank)
 }
 

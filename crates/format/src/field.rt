@@ -26,6 +26,13 @@ pub fn wide64(x: usize) -> u64
     x as u64
 }
 
+// And back: a number of a table of the largest width as an index.
+pub fn index64(x: u64) -> usize
+    ensures { λ r. ⌜ r ≡ x ⌝ }
+{
+    x as usize
+}
+
 // Field i, which the slice holds whole.
 pub fn field(s: &[u8], i: usize) -> usize
     requires { do ⌜ 2 * i + 1 < (← ⟦s.len()⟧) ⌝ }

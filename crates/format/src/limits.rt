@@ -7,6 +7,9 @@ pub const MAX_TALLY: u64 = 1_000_000_000_000;
 
 pub const CALLERS: u64 = 8;
 
+// The most verdicts of one call that strikes: 15 + 14 + .. + 1.
+pub const MAX_VERDICTS: u64 = 120;
+
 // The bytes that an answer buffer has at least, and the records that a lent table has at least.
 pub const MIN_BUFFER: usize = 4_096;
 

@@ -6,7 +6,7 @@ use mathlib.Core.List.{List, []}
 use lib.ListN.{length, getD}
 use Rattle.model.specs.Limits.{maxPosition}
 use Rattle.model.specs.Lists.{maskBelow}
-use Rattle.model.specs.Tree.{Rooted}
+use Rattle.model.specs.Tree.{Rooted, IsTree}
 use Rattle.model.specs.Summary.{Summary, asDocument, summaryLabel, summaryParent}
 use Rattle.model.specs.Pattern.{Pattern, IsPatternTree, patternLabel, descends, position, labelFits}
 use Rattle.model.specs.Facts.{SummaryFacts}
@@ -15,7 +15,7 @@ use Rattle.model.specs.Quick.{closed}
 use Rattle.matching.specs.Matching.{childrenIn}
 use Rattle.judging.specs.Blocks.{upIn, capIn, lastIn, setsIn, candidatesIn}
 use Rattle.judging.specs.Judging.{fullBy, Sets}
-use Rattle.judging.specs.Sets.{mayHold, pathTable}
+use Rattle.judging.specs.Sets.{mayHold, pathTable, summaryRows}
 use Rattle.judging.specs.Stepping.{Candidates}
 
 -- what one node takes
@@ -39,6 +39,11 @@ pub record StepSets (S : Summary) (P : Pattern) (M : Candidates) : Type 0 where
 
 -- ---- blocks that are made
 
+-- a summary that fits the blocks
+pub record SummaryNarrow (S : Summary) : Type 0 where
+  pub tree : IsTree (asDocument S)
+  pub few : length S ≤ 64
+
 -- the block of a summary and a member holds what one node takes, and the summary's parents, with zeros after them
 pub record SetsMade (S : Summary) (Q : Pattern) (t : List ℕ) : Type 0 where
   pub tree : Rooted 64 (upIn t)
@@ -61,6 +66,10 @@ pub record MasksMade (S : Summary) (parts lasts : List ℕ) (cap : ℕ) (m : Lis
   pub ends : (c : ℕ) → c < 16 → lastIn m c ≡ getD lasts c 0
   pub most : capIn m ≡ cap
   pub cells : (i : ℕ) → i < 1024 → getD m i 0 ≡ 0
+
+-- of whichever summary has these rows
+abbrev pub MadeFrom : List (List ℕ) → List ℕ → List ℕ → ℕ → List ℕ → Type 0
+MadeFrom rows parts lasts cap m = (S : Summary) → SummaryNarrow S → rows ≡ summaryRows S → MasksMade S parts lasts cap m
 
 -- ---- what skipping takes
 

@@ -12,6 +12,7 @@ use Rattle.model.specs.Summary.{Summary, summaryParent, summaryLabel}
 use Rattle.model.specs.Pattern.{Pattern, patternLabel, descends, position, labelFits}
 use Rattle.model.specs.Embeddings.{pathMask}
 use Rattle.model.specs.Fitting.{strongChildren}
+use Rattle.model.specs.Strong.{strongTable}
 use Rattle.model.specs.Bytes.{writtenAtFront}
 use Rattle.judging.specs.Judging.{gather, Sets, offersBy}
 use Rattle.judging.specs.declared.sets.Asked.{Asked}
@@ -83,6 +84,10 @@ belowBy b e = bitOr e (2 ^ b)
 -- by summary node, gathered from the last on: its children, its descendants
 abbrev pub gathered : Summary → (ℕ → ℕ → ℕ) → List ℕ
 gathered S F = gather (summaryParent S) F (length S - 1) (replicate 64 0)
+
+-- what depends on the summary alone: its parents, children, descendants and strong children
+abbrev pub summaryRows : Summary → List (List ℕ)
+summaryRows S = upTable S ∷ gathered S childBy ∷ gathered S belowBy ∷ strongTable S ∷ []
 
 -- acc, joined with what the summary nodes cs offer to the node above them, where each is offered its entry of closed
 unfoldable pub joinOffers : Sets → List ℕ → ℕ → List ℕ → ℕ

@@ -1,13 +1,13 @@
 // The summary's parents, by node.
 
-use format::field::wide;
+use format::field::index64;
 use format::nodes::SummaryNode;
 ghost use mathlib.Core.Path.{_≡_};
 ghost use Prim.Native.Nat.{_<_};
 ghost use Rattle.judging.specs.Blocks.{parentIn};
 
 // Entries past the last node are 0.
-pub type Parents = [u16; 64];
+pub type Parents = [u64; 64];
 
 // The parent of summary node x.
 pub fn parent(parents: &Parents, x: SummaryNode) -> SummaryNode
@@ -15,5 +15,5 @@ pub fn parent(parents: &Parents, x: SummaryNode) -> SummaryNode
     ensures { λ r. ⌜ r .0 ≡ parentIn (now (parents .entry)) (x .0) ⌝ }
 {
     let i = x.0;
-    SummaryNode(wide(parents[i]))
+    SummaryNode(index64(parents[i]))
 }

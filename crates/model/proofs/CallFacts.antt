@@ -1,6 +1,6 @@
 -- An accepted call has every fact that its questions ask for: all of its questions are answered yes, and each answer is a test of that
 -- fact. Assumes nothing.
-use Prim.Native.Nat.{ℕ, _+_, _≤_, _<_}
+use Prim.Native.Nat.{ℕ, _+_, _*_, _≤_, _<_}
 use mathlib.Core.Path.{_≡_, sym, subst}
 use mathlib.Core.Bool.{true, _&&_}
 use mathlib.Core.List.{List, [], _∷_, List·Memᴰ}
@@ -9,13 +9,13 @@ use lib.Dec.{eqb, ltb}
 use lib.ListN.{length}
 use borrow.Author.Tests.{eqb-true, leb-true, ltb-true}
 use Rattle.model.specs.Lists.{sameList}
-use Rattle.model.specs.Limits.{maxLimit, maxTally, callers, minBuffer, minTable, maxDocument}
+use Rattle.model.specs.Limits.{maxLimit, maxTally, maxVerdicts, callers, minBuffer, minTable, maxDocument}
 use Rattle.model.specs.Tree.{parentOf, labelOf}
 use Rattle.model.specs.Pattern.{arity}
 use Rattle.model.specs.Embeddings.{summaryEmbeddings}
 use Rattle.model.specs.Fitting.{parentRule}
 use Rattle.model.specs.Bytes.{Case, caseOf, documentOf, listOf, isWholeDocument, isWholeList}
-use Rattle.model.specs.Questions.{between, limitInRange, bufferLargeEnough, tableLargeEnough, callerInRange, tallyInRange, documentRecordKept, documentKept, listInRange, patternGiven, selected, positionGiven, isSummaryEmbedding, ask, caseQuestions, verdictRefusal, fitsRefusal, resultRefusal, nodesRefusal, pathsRefusal, layoutRefusal}
+use Rattle.model.specs.Questions.{refusal, chargedQuestions, minimiseRefusal, between, limitInRange, bufferLargeEnough, tableLargeEnough, callerInRange, tallyInRange, documentRecordKept, documentKept, listInRange, patternGiven, selected, positionGiven, isSummaryEmbedding, ask, caseQuestions, verdictRefusal, fitsRefusal, resultRefusal, nodesRefusal, pathsRefusal, layoutRefusal}
 use Rattle.model.specs.Facts.{AcceptedCase, DocumentFacts, ListFacts}
 use Rattle.model.proofs.ListLaws.{and-left, and-right, all-elim, all-below, any-elim, same-eq}
 use Rattle.model.proofs.Fitting.{rooted}
@@ -60,20 +60,21 @@ embedding-given c s l e =
 
 -- ---- what each accepted call has
 
-pub record VerdictFacts (b : List ℕ) (L caller tally bufferBytes : ℕ) : Type 0 where
+-- of a call that goes to its caller's tally and tries at most `most`
+pub record ChargedFacts (b : List ℕ) (L most caller tally bufferBytes : ℕ) : Type 0 where
   pub asked : AllYes (caseQuestions b)
   pub case : AcceptedCase b
   pub limitLow : 1 ≤ L
   pub limitHigh : L ≤ maxLimit
   pub buffer : minBuffer ≤ bufferBytes
   pub known : caller < callers
-  pub tallied : tally + L ≤ maxTally
+  pub tallied : tally + most ≤ maxTally
 
-pub accepted-verdict : (b : List ℕ) (L caller tally bufferBytes : ℕ) → verdictRefusal b L caller tally bufferBytes ≡ 0 → VerdictFacts b L caller tally bufferBytes
-unfolding verdictRefusal limitInRange bufferLargeEnough callerInRange tallyInRange
-accepted-verdict b L caller tally bufferBytes e =
+accepted-charged : (b : List ℕ) (L most caller tally bufferBytes : ℕ) → refusal (ask 1 (limitInRange L) ∷ chargedQuestions b most caller tally bufferBytes) ≡ 0 → ChargedFacts b L most caller tally bufferBytes
+unfolding limitInRange bufferLargeEnough callerInRange tallyInRange
+accepted-charged b L most caller tally bufferBytes e =
     let y =
-    all-asked b (ask 1 (limitInRange L) ∷ ask 2 (bufferLargeEnough bufferBytes) ∷ []) (ask 16 (callerInRange caller) ∷ ask 9 (tallyInRange tally L) ∷ [])
+    all-asked b (ask 1 (limitInRange L) ∷ ask 2 (bufferLargeEnough bufferBytes) ∷ []) (ask 16 (callerInRange caller) ∷ ask 9 (tallyInRange tally most) ∷ [])
     (omega arith, (omega arith, tt)) (omega arith, (omega arith, tt)) e in
     let limit = between-facts 1 maxLimit L (y .0 .0) in
     record {
@@ -83,8 +84,16 @@ accepted-verdict b L caller tally bufferBytes e =
       limitHigh = limit .1;
       buffer = leb-true minBuffer bufferBytes (y .0 .1 .0);
       known = ltb-true caller callers (y .2 .0);
-      tallied = leb-true (tally + L) maxTally (y .2 .1 .0);
+      tallied = leb-true (tally + most) maxTally (y .2 .1 .0);
     }
+
+pub accepted-verdict : (b : List ℕ) (L caller tally bufferBytes : ℕ) → verdictRefusal b L caller tally bufferBytes ≡ 0 → ChargedFacts b L L caller tally bufferBytes
+unfolding verdictRefusal
+accepted-verdict b L caller tally bufferBytes e = accepted-charged b L L caller tally bufferBytes e
+
+pub accepted-minimise : (b : List ℕ) (L caller tally bufferBytes : ℕ) → minimiseRefusal b L caller tally bufferBytes ≡ 0 → ChargedFacts b L (maxVerdicts * L) caller tally bufferBytes
+unfolding minimiseRefusal
+accepted-minimise b L caller tally bufferBytes e = accepted-charged b L (maxVerdicts * L) caller tally bufferBytes e
 
 pub record FitsFacts (b w : List ℕ) : Type 0 where
   pub case : AcceptedCase b

@@ -14,8 +14,9 @@ use Rattle.model.specs.Embeddings.{isResult, nodesAt}
 use Rattle.model.specs.Fitting.{fits}
 use Rattle.model.specs.Verdict.{verdict}
 use Rattle.model.specs.Bytes.{caseOf, documentOf, listOf, encodeCounted}
-use Rattle.model.specs.Questions.{selected, verdictRefusal, fitsRefusal, resultRefusal, nodesRefusal, pathsRefusal, layoutRefusal}
+use Rattle.model.specs.Questions.{selected, verdictRefusal, minimiseRefusal, fitsRefusal, resultRefusal, nodesRefusal, pathsRefusal, layoutRefusal}
 use Rattle.model.specs.Calls.{VerdictOutcome, shown, verdictAccepted, verdictRefused, verdictCall, TestAnswer, testAnswer, fitsCall, resultCall, nodesAccepted, countRefused, nodesCall, pathsAccepted, pathsRefused, pathsCall, LaidRecord, layoutAccepted, layoutRefused, layoutCall}
+use Rattle.model.specs.Striking.{refusedStrike, minimiseAccepted, minimiseRefused, minimiseCall}
 use Rattle.model.proofs.Bytes.{length-bytes, front-length}
 use Rattle.model.proofs.CallFacts.{accepted-verdict}
 
@@ -49,6 +50,22 @@ module _ (b : List ℕ) (L caller tally : ℕ) (buffer : List ℕ) where
   verdict-accepted e =
       let number : ℕ = verdictRefusal b L caller tally (length buffer) in
       chosen-accepted number (verdictAccepted (caseOf b) L tally buffer) (verdictRefused number tally buffer) e
+
+-- ---- striking out
+
+module _ (b : List ℕ) (L caller tally : ℕ) (buffer : List ℕ) where
+  pub minimise-refused : minimiseRefusal b L caller tally (length buffer) ≢ 0
+      → minimiseCall b L caller tally buffer ≡ record { answer = refusedStrike (minimiseRefusal b L caller tally (length buffer)); buffer = buffer; tally = tally }
+  unfolding minimiseCall minimiseRefused
+  minimise-refused f =
+      let number : ℕ = minimiseRefusal b L caller tally (length buffer) in
+      chosen-refused number (minimiseAccepted (caseOf b) L tally buffer) (minimiseRefused number tally buffer) f
+
+  pub minimise-accepted : minimiseRefusal b L caller tally (length buffer) ≡ 0 → minimiseCall b L caller tally buffer ≡ minimiseAccepted (caseOf b) L tally buffer
+  unfolding minimiseCall
+  minimise-accepted e =
+      let number : ℕ = minimiseRefusal b L caller tally (length buffer) in
+      chosen-accepted number (minimiseAccepted (caseOf b) L tally buffer) (minimiseRefused number tally buffer) e
 
 -- ---- fits, and is it a result
 

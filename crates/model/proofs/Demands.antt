@@ -2,42 +2,47 @@
 -- the layers below; and of each call, that whoever has the model's outcome has the record of its contract. Assumes nothing.
 use Prim.Native.Nat.{ℕ, suc, _+_, _*_, _≤_, _<_}
 use mathlib.Core.Path.{_≡_, refl, sym, ap, _∙_, subst}
-use mathlib.Core.Bool.{Bool, true, false, true≢false}
-use mathlib.Core.Logic.{_↔_, Iff·trans, Iff·symm}
+use mathlib.Core.Bool.{Bool, true, false, not, true≢false}
+use mathlib.Core.Logic.{_⊎_, ⊎-elim, _↔_, Iff·trans, Iff·symm}
 use mathlib.Core.List.{List, [], _++_, map, List·Memᴰ, List·Memᴰ·head, Memᴰ·append-right}
 use native.Mathlib.Omega.{arith}
 use native.Mathlib.Nat.{zero-add}
 use lib.Count.{ones}
+use lib.Dec.{eqb}
 use lib.ListN.{length, getD, take, length-append, length-map}
 use lib.Seq.{set-getD, getD-set-same, getD-set-other}
+use borrow.Author.Tests.{lt-ltb, eq-eqb, ne-eqb}
 use Rattle.model.specs.Lists.{upFrom}
-use Rattle.model.specs.Limits.{callers, maxPattern, maxPosition, maxCanonical, minBuffer}
+use Rattle.model.specs.Limits.{callers, maxVerdicts, maxPattern, maxPosition, maxCanonical, minBuffer}
 use Rattle.model.specs.Tree.{Document, labelOf}
 use Rattle.model.specs.Summary.{Summary}
-use Rattle.model.specs.Pattern.{Pattern, arity, returnNodes, SummaryEmbedding, Contained, CounterExample}
+use Rattle.model.specs.Pattern.{PatternRecord, Pattern, noPatternRecord, patternParent, position, arity, returnNodes, SummaryEmbedding, Contained, CounterExample}
 use Rattle.model.specs.Embeddings.{imageIn, summaryEmbeddings, isResult, nodesAt, pathMask, pathCount}
 use Rattle.model.specs.Fitting.{fits}
 use Rattle.model.specs.Canonical.{canonical, canonicalSpots, ownNodes, ownResult, covered, spotRecord}
 use Rattle.model.specs.Verdict.{Verdict, included, notIncluded, stopped, verdict, triedOf}
 use Rattle.model.specs.Bytes.{Case, caseOf, documentOf, listOf, documentFields, sectionFields, encodeDocument, encodeCounted, writtenAtFront}
-use Rattle.model.specs.Questions.{selected, caseQuestions, verdictRefusal, fitsRefusal, resultRefusal, nodesRefusal, pathsRefusal, layoutRefusal}
-use Rattle.model.specs.Calls.{kindIncluded, kindNotIncluded, kindStopped, kindOf, shown, VerdictOutcome, refusedAnswer, verdictAccepted, verdictCall, tallyOf, TalliedOutcome, charged, talliedCall, TestAnswer, fitsCall, resultCall, CountOutcome, nodesAccepted, nodesCall, PathsAnswer, pathsAccepted, pathsCall, LaidRecord, laidRecord, LayoutOutcome, layoutAccepted, layoutCall}
-use Rattle.model.specs.Runs.{Call, given, after, receipts, talliesAfter, callsOf, receivedBy}
+use Rattle.model.specs.Questions.{selected, caseQuestions, verdictRefusal, minimiseRefusal, fitsRefusal, resultRefusal, nodesRefusal, pathsRefusal, layoutRefusal}
+use Rattle.model.specs.Calls.{kindIncluded, kindNotIncluded, kindStopped, kindOf, shown, Received, OnEight, VerdictOutcome, refusedAnswer, verdictAccepted, verdictCall, tallyOf, TalliedOutcome, charged, talliedCall, TestAnswer, fitsCall, resultCall, CountOutcome, nodesAccepted, nodesCall, PathsAnswer, pathsAccepted, pathsCall, LaidRecord, laidRecord, LayoutOutcome, layoutAccepted, layoutCall}
+use Rattle.model.specs.Striking.{mayGo, verdictWithout, Struck, strikeAll, MinimiseOutcome, minimiseAccepted, minimiseCall, talliedMinimise}
+use Rattle.model.specs.Runs.{Call, ofOne, ofOther, given, after, receipts, talliesAfter, callsOf, receivedBy}
 use Rattle.model.specs.Facts.{SummaryFacts, PatternFacts, MemberFacts, CaseFacts}
 use Rattle.model.specs.Moving.{upgradeRefusal, downgradeRefusal, upgraded, downgraded, movedCall, upgradeCall, downgradeCall}
-use Rattle.model.specs.Demands.{TestTold, FitsTold, ResultTold, NodesTold, PathsTold, LayoutTold, SomeCounterExample, AllEmbeddingsPass, SomeEmbeddingFails, Shown, ReadsBack, Demand3, FitsAnswered, ResultAnswered, NodesAnswered, PathsAnswered, LayoutAnswered, VerdictAnswered, TalliedAnswered, Separated, Summed, MoveAnswered, UpgradeAnswered, DowngradeAnswered}
-use Rattle.model.proofs.ListLaws.{length-map-upFrom, getD-map-upFrom}
+use Rattle.model.specs.Demands.{TestTold, FitsTold, ResultTold, NodesTold, PathsTold, LayoutTold, SomeCounterExample, AllEmbeddingsPass, SomeEmbeddingFails, Shown, ReadsBack, Demand3, FitsAnswered, ResultAnswered, NodesAnswered, PathsAnswered, LayoutAnswered, ReceivedAnswered, ChargedAnswered, VerdictAnswered, TalliedAnswered, MayGo, Shortened, StruckOf, StruckTold, MinimiseAnswered, TalliedMinimised, Separated, Summed, MoveAnswered, UpgradeAnswered, DowngradeAnswered}
+use Rattle.model.proofs.ListLaws.{and-intro, all-intro, at-mem, length-map-upFrom, getD-map-upFrom}
 use Rattle.model.proofs.ReturnNodes.{length-returnNodes}
 use Rattle.model.proofs.Results.{result-exact, nodes-at-exact, nodes-at-ascending, path-mask-exact, path-mask-beyond, path-count-ones}
 use Rattle.model.proofs.Fitting.{fits-exact}
 use Rattle.model.proofs.Decision.{placed as placed-listed, listed-fits, listed-result, listed-small, contained-exact, contained-or-counter, counter-exact, failing-canonical}
 use Rattle.model.proofs.Verdict.{Included, IsIncluded, IsNotIncluded, IsStopped, judge-included, judge-not-included, judge-stopped, few-included, few-not-included, more-stopped, more-never-included, not-included-iff, stopped-iff, included-or-not, not-or-stopped, verdict-judge, verdict-tried, verdict-shown}
 use Rattle.model.proofs.Refusals.{AllYes}
-use Rattle.model.proofs.CallFacts.{accepted-verdict, accepted-fits, accepted-result, accepted-nodes, accepted-paths, accepted-layout}
+use Rattle.model.proofs.CallFacts.{accepted-verdict, accepted-minimise, accepted-fits, accepted-result, accepted-nodes, accepted-paths, accepted-layout}
 use Rattle.model.proofs.CaseFacts.{selected-facts, labels-some}
-use Rattle.model.proofs.Calls.{verdict-refused, verdict-accepted, fits-refused, fits-accepted, result-refused, result-accepted, nodes-refused, nodes-accepted, paths-refused, paths-accepted, layout-refused, layout-accepted, length-counted, verdict-length}
+use Rattle.model.proofs.Calls.{verdict-refused, verdict-accepted, minimise-refused, minimise-accepted, fits-refused, fits-accepted, result-refused, result-accepted, nodes-refused, nodes-accepted, paths-refused, paths-accepted, layout-refused, layout-accepted, length-counted, verdict-length}
 use Rattle.model.proofs.Bytes.{FitFields, front-none, length-document}
-use Rattle.model.proofs.Runs.{VerdictRun, verdict-joins, separated, summed}
+use Rattle.model.proofs.Runs.{VerdictRun, verdict-joins, MinimiseRun, minimise-joins, separated, summed}
+use Rattle.model.proofs.Removing.{not-root, no-position, no-children}
+use Rattle.model.proofs.Striking.{LoopFacts, all-facts, struck-shortened, few-verdicts, each-limited}
 use Rattle.model.proofs.Moving.{moved-refused, upgrade-moved, downgrade-moved}
 use Rattle.model.proofs.ReadBack.{AreBytes, label-small, canonical-labels, canonical-fields, reads-back}
 
@@ -287,6 +292,47 @@ demand-3 b small L caller tally buffer e =
     let f = accepted-verdict b L caller tally (length buffer) e in
     subst (Demand3 b L tally buffer) (sym (verdict-accepted b L caller tally buffer e)) (accepted-demand b small (f .asked) (f .case .facts) L tally buffer)
 
+-- ---- Striking out: the same results, no such leaf left, all trials counted
+
+-- the test for a leaf that may go says what it is to say
+pub may-go-exact : (P : Pattern) (q : ℕ) → (q < length P) × (mayGo P q ≡ true) ↔ MayGo P q
+unfolding mayGo
+may-go-exact P q = (
+  λ h. record { inside = h .0; notRoot = not-root P q (h .0) (h .1); noPosition = no-position P q (h .0) (h .1); leaf = no-children P q (h .0) (h .1) },
+  λ m. (m .inside, and-intro (and-intro (lt-ltb 0 q (m .notRoot)) (eq-eqb (position P q) 0 (m .noPosition))) (all-intro (λ (r : PatternRecord). not (eqb (r .parent) q)) P (λ r k. childless r (at-mem P r noPatternRecord k) (m .leaf)))),
+)
+  where
+    childless : (r : PatternRecord) → (i : ℕ) × (i < length P) × (getD P i noPatternRecord ≡ r) → ((i : ℕ) → i < length P → patternParent P i ≡ q → ⊥) → not (eqb (r .parent) q) ≡ true
+    childless r (i, h, e) f = ap not (ne-eqb (r .parent) q (λ p. f i h (ap (λ (x : PatternRecord). x .parent) e ∙ p)))
+
+-- of an accepted case: what the loop comes to keeps all that is demanded
+strike-told : (c : Case) → CaseFacts c → (L tally : ℕ) (buffer : List ℕ) → StruckOf (c .summary) (c .first) L (strikeAll (c .summary) L (c .first)) tally buffer (minimiseAccepted c L tally buffer)
+unfolding minimiseAccepted
+strike-told c f L tally buffer =
+    let P : Pattern = c .first in
+    let s : Struck = strikeAll (c .summary) L P in
+    let l : LoopFacts (c .summary) L P (upFrom 0 (length P)) s = all-facts (f .summary) L (f .first) (f .firstSize) in
+    let short : Shortened P (s .struck) (s .pattern) = struck-shortened (f .summary) L (f .first) (f .firstSize) in
+    let few : length (s .tried) ≤ maxVerdicts = (let a = l .few in let b = few-verdicts (length P) (f .firstSize) in omega arith) in
+    record {
+      accepted = refl;
+      count = refl;
+      shortened = short;
+      written = refl;
+      sameResults = l .same;
+      noneLeft = λ q m k. (let g = may-go-exact (s .pattern) q .1 m in l .none q (g .0) (g .1) (kind-included (verdictWithout (c .summary) L (s .pattern) q) .0 k));
+      fewStruck = let n = short .count in let i : 0 < length (s .pattern) = l .facts .tree .inhabited in let k : length P ≤ maxPattern = f .firstSize in omega arith;
+      fewVerdicts = few;
+      summed = refl;
+      tallied = refl;
+      limited = each-limited L (s .tried) maxVerdicts few (l .each);
+    }
+
+-- the call keeps it
+pub strike-demand : (b : List ℕ) (L caller tally : ℕ) (buffer : List ℕ) → minimiseRefusal b L caller tally (length buffer) ≡ 0 → StruckTold b L tally buffer (minimiseCall b L caller tally buffer)
+strike-demand b L caller tally buffer e =
+    subst (StruckTold b L tally buffer) (sym (minimise-accepted b L caller tally buffer e)) (strike-told (caseOf b) (accepted-minimise b L caller tally (length buffer) e .case .facts) L tally buffer)
+
 -- ---- Callers: over any run of calls that name one, each in whatever order and refused ones among them
 
 -- a verdict is such a call, and on the eight tallies its outcome is what it gives its caller and the tallies after it
@@ -294,6 +340,22 @@ pub verdict-in-run : (b : List ℕ) (L caller : ℕ) (buffer tallies : List ℕ)
     → let c : VerdictRun = verdict-joins b L caller buffer in talliedCall b L caller tallies buffer ≡ record { answer = given tallies c .answer; buffer = given tallies c .buffer; tallies = after tallies c }
 unfolding talliedCall verdict-joins
 verdict-in-run b L caller buffer tallies = refl
+
+-- and so is striking out
+pub minimise-in-run : (b : List ℕ) (L caller : ℕ) (buffer tallies : List ℕ)
+    → let c : MinimiseRun = minimise-joins b L caller buffer in talliedMinimise b L caller tallies buffer ≡ record { answer = given tallies c .answer; buffer = given tallies c .buffer; tallies = after tallies c }
+unfolding talliedMinimise minimise-joins
+minimise-in-run b L caller buffer tallies = refl
+
+-- so verdicts and strikings, in whatever order, are calls of one run: separation and sum hold of them together
+abbrev pub BothRun : Type 0
+BothRun = Call (VerdictOutcome ⊎ MinimiseOutcome) (⊎-elim (λ (o : VerdictOutcome). o .tally) (λ (o : MinimiseOutcome). o .tally)) (⊎-elim (λ (o : VerdictOutcome). o .answer .tried) (λ (o : MinimiseOutcome). o .answer .tried))
+
+abbrev pub verdict-of-both : (b : List ℕ) (L caller : ℕ) (buffer : List ℕ) → BothRun
+verdict-of-both b L caller buffer = ofOne (verdict-joins b L caller buffer)
+
+abbrev pub minimise-of-both : (b : List ℕ) (L caller : ℕ) (buffer : List ℕ) → BothRun
+minimise-of-both b L caller buffer = ofOther (minimise-joins b L caller buffer)
 
 -- separation: what a caller receives is what it receives from its own calls alone, from its own tally's start, whatever the other seven are
 pub separation : {R : Type 0} {tally tried : R → ℕ} (i : ℕ) (ts us : List ℕ) → length ts ≡ callers → length us ≡ callers → tallyOf ts i ≡ tallyOf us i
@@ -314,6 +376,12 @@ separation-of-two i ts us k l e cs ds same =
 -- sum: the eight together are their start plus the sum of tried over all calls, each its own start plus the sum over its own
 pub sum : {R : Type 0} {tally tried : R → ℕ} (ts : List ℕ) → length ts ≡ callers → (cs : List (Call R tally tried)) → Summed ts cs
 sum ts k cs = summed ts k cs
+
+pub separation-of-both : (i : ℕ) (ts us : List ℕ) → length ts ≡ callers → length us ≡ callers → tallyOf ts i ≡ tallyOf us i → (cs : List BothRun) → Separated i ts us cs
+separation-of-both i ts us k l e cs = separation i ts us k l e cs
+
+pub sum-of-both : (ts : List ℕ) → length ts ≡ callers → (cs : List BothRun) → Summed ts cs
+sum-of-both ts k cs = sum ts k cs
 
 -- ---- The calls: from the model's outcome to the record of the contract
 
@@ -366,23 +434,39 @@ verdict-answered b small L caller tally before e =
       demand3 = λ z. subst (Demand3 b L tally before) (sym e) (demand-3 b small L caller tally before z);
     }
 
--- from what the caller receives to the eight tallies
-pub tallied-answered : (b : List ℕ) (L caller : ℕ) (tallies : List ℕ) → length tallies ≡ callers → (before : List ℕ) {o : VerdictOutcome}
-    → VerdictAnswered b L caller (tallyOf tallies caller) before o → TalliedAnswered b L caller tallies before (charged tallies caller o)
-unfolding talliedCall
-tallied-answered b L caller tallies size before {o} a =
-    let t : ℕ = tallyOf tallies caller in
+-- from what the caller receives to the eight tallies; an accepted call's caller is one of the eight
+pub charged-answered : {A : Type 0} {number caller : ℕ} {call : Received A} {refused : ℕ → A} {Kept : Received A → Type 0} (tallies : List ℕ) → length tallies ≡ callers → (before : List ℕ) {o : Received A}
+    → (number ≡ 0 → caller < callers) → ReceivedAnswered number call refused Kept (tallyOf tallies caller) before o
+    → ChargedAnswered number (charged tallies caller call) refused Kept caller tallies before (charged tallies caller o)
+charged-answered {A} {number} {caller} {call} {refused} {Kept} tallies size before {o} known a =
     record {
       outcome = ap (charged tallies caller) (a .outcome);
       demand1 = λ f.
           ap (charged tallies caller) (a .demand1 f)
-          ∙ ap {B = TalliedOutcome} (λ (ts : List ℕ). record { answer = refusedAnswer (verdictRefusal b L caller t (length before)); buffer = before; tallies = ts }) (set-getD tallies caller 0);
+          ∙ ap {B = OnEight A} (λ (ts : List ℕ). record { answer = refused number; buffer = before; tallies = ts }) (set-getD tallies caller 0);
       demand3 = λ z.
-          let known : caller < callers = accepted-verdict b L caller t (length before) z .known in
-          subst (Demand3 b L t before)
-          (ap {B = VerdictOutcome} (λ (n : ℕ). record { answer = o .answer; buffer = o .buffer; tally = n }) (sym (getD-set-same tallies caller (o .tally) 0 (omega arith)))) (a .demand3 z);
+          let k : caller < callers = known z in
+          subst Kept (ap {B = Received A} (λ (n : ℕ). record { answer = o .answer; buffer = o .buffer; tally = n }) (sym (getD-set-same tallies caller (o .tally) 0 (omega arith)))) (a .demand3 z);
       others = λ i h. getD-set-other tallies caller i (o .tally) 0 h;
     }
+
+pub tallied-answered : (b : List ℕ) (L caller : ℕ) (tallies : List ℕ) → length tallies ≡ callers → (before : List ℕ) {o : VerdictOutcome}
+    → VerdictAnswered b L caller (tallyOf tallies caller) before o → TalliedAnswered b L caller tallies before (charged tallies caller o)
+unfolding talliedCall
+tallied-answered b L caller tallies size before a = charged-answered tallies size before (λ z. accepted-verdict b L caller (tallyOf tallies caller) (length before) z .known) a
+
+pub minimise-answered : (b : List ℕ) (L caller tally : ℕ) (before : List ℕ) {o : MinimiseOutcome} → o ≡ minimiseCall b L caller tally before → MinimiseAnswered b L caller tally before o
+minimise-answered b L caller tally before e =
+    record {
+      outcome = e;
+      demand1 = λ f. e ∙ minimise-refused b L caller tally before f;
+      demand3 = λ z. subst (StruckTold b L tally before) (sym e) (strike-demand b L caller tally before z);
+    }
+
+pub tallied-minimised : (b : List ℕ) (L caller : ℕ) (tallies : List ℕ) → length tallies ≡ callers → (before : List ℕ) {o : MinimiseOutcome}
+    → MinimiseAnswered b L caller (tallyOf tallies caller) before o → TalliedMinimised b L caller tallies before (charged tallies caller o)
+unfolding talliedMinimise
+tallied-minimised b L caller tallies size before a = charged-answered tallies size before (λ z. accepted-minimise b L caller (tallyOf tallies caller) (length before) z .known) a
 
 pub move-answered : (number : ℕ) (written : List ℕ) {Kept : CountOutcome → Type 0} (before : List ℕ) {o : CountOutcome} → (number ≡ 0 → Kept (movedCall number written before))
     → o ≡ movedCall number written before → MoveAnswered number written Kept before o

@@ -11,6 +11,8 @@ pub mod Strong
 pub mod Embeddings
 pub mod ReturnNodes
 pub mod Results
+pub mod Carrying
+pub mod Removing
 pub mod Chains
 pub mod Laid
 pub mod Built
@@ -37,6 +39,7 @@ pub mod Calls
 pub mod Text
 pub mod Runs
 pub mod Decision
+pub mod Striking
 pub mod Sets
 pub mod ReadBack
 pub mod WriteBack

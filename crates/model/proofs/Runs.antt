@@ -1,5 +1,5 @@
 -- Runs of calls that name their caller. A call looks at its caller's tally alone and stores at that one place, so what a caller receives is
--- decided by its own calls; and it stores the tally plus tried, so every sum goes up by tried. The verdict is such a call.
+-- decided by its own calls; and it stores the tally plus tried, so every sum goes up by tried. The verdict and striking out are such calls.
 -- Assumes nothing.
 use Prim.Native.Nat.{ℕ, zero, suc, _+_, _≤_, _<_}
 use mathlib.Core.Path.{_≡_, refl, sym, ap, ap₂, _∙_, subst}
@@ -14,38 +14,53 @@ use lib.Seq.{set-out, getD-set-same, getD-set-other}
 use borrow.Author.Tests.{eqb-true, eqb-false, ltb-true, ltb-false}
 use Rattle.model.specs.Lists.{keep, total}
 use Rattle.model.specs.Limits.{callers}
-use Rattle.model.specs.Questions.{verdictRefusal}
-use Rattle.model.specs.Calls.{VerdictOutcome, verdictAccepted, verdictCall, tallyOf}
+use Rattle.model.specs.Questions.{verdictRefusal, minimiseRefusal}
+use Rattle.model.specs.Calls.{Received, VerdictAnswer, VerdictOutcome, verdictAccepted, verdictCall, tallyOf}
+use Rattle.model.specs.Striking.{MinimiseAnswer, MinimiseOutcome, minimiseAccepted, minimiseCall}
 use Rattle.model.specs.Runs.{Call, Receipt, given, after, receipts, talliesAfter, callsOf, receivedBy, triedOver}
 use Rattle.model.specs.Demands.{Separated, Summed}
 use Rattle.model.proofs.ListLaws.{true-or-false}
 use Rattle.model.proofs.KeepLaws.{keep-in, keep-out}
-use Rattle.model.proofs.CallFacts.{accepted-verdict}
-use Rattle.model.proofs.Calls.{by-number, verdict-accepted, verdict-refused}
+use Rattle.model.proofs.CallFacts.{accepted-verdict, accepted-minimise}
+use Rattle.model.proofs.Calls.{by-number, verdict-accepted, verdict-refused, minimise-accepted, minimise-refused}
 
--- ---- the verdict
+-- ---- the verdict, and striking out
 
--- the outcome's tally is t raised by the tried of its answer
-abbrev Raised : ℕ → VerdictOutcome → Type 0
-Raised t o = o .tally ≡ t + o .answer .tried
+-- a call whose answer has `tried`
+abbrev pub RunOf : (Answer : Type 0) → (Answer → ℕ) → Type 0
+RunOf Answer tried = Call (Received Answer) (λ (o : Received Answer). o .tally) (λ (o : Received Answer). tried (o .answer))
+
+-- a refusal leaves the tally and tries nothing, and an acceptance, of one of the eight, raises the tally by tried
+abbrev joins : {Answer : Type 0} (tried : Answer → ℕ) (caller : ℕ) (number : ℕ → ℕ) (call : ℕ → Received Answer)
+    → ((t : ℕ) → number t ≡ 0 → (call t .tally ≡ t + tried (call t .answer)) × (caller < callers))
+    → ((t : ℕ) → (number t ≡ 0 → ⊥) → (call t .tally ≡ t) × (tried (call t .answer) ≡ 0)) → RunOf Answer tried
+joins tried caller number call accepted refused =
+    record {
+      caller = caller;
+      receives = call;
+      raises = λ t. by-number (number t) (λ e. accepted t e .0) (λ f. let k = refused t f in omega arith);
+      nobody = λ h t. by-number (number t) (λ e. absurd (let k : caller < callers = accepted t e .1 in omega arith)) (λ f. refused t f .1);
+    }
 
 abbrev pub VerdictRun : Type 0
-VerdictRun = Call VerdictOutcome (λ (o : VerdictOutcome). o .tally) (λ (o : VerdictOutcome). o .answer .tried)
+VerdictRun = RunOf VerdictAnswer (λ (a : VerdictAnswer). a .tried)
 
--- a verdict raises its caller's tally by tried; one who is not 0 to 7 is refused, and nothing is tried
 unfoldable pub verdict-joins : (b : List ℕ) (L caller : ℕ) (buffer : List ℕ) → VerdictRun
 unfolding verdictAccepted
 verdict-joins b L caller buffer =
-    record {
-      caller = caller;
-      receives = λ t. verdictCall b L caller t buffer;
-      raises = λ t.
-          by-number (verdictRefusal b L caller t (length buffer)) (λ e. subst (Raised t) (sym (verdict-accepted b L caller t buffer e)) refl)
-          (λ f. subst (Raised t) (sym (verdict-refused b L caller t buffer f)) (sym (add-zero t)));
-      nobody = λ h t.
-          by-number (verdictRefusal b L caller t (length buffer)) (λ e. absurd (let k : caller < callers = accepted-verdict b L caller t (length buffer) e .known in omega arith))
-          (λ f. ap (λ (o : VerdictOutcome). o .answer .tried) (verdict-refused b L caller t buffer f));
-    }
+    joins (λ (a : VerdictAnswer). a .tried) caller (λ t. verdictRefusal b L caller t (length buffer)) (λ t. verdictCall b L caller t buffer)
+    (λ t e. (subst (λ (o : VerdictOutcome). o .tally ≡ t + o .answer .tried) (sym (verdict-accepted b L caller t buffer e)) refl, accepted-verdict b L caller t (length buffer) e .known))
+    (λ t f. let r = verdict-refused b L caller t buffer f in (ap (λ (o : VerdictOutcome). o .tally) r, ap (λ (o : VerdictOutcome). o .answer .tried) r))
+
+abbrev pub MinimiseRun : Type 0
+MinimiseRun = RunOf MinimiseAnswer (λ (a : MinimiseAnswer). a .tried)
+
+unfoldable pub minimise-joins : (b : List ℕ) (L caller : ℕ) (buffer : List ℕ) → MinimiseRun
+unfolding minimiseAccepted
+minimise-joins b L caller buffer =
+    joins (λ (a : MinimiseAnswer). a .tried) caller (λ t. minimiseRefusal b L caller t (length buffer)) (λ t. minimiseCall b L caller t buffer)
+    (λ t e. (subst (λ (o : MinimiseOutcome). o .tally ≡ t + o .answer .tried) (sym (minimise-accepted b L caller t buffer e)) refl, accepted-minimise b L caller t (length buffer) e .known))
+    (λ t f. let r = minimise-refused b L caller t buffer f in (ap (λ (o : MinimiseOutcome). o .tally) r, ap (λ (o : MinimiseOutcome). o .answer .tried) r))
 
 -- ---- one call
 

@@ -159,9 +159,12 @@ setFields Qs = sectionFields (sectionFields patternFields) Qs
 unfoldable pub caseFields : Case → List ℕ
 caseFields c = sectionFields summaryFields (c .summary) ++ (sectionFields patternFields (c .first) ++ setFields (c .members))
 
--- the bytes of a case, of a volume's section, of a list, and of a count with its numbers
+-- the bytes of a case, of a selection's section, of a volume's, of a list, and of a count with its numbers
 unfoldable pub encodeCase : Case → List ℕ
 encodeCase c = bytesOf (caseFields c)
+
+unfoldable pub encodePattern : Pattern → List ℕ
+encodePattern P = bytesOf (sectionFields patternFields P)
 
 unfoldable pub encodeDocument : Document → List ℕ
 encodeDocument W = bytesOf (sectionFields documentFields W)

@@ -50,11 +50,14 @@ notIncludedAnswer n = record { refused = 0; kind = kindNotIncluded; tried = n }
 abbrev pub stoppedAnswer : ℕ → VerdictAnswer
 stoppedAnswer n = record { refused = 0; kind = kindStopped; tried = n }
 
--- what a caller receives: the answer, the buffer and its own tally afterwards
-pub record VerdictOutcome : Type 0 where
-  pub answer : VerdictAnswer
+-- what a caller receives of a call that goes to its tally: the answer, of the call's own type, the buffer and its own tally afterwards
+pub record Received (Answer : Type 0) : Type 0 where
+  pub answer : Answer
   pub buffer : List ℕ
   pub tally : ℕ
+
+abbrev pub VerdictOutcome : Type 0
+VerdictOutcome = Received VerdictAnswer
 
 -- "not included" writes the volume's section, then the result as a count and k node numbers; the others write nothing
 unfoldable pub shown : Summary → Pattern → Verdict → List ℕ
@@ -84,13 +87,16 @@ abbrev pub tallyOf : List ℕ → ℕ → ℕ
 tallyOf tallies caller = getD tallies caller 0
 
 -- the outcome on all eight
-pub record TalliedOutcome : Type 0 where
-  pub answer : VerdictAnswer
+pub record OnEight (Answer : Type 0) : Type 0 where
+  pub answer : Answer
   pub buffer : List ℕ
   pub tallies : List ℕ
 
+abbrev pub TalliedOutcome : Type 0
+TalliedOutcome = OnEight VerdictAnswer
+
 -- the caller's own tally is as the outcome has it, every other as it was
-abbrev pub charged : List ℕ → ℕ → VerdictOutcome → TalliedOutcome
+abbrev pub charged : {Answer : Type 0} → List ℕ → ℕ → Received Answer → OnEight Answer
 charged tallies caller o = record { answer = o .answer; buffer = o .buffer; tallies = set tallies caller (o .tally) }
 
 -- Verdict: case, limit, caller, the eight tallies, answer buffer

@@ -1,22 +1,23 @@
 -- What the demands on the calls say, in the demands' own words over the declarative definitions; then, of each call, one record that
 -- holds its outcome and its demands, and is what its contract promises. proofs/Demands.antt shows that every call keeps them.
-use Prim.Native.Nat.{ℕ, _+_, _≤_, _<_}
+use Prim.Native.Nat.{ℕ, _+_, _*_, _≤_, _<_}
 use mathlib.Core.Path.{_≡_}
 use mathlib.Core.Bool.{true, false}
-use mathlib.Core.Logic.{_↔_}
+use mathlib.Core.Logic.{_⊎_, _↔_}
 use mathlib.Core.List.{List, _∷_, _++_, map, List·Memᴰ}
 use lib.Count.{ones}
 use lib.ListN.{length, getD, take, replicate}
 use Rattle.model.specs.Lists.{Ascending, has, total}
-use Rattle.model.specs.Limits.{minBuffer, maxPattern, maxCanonical, documentWidth}
+use Rattle.model.specs.Limits.{minBuffer, maxPattern, maxCanonical, maxVerdicts, documentWidth}
 use Rattle.model.specs.Tree.{Document}
 use Rattle.model.specs.Summary.{Summary, Fits}
-use Rattle.model.specs.Pattern.{Pattern, Result, AtPosition, PathOf, Contained, CounterExample}
+use Rattle.model.specs.Pattern.{Pattern, patternParent, position, Result, AtPosition, PathOf, Contained, CounterExample, Carries}
 use Rattle.model.specs.Embeddings.{summaryEmbeddings}
 use Rattle.model.specs.Canonical.{canonical, canonicalSpots, ownResult, covered}
 use Rattle.model.specs.Bytes.{field, sectionEnd, caseOf, documentOf, listOf, encodeDocument, encodeCounted, writtenAtFront, shownSection, shownList}
-use Rattle.model.specs.Questions.{selected, verdictRefusal, fitsRefusal, resultRefusal, nodesRefusal, pathsRefusal, layoutRefusal}
-use Rattle.model.specs.Calls.{refusedAnswer, VerdictOutcome, kindIncluded, kindNotIncluded, kindStopped, verdictCall, tallyOf, TalliedOutcome, talliedCall, TestAnswer, yesAnswer, noAnswer, fitsCall, resultCall, CountOutcome, nodesCall, PathsAnswer, pathsCall, LaidRecord, laidRecord, LayoutOutcome, layoutCall}
+use Rattle.model.specs.Questions.{selected, verdictRefusal, minimiseRefusal, fitsRefusal, resultRefusal, nodesRefusal, pathsRefusal, layoutRefusal}
+use Rattle.model.specs.Calls.{Received, OnEight, refusedAnswer, VerdictOutcome, kindIncluded, kindNotIncluded, kindStopped, kindOf, verdictCall, tallyOf, TalliedOutcome, talliedCall, TestAnswer, yesAnswer, noAnswer, fitsCall, resultCall, CountOutcome, nodesCall, PathsAnswer, pathsCall, LaidRecord, laidRecord, LayoutOutcome, layoutCall}
+use Rattle.model.specs.Striking.{verdictWithout, Struck, strikeAll, MinimiseAnswer, refusedStrike, MinimiseOutcome, struckBytes, minimiseCall, talliedMinimise}
 use Rattle.model.specs.Runs.{Call, receipts, talliesAfter, callsOf, receivedBy, triedOver}
 use Rattle.model.specs.OldForm.{SetOfOne}
 use Rattle.model.specs.Moving.{upgradeRefusal, downgradeRefusal, upgraded, downgraded, movedAccepted, movedCall, upgradeCall, downgradeCall}
@@ -146,6 +147,48 @@ pub record Demand3Of (b : List ℕ) (S : Summary) (P : Pattern) (Qs : List Patte
 abbrev pub Demand3 : List ℕ → ℕ → ℕ → List ℕ → VerdictOutcome → Type 0
 Demand3 b L tally buffer o = Demand3Of b (caseOf b .summary) (caseOf b .first) (caseOf b .members) L tally buffer o
 
+-- ---- Striking out, of an accepted call
+
+-- node q is one that may go: a leaf without a position, root excepted
+pub record MayGo (P : Pattern) (q : ℕ) : Type 0 where
+  pub inside : q < length P
+  pub notRoot : 0 < q
+  pub noPosition : position P q ≡ 0
+  pub leaf : (i : ℕ) → i < length P → patternParent P i ≡ q → ⊥
+
+-- Q is what is left of P without the nodes `gone`: the others, each as it was, in their old order, parents renumbered
+pub record Shortened (P : Pattern) (gone : List ℕ) (Q : Pattern) : Type 0 where
+  pub old : ℕ → ℕ
+  pub carried : Carries Q P old
+  pub ordered : (i j : ℕ) → i < j → j < length Q → old i < old j
+  pub stays : (i : ℕ) → i < length Q → List·Memᴰ (old i) gone → ⊥
+  pub goes : (x : ℕ) → List·Memᴰ x gone → x < length P
+  pub all : (x : ℕ) → x < length P → List·Memᴰ x gone ⊎ ((i : ℕ) × (i < length Q) × (old i ≡ x))
+  pub count : length Q + length gone ≡ length P
+
+-- of outline S, first selection P and limit L, from the tally and the buffer before. The loop comes to s
+pub record StruckOf (S : Summary) (P : Pattern) (L : ℕ) (s : Struck) (tally : ℕ) (before : List ℕ) (o : MinimiseOutcome) : Type 0 where
+  pub accepted : o .answer .refused ≡ 0
+  -- the shortened selection's section, then the count and the struck numbers, as given, in striking order; what lies after stays
+  pub count : o .answer .struck ≡ length (s .struck)
+  pub shortened : Shortened P (s .struck) (s .pattern)
+  pub written : o .buffer ≡ writtenAtFront (struckBytes s) before
+  -- the two selections have the same results in every fitting volume, of any size
+  pub sameResults : (W : Document) → Fits S W → (r : List ℕ) → Result P W r ↔ Result (s .pattern) W r
+  -- no remaining such leaf would be struck: the verdict on it is not "included" within the limit
+  pub noneLeft : (q : ℕ) → MayGo (s .pattern) q → kindOf (verdictWithout S L (s .pattern) q) ≡ kindIncluded → ⊥
+  -- it ends: at most 15 strikings and 120 verdicts
+  pub fewStruck : length (s .struck) < maxPattern
+  pub fewVerdicts : length (s .tried) ≤ maxVerdicts
+  -- the tally grows by the sum of tried over all verdicts made, at most 120 times the limit
+  pub summed : o .answer .tried ≡ total (s .tried)
+  pub tallied : o .tally ≡ tally + o .answer .tried
+  pub limited : o .answer .tried ≤ maxVerdicts * L
+
+-- of the tables that the case's bytes hold
+abbrev pub StruckTold : List ℕ → ℕ → ℕ → List ℕ → MinimiseOutcome → Type 0
+StruckTold b L tally before o = StruckOf (caseOf b .summary) (caseOf b .first) L (strikeAll (caseOf b .summary) L (caseOf b .first)) tally before o
+
 -- ---- Callers, over a run of calls that name them
 
 module _ {R : Type 0} {tally tried : R → ℕ} where
@@ -214,22 +257,45 @@ pub record LayoutAnswered (b : List ℕ) (s : ℕ) (l : List ℕ) (before : List
   pub demand1 : Demand1 (layoutRefusal b s l (length before)) o (λ n. record { answer = record { refused = n; count = 0 }; table = before })
   pub demand2 : layoutRefusal b s l (length before) ≡ 0 → LayoutTold (caseOf b .summary) (selected (caseOf b) s) (listOf l) before o
 
--- Verdict: case, limit, caller, that caller's tally, answer buffer
-pub record VerdictAnswered (b : List ℕ) (L caller tally : ℕ) (before : List ℕ) (o : VerdictOutcome) : Type 0 where
-  pub outcome : o ≡ verdictCall b L caller tally before
-  pub demand1 : Demand1 (verdictRefusal b L caller tally (length before)) o (λ n. record { answer = refusedAnswer n; buffer = before; tally = tally })
-  pub demand3 : verdictRefusal b L caller tally (length before) ≡ 0 → Demand3 b L tally before o
+-- A call that goes to its caller's tally, of one caller and its tally: `number` is its refusal or 0, `call` the outcome, `refused` a refusal's
+-- answer, and an accepted call keeps `Kept`
+pub record ReceivedAnswered {Answer : Type 0} (number : ℕ) (call : Received Answer) (refused : ℕ → Answer) (Kept : Received Answer → Type 0) (tally : ℕ) (before : List ℕ) (o : Received Answer) : Type 0 where
+  pub outcome : o ≡ call
+  pub demand1 : Demand1 number o (λ n. record { answer = refused n; buffer = before; tally = tally })
+  pub demand3 : number ≡ 0 → Kept o
 
 -- what the caller receives, of an outcome on all eight tallies
-abbrev pub ownOutcome : ℕ → TalliedOutcome → VerdictOutcome
+abbrev pub ownOutcome : {Answer : Type 0} → ℕ → OnEight Answer → Received Answer
 ownOutcome caller o = record { answer = o .answer; buffer = o .buffer; tally = tallyOf (o .tallies) caller }
 
--- Verdict: case, limit, caller, the eight tallies, answer buffer. Of the tallies the caller's own alone decides and alone may alter
-pub record TalliedAnswered (b : List ℕ) (L caller : ℕ) (tallies before : List ℕ) (o : TalliedOutcome) : Type 0 where
-  pub outcome : o ≡ talliedCall b L caller tallies before
-  pub demand1 : Demand1 (verdictRefusal b L caller (tallyOf tallies caller) (length before)) o (λ n. record { answer = refusedAnswer n; buffer = before; tallies = tallies })
-  pub demand3 : verdictRefusal b L caller (tallyOf tallies caller) (length before) ≡ 0 → Demand3 b L (tallyOf tallies caller) before (ownOutcome caller o)
+-- And on all eight: of the tallies the caller's own alone decides and alone may alter
+pub record ChargedAnswered {Answer : Type 0} (number : ℕ) (call : OnEight Answer) (refused : ℕ → Answer) (Kept : Received Answer → Type 0) (caller : ℕ) (tallies before : List ℕ) (o : OnEight Answer) : Type 0 where
+  pub outcome : o ≡ call
+  pub demand1 : Demand1 number o (λ n. record { answer = refused n; buffer = before; tallies = tallies })
+  pub demand3 : number ≡ 0 → Kept (ownOutcome caller o)
   pub others : (i : ℕ) → (i ≡ caller → ⊥) → tallyOf (o .tallies) i ≡ tallyOf tallies i
+
+-- Verdict: case, limit, caller, that caller's tally, answer buffer
+abbrev pub VerdictAnswered : List ℕ → ℕ → ℕ → ℕ → List ℕ → VerdictOutcome → Type 0
+VerdictAnswered b L caller tally before o =
+    ReceivedAnswered (verdictRefusal b L caller tally (length before)) (verdictCall b L caller tally before) refusedAnswer (Demand3 b L tally before) tally before o
+
+-- Verdict: case, limit, caller, the eight tallies, answer buffer
+abbrev pub TalliedAnswered : List ℕ → ℕ → ℕ → List ℕ → List ℕ → TalliedOutcome → Type 0
+TalliedAnswered b L caller tallies before o =
+    let t : ℕ = tallyOf tallies caller in
+    ChargedAnswered (verdictRefusal b L caller t (length before)) (talliedCall b L caller tallies before) refusedAnswer (Demand3 b L t before) caller tallies before o
+
+-- Striking out: case, limit, caller, that caller's tally, answer buffer
+abbrev pub MinimiseAnswered : List ℕ → ℕ → ℕ → ℕ → List ℕ → MinimiseOutcome → Type 0
+MinimiseAnswered b L caller tally before o =
+    ReceivedAnswered (minimiseRefusal b L caller tally (length before)) (minimiseCall b L caller tally before) refusedStrike (StruckTold b L tally before) tally before o
+
+-- Striking out: case, limit, caller, the eight tallies, answer buffer
+abbrev pub TalliedMinimised : List ℕ → ℕ → ℕ → List ℕ → List ℕ → OnEight MinimiseAnswer → Type 0
+TalliedMinimised b L caller tallies before o =
+    let t : ℕ = tallyOf tallies caller in
+    ChargedAnswered (minimiseRefusal b L caller t (length before)) (talliedMinimise b L caller tallies before) refusedStrike (StruckTold b L t before) caller tallies before o
 
 -- A tool of #102 whose refusal has this number, or 0, and which then writes this and keeps that
 pub record MoveAnswered (number : ℕ) (written : List ℕ) (Kept : CountOutcome → Type 0) (before : List ℕ) (o : CountOutcome) : Type 0 where

@@ -14,6 +14,7 @@ pub mod Bytes
 pub mod Questions
 pub mod Calls
 pub mod Runs
+pub mod Striking
 pub mod OldForm
 pub mod Moving
 pub mod Text

@@ -9,6 +9,10 @@ maxLimit = 1_000_000
 abbrev pub maxTally : ℕ
 maxTally = 1_000_000_000_000
 
+-- the most verdicts that one call which strikes makes: of 16 nodes the root stays, so 15 + 14 + .. + 1
+abbrev pub maxVerdicts : ℕ
+maxVerdicts = 120
+
 -- the callers, 0 to 7, with a tally each
 abbrev pub callers : ℕ
 callers = 8

@@ -106,3 +106,17 @@ pub record CounterExample (S : Summary) (P : Pattern) (Qs : List Pattern) (W : D
   pub fits : Fits S W
   pub ofFirst : Result P W r
   pub ofNone : ResultOfSome Qs W r → ⊥
+
+-- selection Q carried into P by a map of its nodes: the root to the root, each other node to one like it below it, parents to parents, no two
+-- to one, and no position is lost
+pub record Carries (Q P : Pattern) (f : ℕ → ℕ) : Type 0 where
+  pub inside : (i : ℕ) → i < length Q → f i < length P
+  pub root : f 0 ≡ 0
+  pub notRoot : (i : ℕ) → 0 < i → i < length Q → 0 < f i
+  pub parents : (i : ℕ) → 0 < i → i < length Q → patternParent P (f i) ≡ f (patternParent Q i)
+  pub labels : (i : ℕ) → i < length Q → patternLabel P (f i) ≡ patternLabel Q i
+  pub edges : (i : ℕ) → i < length Q → descends P (f i) ≡ descends Q i
+  pub positions : (i : ℕ) → i < length Q → position P (f i) ≡ position Q i
+  pub apart : (i j : ℕ) → i < length Q → j < length Q → f i ≡ f j → i ≡ j
+  pub positioned : (j : ℕ) → j < length P → 0 < position P j → (i : ℕ) × (i < length Q) × (f i ≡ j)
+  pub arities : arity Q ≡ arity P

@@ -1,11 +1,11 @@
 -- Questions 1 to 14 and 16, one definition each, and the refusal of each of document 01's six calls in the call's own order.
-use Prim.Native.Nat.{ℕ, _+_, _-_}
+use Prim.Native.Nat.{ℕ, _+_, _-_, _*_}
 use mathlib.Core.Bool.{Bool, true, false, _&&_, _||_, not}
 use mathlib.Core.List.{List, [], _∷_, _++_}
 use lib.Dec.{eqb, leb, ltb}
 use lib.ListN.{length, getD}
 use Rattle.model.specs.Lists.{upFrom, anyOf, allOf, countOf, sameList}
-use Rattle.model.specs.Limits.{maxLimit, maxTally, callers, minBuffer, minTable, maxSummary, maxPattern, maxMembers, maxDocument, maxPosition}
+use Rattle.model.specs.Limits.{maxLimit, maxTally, maxVerdicts, callers, minBuffer, minTable, maxSummary, maxPattern, maxMembers, maxDocument, maxPosition}
 use Rattle.model.specs.Tree.{Document, parentOf, labelOf}
 use Rattle.model.specs.Summary.{Summary, noSummaryRecord, summaryParent, summaryLabel}
 use Rattle.model.specs.Pattern.{PatternRecord, Pattern, noPatternRecord, patternParent, position, arity}
@@ -82,9 +82,9 @@ positionsKept c = positionsOnce (c .first) && allOf (λ Q. positionsOnce Q && eq
 unfoldable pub callerInRange : ℕ → Bool
 callerInRange caller = ltb caller callers
 
--- 9. Is the tally plus the limit at most 1,000,000,000,000?
+-- 9. Is the tally plus the most that may be tried, of a verdict the limit, at most 1,000,000,000,000?
 unfoldable pub tallyInRange : ℕ → ℕ → Bool
-tallyInRange tally L = leb (tally + L) maxTally
+tallyInRange tally most = leb (tally + most) maxTally
 
 -- 10. Is the volume whole, nothing after, with 1 to 1,024 nodes, parents by the rule and labels not 0?
 unfoldable pub documentRecordKept : Document → ℕ → Bool
@@ -133,11 +133,18 @@ caseQuestions b =
     ask 3 (caseWhole b) ∷ ask 4 (countsInRange (caseOf b)) ∷ ask 14 (setInRange (caseOf b)) ∷ ask 5 (summaryKept (caseOf b .summary))
     ∷ ask 6 (siblingsDiffer (caseOf b .summary)) ∷ ask 7 (patternsKept (caseOf b)) ∷ ask 8 (positionsKept (caseOf b)) ∷ []
 
--- Verdict: 1 to 9, with 16 just before 9; the tally is the caller's own
+-- after the limit, of a call that goes to its caller's own tally and tries at most `most`: 2 to 9, with 16 just before 9
+abbrev pub chargedQuestions : List ℕ → ℕ → ℕ → ℕ → ℕ → List Question
+chargedQuestions b most caller tally bufferBytes =
+    ask 2 (bufferLargeEnough bufferBytes) ∷ caseQuestions b ++ ask 16 (callerInRange caller) ∷ ask 9 (tallyInRange tally most) ∷ []
+
+-- Verdict: 1 to 9; it tries at most the limit
 unfoldable pub verdictRefusal : List ℕ → ℕ → ℕ → ℕ → ℕ → ℕ
-verdictRefusal b L caller tally bufferBytes =
-    refusal
-    (ask 1 (limitInRange L) ∷ ask 2 (bufferLargeEnough bufferBytes) ∷ caseQuestions b ++ ask 16 (callerInRange caller) ∷ ask 9 (tallyInRange tally L) ∷ [])
+verdictRefusal b L caller tally bufferBytes = refusal (ask 1 (limitInRange L) ∷ chargedQuestions b L caller tally bufferBytes)
+
+-- Striking out: as the verdict, with 120 times the limit in 9
+unfoldable pub minimiseRefusal : List ℕ → ℕ → ℕ → ℕ → ℕ → ℕ
+minimiseRefusal b L caller tally bufferBytes = refusal (ask 1 (limitInRange L) ∷ chargedQuestions b (maxVerdicts * L) caller tally bufferBytes)
 
 -- Fits: 3 to 8, 10
 unfoldable pub fitsRefusal : List ℕ → List ℕ → ℕ

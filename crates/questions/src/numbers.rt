@@ -37,9 +37,9 @@ pub fn caller_in_range(caller: u64) -> bool
     caller < CALLERS
 }
 
-// 9. Is the tally plus the limit at most 1,000,000,000,000? The sum itself could wrap.
-pub fn tally_in_range(tally: u64, limit: u64) -> bool
-    ensures { λ r. ⌜ r ≡ tallyInRange tally limit ⌝ }
+// 9. Is the tally plus the most that may be tried at most 1,000,000,000,000? The sum itself could wrap.
+pub fn tally_in_range(tally: u64, most: u64) -> bool
+    ensures { λ r. ⌜ r ≡ tallyInRange tally most ⌝ }
 {
-    limit <= MAX_TALLY && tally <= MAX_TALLY - limit
+    most <= MAX_TALLY && tally <= MAX_TALLY - most
 }

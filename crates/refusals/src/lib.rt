@@ -5,6 +5,7 @@ use document::document_kept;
 use embedding::is_embedding_list;
 use list::result_in_range;
 use numbered::pattern_given;
+use format::limits::MAX_VERDICTS;
 use numbered::position_given;
 use questions::case_refusal;
 use questions::numbers::buffer_large_enough;
@@ -13,20 +14,17 @@ use questions::numbers::limit_in_range;
 use questions::numbers::table_large_enough;
 use questions::numbers::tally_in_range;
 ghost use mathlib.Core.Path.{_≡_};
-ghost use Rattle.model.specs.Questions.{verdictRefusal, fitsRefusal, resultRefusal, nodesRefusal, pathsRefusal, layoutRefusal};
+ghost use Rattle.model.specs.Questions.{refusal, chargedQuestions, verdictRefusal, minimiseRefusal, fitsRefusal, resultRefusal, nodesRefusal, pathsRefusal, layoutRefusal};
 
 pub mod document;
 pub mod embedding;
 pub mod list;
 pub mod numbered;
 
-// Verdict: 1 to 9, with 16 just before 9; the tally is the caller's own.
-pub fn verdict_refusal(b: &[u8], limit: u64, caller: u64, tally: u64, buffer: usize) -> u64
-    ensures { λ r. ⌜ r ≡ verdictRefusal (now (b .entry)) limit caller tally buffer ⌝ }
+// After the limit, of a call that goes to its caller's own tally and tries at most `most`: 2 to 9, with 16 just before 9.
+fn charged_refusal(b: &[u8], most: u64, caller: u64, tally: u64, buffer: usize) -> u64
+    ensures { λ r. ⌜ r ≡ refusal (chargedQuestions (now (b .entry)) most caller tally buffer) ⌝ }
 {
-    if !limit_in_range(limit) {
-        return 1;
-    }
     if !buffer_large_enough(buffer) {
         return 2;
     }
@@ -37,10 +35,30 @@ pub fn verdict_refusal(b: &[u8], limit: u64, caller: u64, tally: u64, buffer: us
     if !caller_in_range(caller) {
         return 16;
     }
-    if !tally_in_range(tally, limit) {
+    if !tally_in_range(tally, most) {
         return 9;
     }
     0
+}
+
+// Verdict: 1 to 9; it tries at most the limit.
+pub fn verdict_refusal(b: &[u8], limit: u64, caller: u64, tally: u64, buffer: usize) -> u64
+    ensures { λ r. ⌜ r ≡ verdictRefusal (now (b .entry)) limit caller tally buffer ⌝ }
+{
+    if !limit_in_range(limit) {
+        return 1;
+    }
+    charged_refusal(b, limit, caller, tally, buffer)
+}
+
+// Striking out: as the verdict, with 120 times the limit in 9, which is asked for only where question 1 has accepted the limit.
+pub fn minimise_refusal(b: &[u8], limit: u64, caller: u64, tally: u64, buffer: usize) -> u64
+    ensures { λ r. ⌜ r ≡ minimiseRefusal (now (b .entry)) limit caller tally buffer ⌝ }
+{
+    if !limit_in_range(limit) {
+        return 1;
+    }
+    charged_refusal(b, MAX_VERDICTS * limit, caller, tally, buffer)
 }
 
 // Fits: 3 to 8, 10.

@@ -1,7 +1,9 @@
 -- `deciding::accepted` meets its contract: an accepted case has what the verdict asks for; included and stopped show nothing, and not
 -- included leaves an embedding in the images, which is then shown. Assumes nothing.
+use mathlib.Core.Path.{ap}
+use mathlib.Core.List.{List, []}
 use native.Mathlib.Omega.{arith}
-use lib.ListN.{replicate, length-replicate}
+use lib.ListN.{getD, replicate, length-replicate}
 use Prim.Native.Nat.{ℕ}
 use borrow.Author.Needs.{needs}
 use Rattle.model.proofs.Bytes.{whole-case}
@@ -16,8 +18,8 @@ start c = c .before .before .before .before
 set-at-requires : tie.Need-set-at-requires
 set-at-requires c κs = whole-case _ .1 (c .before .before .before .pre .0 .whole)
 
-strong-table-requires : tie.Need-strong-table-requires
-strong-table-requires c κs = case-given (start c .pre .0) (c .before .first-at .ensures) (c .set-at .ensures) .summary
+summary-rows-requires : tie.Need-summary-rows-requires
+summary-rows-requires c κs = case-given (start c .pre .0) (c .before .first-at .ensures) (c .set-at .ensures) .summary
 
 verdict-requires : tie.Need-verdict-requires
 verdict-requires c κs =
@@ -25,7 +27,7 @@ verdict-requires c κs =
     let l = t .before in
     let p = start l .pre in
     let G = case-given (p .0) (l .before .first-at .ensures) (l .set-at .ensures) in
-    ((G, p .2), (omega (arith, G .first .few, length-replicate {A = ℕ} 16 0), t .strong-table .ensures))
+    ((G, p .2), (omega (arith, G .first .few, length-replicate {A = ℕ} 16 0), t .summary-rows .ensures))
 
 returns : tie.Need-returns
 returns c =
@@ -49,7 +51,7 @@ show-requires c κs =
             (omega (arith, d .verdict .kept .1 .1 .1 .1 .1 .0, length-replicate {A = ℕ} 16 0)),
         s .pre .1,
       ),
-      t .strong-table .ensures,
+      ap (λ (rows : List (List ℕ)). getD rows 3 []) (t .summary-rows .ensures),
     )
 
 returns-2 : tie.Need-returns-2
@@ -62,5 +64,5 @@ returns-2 c =
 
 pub accepted-spec : {M : Type 1} → statement M
 accepted-spec =
-    tie.close (tie.spec (λ c κs. search needs) set-at-requires strong-table-requires (λ c. search needs) verdict-requires (λ c. search needs) returns
-    (λ c. search needs) arity-requires show-requires (λ c. search needs) returns-2)
+    tie.close (tie.spec (λ c κs. search needs) set-at-requires summary-rows-requires (λ c. search needs) verdict-requires (λ c. search needs) returns
+    (λ c. search needs) (λ c. search needs) arity-requires show-requires (λ c. search needs) returns-2)

@@ -1,4 +1,4 @@
--- `questions::numbers::tally_in_range` meets its contract: where the limit is at most the largest tally, the sum is at most that
+-- `questions::numbers::tally_in_range` meets its contract: where what may be tried is at most the largest tally, the sum is at most that
 -- exactly when the tally is at most the difference; where it is more, so is the sum. Assumes nothing.
 use borrow.Author.Tests.{lt-leb}
 use Rattle.model.specs.Questions.{tallyInRange}
