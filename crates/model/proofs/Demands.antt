@@ -16,7 +16,7 @@ use Rattle.model.specs.Lists.{upFrom}
 use Rattle.model.specs.Limits.{callers, maxVerdicts, maxPattern, maxPosition, maxCanonical, minBuffer}
 use Rattle.model.specs.Tree.{Document, labelOf}
 use Rattle.model.specs.Summary.{Summary}
-use Rattle.model.specs.Pattern.{PatternRecord, Pattern, noPatternRecord, patternParent, position, arity, returnNodes, SummaryEmbedding, Contained, CounterExample}
+use Rattle.model.specs.Pattern.{Pattern, patternParent, position, arity, returnNodes, SummaryEmbedding, Contained, CounterExample}
 use Rattle.model.specs.Embeddings.{imageIn, summaryEmbeddings, isResult, nodesAt, pathMask, pathCount}
 use Rattle.model.specs.Fitting.{fits}
 use Rattle.model.specs.Canonical.{canonical, canonicalSpots, ownNodes, ownResult, covered, spotRecord}
@@ -24,12 +24,12 @@ use Rattle.model.specs.Verdict.{Verdict, included, notIncluded, stopped,
 use Rattle.model.specs.Bytes.{Case, caseOf, documentOf, listOf, documentFields, sectionFields, encodeDocument, encodeCounted, writtenAtFront}
 use Rattle.model.specs.Questions.{selected, caseQuestions, verdictRefusal, minimiseRefusal, fitsRefusal, resultRefusal, nodesRefusal, pathsRefusal, layoutRefusal}
 use Rattle.model.specs.Calls.{kindIncluded, kindNotIncluded, kindStopped, kindOf, shown, Received, OnEight, VerdictOutcome, refusedAnswer, verdictAccepted, verdictCall, tallyOf, TalliedOutcome, charged, talliedCall, TestAnswer, fitsCall, resultCall, CountOutcome, nodesAccepted, nodesCall, PathsAnswer, pathsAccepted, pathsCall, LaidRecord, laidRecord, LayoutOutcome, layoutAccepted, layoutCall}
-use Rattle.model.specs.Striking.{mayGo, verdictWithout, Struck, strikeAll, MinimiseOutcome, minimiseAccepted, minimiseCall, talliedMinimise}
+use Rattle.model.specs.Striking.{childless, mayGo, verdictWithout, Struck, strikeAll, MinimiseOutcome, minimiseAccepted, minimiseCall, talliedMinimise}
 use Rattle.model.specs.Runs.{Call, ofOne, ofOther, given, after, receipts, talliesAfter, callsOf, receivedBy}
 use Rattle.model.specs.Facts.{SummaryFacts, PatternFacts, MemberFacts, CaseFacts}
 use Rattle.model.specs.Moving.{upgradeRefusal, downgradeRefusal, upgraded, downgraded, movedCall, upgradeCall, downgradeCall}
 use Rattle.model.specs.Demands.{TestTold, FitsTold, ResultTold, NodesTold, PathsTold, LayoutTold, SomeCounterExample, AllEmbeddingsPass, SomeEmbeddingFails, Shown, ReadsBack, Demand3, FitsAnswered, ResultAnswered, NodesAnswered, PathsAnswered, LayoutAnswered, ReceivedAnswered, ChargedAnswered, VerdictAnswered, TalliedAnswered, MayGo, Shortened, StruckOf, StruckTold, MinimiseAnswered, TalliedMinimised, Separated, Summed, MoveAnswered, UpgradeAnswered, DowngradeAnswered}
-use Rattle.model.proofs.ListLaws.{and-intro, all-intro, at-mem, length-map-upFrom, getD-map-upFrom}
+use Rattle.model.proofs.ListLaws.{and-intro, below-all, length-map-upFrom, getD-map-upFrom}
 use Rattle.model.proofs.ReturnNodes.{length-returnNodes}
 use Rattle.model.proofs.Results.{result-exact, nodes-at-exact, nodes-at-ascending, path-mask-exact, path-mask-beyond, path-count-ones}
 use Rattle.model.proofs.Fitting.{fits-exact}
@@ -296,14 +296,15 @@ demand-3 b small L caller tally buffer e =
 
 -- the test for a leaf that may go says what it is to say
 pub may-go-exact : (P : Pattern) (q : ℕ) → (q < length P) × (mayGo P q ≡ true) ↔ MayGo P q
-unfolding mayGo
+unfolding mayGo childless
 may-go-exact P q = (
   λ h. record { inside = h .0; notRoot = not-root P q (h .0) (h .1); noPosition = no-position P q (h .0) (h .1); leaf = no-children P q (h .0) (h .1) },
-  λ m. (m .inside, and-intro (and-intro (lt-ltb 0 q (m .notRoot)) (eq-eqb (position P q) 0 (m .noPosition))) (all-intro (λ (r : PatternRecord). not (eqb (r .parent) q)) P (λ r k. childless r (at-mem P r noPatternRecord k) (m .leaf)))),
+  λ m. (
+    m .inside,
+    and-intro (and-intro (lt-ltb 0 q (m .notRoot)) (eq-eqb (position P q) 0 (m .noPosition)))
+    (below-all (λ i. not (eqb (patternParent P i) q)) (length P) (λ i h. ap not (ne-eqb (patternParent P i) q (m .leaf i h)))),
+  ),
 )
-  where
-    childless : (r : PatternRecord) → (i : ℕ) × (i < length P) × (getD P i noPatternRecord ≡ r) → ((i : ℕ) → i < length P → patternParent P i ≡ q → ⊥) → not (eqb (r .parent) q) ≡ true
-    childless r (i, h, e) f = ap not (ne-eqb (r .parent) q (λ p. f i h (ap (λ (x : PatternRecord). x .parent) e ∙ p)))
 
 -- of an accepted case: what the loop comes to keeps all that is demanded
 strike-told : (c : Case) → CaseFacts c → (L tally : ℕ) (buffer : List ℕ) → StruckOf (c .summary) (c .first) L (strikeAll (c .summary) L (c .first)) tally buffer (minimiseAccepted c L tally buffer)

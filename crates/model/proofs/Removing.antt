@@ -9,10 +9,10 @@ use native.Mathlib.Omega.{arith}
 use lib.Dec.{eqb, ltb}
 use lib.ListN.{length, getD, length-map, List·getD-eq-default}
 use borrow.Author.Tests.{ltb-true, ltb-false, lt-ltb, le-ltb, eqb-true, eqb-false, not-true}
-use Rattle.model.specs.Lists.{allOf, countOf}
+use Rattle.model.specs.Lists.{countOf}
 use Rattle.model.specs.Pattern.{PatternRecord, Pattern, noPatternRecord, patternParent, patternLabel, descends, position, arity, IsPatternTree, Carries}
-use Rattle.model.specs.Striking.{removed, lowered, relinked, without, mayGo}
-use Rattle.model.proofs.ListLaws.{by-bool, true-or-false, and-left, and-right, all-elim, mem-at, getD-map}
+use Rattle.model.specs.Striking.{removed, lowered, raised, relinked, without, childless, mayGo}
+use Rattle.model.proofs.ListLaws.{by-bool, true-or-false, and-left, and-right, all-below, getD-map}
 
 -- ---- numbers, with node q and without it
 
@@ -22,10 +22,6 @@ less x y h d = go (true-or-false (ltb x y))
     go : (ltb x y ≡ true) ⊎ (ltb x y ≡ false) → x < y
     go (inl t) = ltb-true x y t
     go (inr t) = absurd (d (let l = ltb-false x y t in omega arith))
-
--- the number that what is now i had while q was there
-abbrev pub raised : ℕ → ℕ → ℕ
-raised q i = elim (ltb i q) [ true ↦ i | false ↦ suc i ]
 
 pub raised-cases : (q i : ℕ) → ((i < q) × (raised q i ≡ i)) ⊎ ((q ≤ i) × (raised q i ≡ suc i))
 raised-cases q i = go (true-or-false (ltb i q))
@@ -162,11 +158,10 @@ module _ (P : Pattern) (q : ℕ) (h : q < length P) where
     no-position = eqb-true (position P q) 0 (and-right (ltb 0 q) _ (and-left _ _ may))
 
     pub no-children : (i : ℕ) → i < length P → patternParent P i ≡ q → ⊥
-    unfolding mayGo
+    unfolding mayGo childless
     no-children i l =
         eqb-false (patternParent P i) q
-        (not-true (eqb (patternParent P i) q)
-        (all-elim (λ (r : PatternRecord). not (eqb (r .parent) q)) P (and-right (ltb 0 q && eqb (position P q) 0) _ may) (getD P i noPatternRecord) (mem-at P i noPatternRecord l)))
+        (not-true (eqb (patternParent P i) q) (all-below (λ (j : ℕ). not (eqb (patternParent P j) q)) (length P) (and-right (ltb 0 q && eqb (position P q) 0) _ may) i l))
 
     inside : (i : ℕ) → i < length (without P q) → raised q i < length P
     inside i l = subst (λ (n : ℕ). raised q i < n) (length-without P q h) (raised-inside q i (length (without P q)) l)

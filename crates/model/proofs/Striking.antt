@@ -18,14 +18,14 @@ use Rattle.model.specs.Summary.{Summary, Fits}
 use Rattle.model.specs.Pattern.{Pattern, Result, Carries}
 use Rattle.model.specs.Verdict.{Verdict, included, notIncluded, stopped, triedOf}
 use Rattle.model.specs.Facts.{SummaryFacts, PatternFacts, MemberFacts}
-use Rattle.model.specs.Striking.{removed, lowered, without, mayGo, mayGoOf, verdictWithout, Round, judged, round, Struck, alsoStruck, strikeFrom, strikeAll}
+use Rattle.model.specs.Striking.{removed, lowered, raised, without, mayGo, mayGoOf, verdictWithout, Round, judged, round, Struck, alsoStruck, strikeFrom, strikeAll}
 use Rattle.model.specs.Demands.{Shortened}
 use Rattle.model.proofs.ListLaws.{true-or-false, map-agree, upFrom-mem, mem-upFrom, keep-elim, keep-intro, length-keep, length-upFrom, getD-upFrom}
 use Rattle.model.proofs.KeepLaws.{keep-out}
 use Rattle.model.proofs.Verdict.{IsIncluded, judge-included, included-or-not, included-or-stopped, verdict-judge, verdict-tried}
 use Rattle.model.proofs.Decision.{contained-exact}
 use Rattle.model.proofs.Carrying.{carries-self, carries-after, carried-result, carried-facts}
-use Rattle.model.proofs.Removing.{raised, raised-not, raised-ascends, raised-apart, raised-lowered, lowered-inside, length-removed, getD-removed, length-without, without-carries, without-tree}
+use Rattle.model.proofs.Removing.{raised-not, raised-ascends, raised-apart, raised-lowered, lowered-inside, length-removed, getD-removed, length-without, without-carries, without-tree}
 
 -- ---- sums
 

@@ -62,3 +62,7 @@ documentWidth = 2
 -- the most bytes of a printed text: 27 of the first lines, 21 of each of 1,009 node lines, 47 of the answer line
 abbrev pub maxText : ℕ
 maxText = 21_263
+
+-- and of a printed order: 16 of tried, 21 of each of 16 node lines, 52 of the struck line
+abbrev pub maxOrderText : ℕ
+maxOrderText = 404

@@ -7,7 +7,7 @@ use lib.Dec.{eqb, ltb}
 use lib.ListN.{length, getD}
 use Rattle.model.specs.Lists.{upFrom, keep, allOf, total}
 use Rattle.model.specs.Summary.{Summary}
-use Rattle.model.specs.Pattern.{PatternRecord, Pattern, position}
+use Rattle.model.specs.Pattern.{PatternRecord, Pattern, patternParent, position}
 use Rattle.model.specs.Verdict.{Verdict, included, notIncluded, stopped, verdict}
 use Rattle.model.specs.Bytes.{Case, caseOf, encodePattern, encodeCounted, writtenAtFront}
 use Rattle.model.specs.Questions.{minimiseRefusal}
@@ -23,6 +23,10 @@ removed (suc q) (x ∷ xs) = x ∷ removed q xs
 abbrev pub lowered : ℕ → ℕ → ℕ
 lowered q i = elim (ltb q i) [ true ↦ i - 1 | false ↦ i ]
 
+-- and the number that what is now node i had while node q was there
+abbrev pub raised : ℕ → ℕ → ℕ
+raised q i = elim (ltb i q) [ true ↦ i | false ↦ suc i ]
+
 abbrev pub relinked : ℕ → PatternRecord → PatternRecord
 relinked q r = record { parent = lowered q (r .parent); label = r .label; edge = r .edge; position = r .position }
 
@@ -30,9 +34,13 @@ relinked q r = record { parent = lowered q (r .parent); label = r .label; edge =
 unfoldable pub without : Pattern → ℕ → Pattern
 without P q = map (relinked q) (removed q P)
 
+-- no node has q as its parent
+unfoldable pub childless : Pattern → ℕ → Bool
+childless P q = allOf (λ i. not (eqb (patternParent P i) q)) (upFrom 0 (length P))
+
 -- a leaf without a position, root excepted
 unfoldable pub mayGo : Pattern → ℕ → Bool
-mayGo P q = ltb 0 q && eqb (position P q) 0 && allOf (λ (r : PatternRecord). not (eqb (r .parent) q)) P
+mayGo P q = ltb 0 q && eqb (position P q) 0 && childless P q
 
 -- those of the present selection, lowest number first
 abbrev pub mayGoOf : Pattern → List ℕ

@@ -1,21 +1,23 @@
--- What the verdict program prints, document 01's lines, in ASCII, each ended by a newline; and what the programs that move a case write.
+-- What the verdict program prints, document 01's lines, in ASCII, each ended by a newline; what the program that strikes prints; and what
+-- the programs that move a case write.
 use Prim.Native.Nat.{ℕ, zero, suc, _+_, _-_, _*_, _/_, _%_}
 use Prim.Native.Char.{code}
 use Prim.Native.String.{String, [] as end, _∷_ as char}
 use mathlib.Core.Bool.{true, false}
 use mathlib.Core.List.{List, [], _∷_, _++_, flatMap}
 use lib.Dec.{eqb, ltb}
-use lib.ListN.{length, replicate}
-use Rattle.model.specs.Lists.{upFrom}
+use lib.ListN.{length, getD, replicate}
+use Rattle.model.specs.Lists.{upFrom, total}
 use Rattle.model.specs.Limits.{maxLimit, callers, minBuffer}
 use Rattle.model.specs.Tree.{Document, parentOf, labelOf}
 use Rattle.model.specs.Summary.{Summary}
-use Rattle.model.specs.Pattern.{Pattern}
+use Rattle.model.specs.Pattern.{PatternRecord, Pattern, noPatternRecord}
 use Rattle.model.specs.Canonical.{canonical, ownResult}
 use Rattle.model.specs.Verdict.{Verdict, included, notIncluded, stopped, verdict}
 use Rattle.model.specs.Bytes.{Case, caseOf}
-use Rattle.model.specs.Questions.{verdictRefusal}
+use Rattle.model.specs.Questions.{verdictRefusal, minimiseRefusal}
 use Rattle.model.specs.Calls.{tallyOf}
+use Rattle.model.specs.Striking.{Struck, strikeAll}
 use Rattle.model.specs.Moving.{upgradeRefusal, downgradeRefusal, upgraded, downgraded}
 
 -- the characters' codes
@@ -99,6 +101,34 @@ programRefusal b = verdictRefusal b maxLimit programCaller (tallyOf programTalli
 -- the text for a case from standard input
 unfoldable pub printed : List ℕ → List ℕ
 printed b = elim (eqb (programRefusal b) 0) [ true ↦ caseText (caseOf b) | false ↦ refusedText (programRefusal b) ]
+
+-- of the program that strikes: a node line has number, parent, label, edge, position
+unfoldable pub patternLine : Pattern → ℕ → List ℕ
+patternLine P i =
+    let r : PatternRecord = getD P i noPatternRecord in
+    line (ascii "node") (i ∷ r .parent ∷ r .label ∷ r .edge ∷ r .position ∷ [])
+
+-- the node lines of a selection
+unfoldable pub patternLines : Pattern → List ℕ
+patternLines P = flatMap (patternLine P) (upFrom 0 (length P))
+
+-- tried, the shortened selection, and the struck numbers in striking order
+unfoldable pub orderText : ℕ → Pattern → List ℕ → List ℕ
+orderText tried P struck = line (ascii "tried") (tried ∷ []) ++ (patternLines P ++ line (ascii "struck") struck)
+
+abbrev pub struckText : Struck → List ℕ
+struckText s = orderText (total (s .tried)) (s .pattern) (s .struck)
+
+-- its refusal, with the verdict program's limit, caller and tallies, and the text for a case from standard input
+abbrev pub orderRefusal : List ℕ → ℕ
+orderRefusal b = minimiseRefusal b maxLimit programCaller (tallyOf programTallies programCaller) minBuffer
+
+unfoldable pub orderPrinted : List ℕ → List ℕ
+orderPrinted b =
+    elim (eqb (orderRefusal b) 0) [
+      | true ↦ struckText (strikeAll (caseOf b .summary) maxLimit (caseOf b .first))
+      | false ↦ refusedText (orderRefusal b)
+    ]
 
 -- what a program that moves a case writes, and where: the moved case's bytes to standard output, 1, and nothing else; or a refusal's line to
 -- standard error, 2, and nothing else
