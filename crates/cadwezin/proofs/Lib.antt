@@ -1,4 +1,6 @@
 pub mod ArrayPart
+pub mod Charging
+pub mod ChargingWalk
 pub mod Elements
 pub mod Locals
 pub mod TableLaws
