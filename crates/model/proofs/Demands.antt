@@ -28,7 +28,7 @@ use Rattle.model.specs.Striking.{childless, mayGo, verdictWithout, Struc
 use Rattle.model.specs.Runs.{Call, ofOne, ofOther, given, after, receipts, talliesAfter, callsOf, receivedBy}
 use Rattle.model.specs.Facts.{SummaryFacts, PatternFacts, MemberFacts, CaseFacts}
 use Rattle.model.specs.Moving.{upgradeRefusal, downgradeRefusal, upgraded, downgraded, movedCall, upgradeCall, downgradeCall}
-use Rattle.model.specs.Demands.{TestTold, FitsTold, ResultTold, NodesTold, PathsTold, LayoutTold, SomeCounterExample, AllEmbeddingsPass, SomeEmbeddingFails, Shown, ReadsBack, Demand3, FitsAnswered, ResultAnswered, NodesAnswered, PathsAnswered, LayoutAnswered, ReceivedAnswered, ChargedAnswered, VerdictAnswered, TalliedAnswered, MayGo, Shortened, StruckOf, StruckTold, MinimiseAnswered, TalliedMinimised, Separated, Summed, MoveAnswered, UpgradeAnswered, DowngradeAnswered}
+use Rattle.model.specs.Demands.{TestTold, FitsTold, ResultTold, NodesTold, PathsTold, LayoutTold, SomeCounterExample, AllEmbeddingsPass, SomeEmbeddingFails, Shown, ReadsBack, Demand3, FitsAnswered, ResultAnswered, NodesAnswered, PathsAnswered, LayoutAnswered, ChargedAnswered, VerdictAnswered, TalliedAnswered, MayGo, Shortened, StruckOf, StruckTold, MinimiseAnswered, TalliedMinimised, Separated, Summed, MoveAnswered, UpgradeAnswered, DowngradeAnswered}
 use Rattle.model.proofs.ListLaws.{and-intro, below-all, length-map-upFrom, getD-map-upFrom}
 use Rattle.model.proofs.ReturnNodes.{length-returnNodes}
 use Rattle.model.proofs.Results.{result-exact, nodes-at-exact, nodes-at-ascending, path-mask-exact, path-mask-beyond, path-count-ones}
@@ -436,25 +436,26 @@ verdict-answered b small L caller tally before e =
     }
 
 -- from what the caller receives to the eight tallies; an accepted call's caller is one of the eight
-pub charged-answered : {A : Type 0} {number caller : ℕ} {call : Received A} {refused : ℕ → A} {Kept : Received A → Type 0} (tallies : List ℕ) → length tallies ≡ callers → (before : List ℕ) {o : Received A}
-    → (number ≡ 0 → caller < callers) → ReceivedAnswered number call refused Kept (tallyOf tallies caller) before o
+charged-answered : {A : Type 0} {number caller : ℕ} {call : Received A} {refused : ℕ → A} {Kept : Received A → Type 0} (tallies : List ℕ) → length tallies ≡ callers → (before : List ℕ) {o : Received A}
+    → (number ≡ 0 → caller < callers) → o ≡ call → ((number ≡ 0 → ⊥) → o ≡ record { answer = refused number; buffer = before; tally = tallyOf tallies caller }) → (number ≡ 0 → Kept o)
     → ChargedAnswered number (charged tallies caller call) refused Kept caller tallies before (charged tallies caller o)
-charged-answered {A} {number} {caller} {call} {refused} {Kept} tallies size before {o} known a =
+charged-answered {A} {number} {caller} {call} {refused} {Kept} tallies size before {o} known outcome demand1 demand3 =
     record {
-      outcome = ap (charged tallies caller) (a .outcome);
+      outcome = ap (charged tallies caller) outcome;
       demand1 = λ f.
-          ap (charged tallies caller) (a .demand1 f)
+          ap (charged tallies caller) (demand1 f)
           ∙ ap {B = OnEight A} (λ (ts : List ℕ). record { answer = refused number; buffer = before; tallies = ts }) (set-getD tallies caller 0);
       demand3 = λ z.
           let k : caller < callers = known z in
-          subst Kept (ap {B = Received A} (λ (n : ℕ). record { answer = o .answer; buffer = o .buffer; tally = n }) (sym (getD-set-same tallies caller (o .tally) 0 (omega arith)))) (a .demand3 z);
+          subst Kept (ap {B = Received A} (λ (n : ℕ). record { answer = o .answer; buffer = o .buffer; tally = n }) (sym (getD-set-same tallies caller (o .tally) 0 (omega arith)))) (demand3 z);
       others = λ i h. getD-set-other tallies caller i (o .tally) 0 h;
     }
 
 pub tallied-answered : (b : List ℕ) (L caller : ℕ) (tallies : List ℕ) → length tallies ≡ callers → (before : List ℕ) {o : VerdictOutcome}
     → VerdictAnswered b L caller (tallyOf tallies caller) before o → TalliedAnswered b L caller tallies before (charged tallies caller o)
 unfolding talliedCall
-tallied-answered b L caller tallies size before a = charged-answered tallies size before (λ z. accepted-verdict b L caller (tallyOf tallies caller) (length before) z .known) a
+tallied-answered b L caller tallies size before a =
+    charged-answered tallies size before (λ z. accepted-verdict b L caller (tallyOf tallies caller) (length before) z .known) (a .outcome) (a .demand1) (a .demand3)
 
 pub minimise-answered : (b : List ℕ) (L caller tally : ℕ) (before : List ℕ) {o : MinimiseOutcome} → o ≡ minimiseCall b L caller tally before → MinimiseAnswered b L caller tally before o
 minimise-answered b L caller tally before e =
@@ -467,7 +468,7 @@ minimise-answered b L caller tally before e =
 pub tallied-minimised : (b : List ℕ) (L caller : ℕ) (tallies : List ℕ) → length tallies ≡ callers → (before : List ℕ) {o : MinimiseOutcome}
     → MinimiseAnswered b L caller (tallyOf tallies caller) before o → TalliedMinimised b L caller tallies before (charged tallies caller o)
 unfolding talliedMinimise
-tallied-minimised b L caller tallies size before a = charged-answered tallies size before (λ z. accepted-minimise b L caller (tallyOf tallies caller) (length before) z .known) a
+tallied-minimised b L caller tallies size before a = charged-answered tallies size before (λ z. accepted-minimise b L caller (tallyOf tallies caller) (length before) z .known) (a .outcome) (a .demand1) (a .demand3)
 
 pub move-answered : (number : ℕ) (written : List ℕ) {Kept : CountOutcome → Type 0} (before : List ℕ) {o : CountOutcome} → (number ≡ 0 → Kept (movedCall number written before))
     → o ≡ movedCall number written before → MoveAnswered number written Kept before o

@@ -257,39 +257,35 @@ pub record LayoutAnswered (b : List ℕ) (s : ℕ) (l : List ℕ) (before : List
   pub demand1 : Demand1 (layoutRefusal b s l (length before)) o (λ n. record { answer = record { refused = n; count = 0 }; table = before })
   pub demand2 : layoutRefusal b s l (length before) ≡ 0 → LayoutTold (caseOf b .summary) (selected (caseOf b) s) (listOf l) before o
 
--- A call that goes to its caller's tally, of one caller and its tally: `number` is its refusal or 0, `call` the outcome, `refused` a refusal's
--- answer, and an accepted call keeps `Kept`
-pub record ReceivedAnswered {Answer : Type 0} (number : ℕ) (call : Received Answer) (refused : ℕ → Answer) (Kept : Received Answer → Type 0) (tally : ℕ) (before : List ℕ) (o : Received Answer) : Type 0 where
-  pub outcome : o ≡ call
-  pub demand1 : Demand1 number o (λ n. record { answer = refused n; buffer = before; tally = tally })
-  pub demand3 : number ≡ 0 → Kept o
+-- Verdict: case, limit, caller, that caller's tally, answer buffer
+pub record VerdictAnswered (b : List ℕ) (L caller tally : ℕ) (before : List ℕ) (o : VerdictOutcome) : Type 0 where
+  pub outcome : o ≡ verdictCall b L caller tally before
+  pub demand1 : Demand1 (verdictRefusal b L caller tally (length before)) o (λ n. record { answer = refusedAnswer n; buffer = before; tally = tally })
+  pub demand3 : verdictRefusal b L caller tally (length before) ≡ 0 → Demand3 b L tally before o
+
+-- Striking out: case, limit, caller, that caller's tally, answer buffer
+pub record MinimiseAnswered (b : List ℕ) (L caller tally : ℕ) (before : List ℕ) (o : MinimiseOutcome) : Type 0 where
+  pub outcome : o ≡ minimiseCall b L caller tally before
+  pub demand1 : Demand1 (minimiseRefusal b L caller tally (length before)) o (λ n. record { answer = refusedStrike n; buffer = before; tally = tally })
+  pub demand3 : minimiseRefusal b L caller tally (length before) ≡ 0 → StruckTold b L tally before o
 
 -- what the caller receives, of an outcome on all eight tallies
 abbrev pub ownOutcome : {Answer : Type 0} → ℕ → OnEight Answer → Received Answer
 ownOutcome caller o = record { answer = o .answer; buffer = o .buffer; tally = tallyOf (o .tallies) caller }
 
--- And on all eight: of the tallies the caller's own alone decides and alone may alter
+-- A call that goes to its caller's tally, on all eight: `number` is its refusal or 0, `call` the outcome, `refused` a refusal's answer, and an
+-- accepted call keeps `Kept`. Of the tallies the caller's own alone decides and alone may alter
 pub record ChargedAnswered {Answer : Type 0} (number : ℕ) (call : OnEight Answer) (refused : ℕ → Answer) (Kept : Received Answer → Type 0) (caller : ℕ) (tallies before : List ℕ) (o : OnEight Answer) : Type 0 where
   pub outcome : o ≡ call
   pub demand1 : Demand1 number o (λ n. record { answer = refused n; buffer = before; tallies = tallies })
   pub demand3 : number ≡ 0 → Kept (ownOutcome caller o)
   pub others : (i : ℕ) → (i ≡ caller → ⊥) → tallyOf (o .tallies) i ≡ tallyOf tallies i
 
--- Verdict: case, limit, caller, that caller's tally, answer buffer
-abbrev pub VerdictAnswered : List ℕ → ℕ → ℕ → ℕ → List ℕ → VerdictOutcome → Type 0
-VerdictAnswered b L caller tally before o =
-    ReceivedAnswered (verdictRefusal b L caller tally (length before)) (verdictCall b L caller tally before) refusedAnswer (Demand3 b L tally before) tally before o
-
 -- Verdict: case, limit, caller, the eight tallies, answer buffer
 abbrev pub TalliedAnswered : List ℕ → ℕ → ℕ → List ℕ → List ℕ → TalliedOutcome → Type 0
 TalliedAnswered b L caller tallies before o =
     let t : ℕ = tallyOf tallies caller in
     ChargedAnswered (verdictRefusal b L caller t (length before)) (talliedCall b L caller tallies before) refusedAnswer (Demand3 b L t before) caller tallies before o
-
--- Striking out: case, limit, caller, that caller's tally, answer buffer
-abbrev pub MinimiseAnswered : List ℕ → ℕ → ℕ → ℕ → List ℕ → MinimiseOutcome → Type 0
-MinimiseAnswered b L caller tally before o =
-    ReceivedAnswered (minimiseRefusal b L caller tally (length before)) (minimiseCall b L caller tally before) refusedStrike (StruckTold b L tally before) tally before o
 
 -- Striking out: case, limit, caller, the eight tallies, answer buffer
 abbrev pub TalliedMinimised : List ℕ → ℕ → ℕ → List ℕ → List ℕ → OnEight MinimiseAnswer → Type 0
