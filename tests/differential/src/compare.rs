@@ -328,12 +328,7 @@ pub fn hold(right: bool, difference: impl Fn() -> Difference) -> Result<(), Diff
     }
 }
 
-/// Both are equal; if not, both in words.
-pub fn same<T: PartialEq + std::fmt::Debug>(
-    what: &str,
-    ours: T,
-    theirs: T,
-) -> Result<(), Difference> {
+fn same<T: PartialEq + std::fmt::Debug>(what: &str, ours: T, theirs: T) -> Result<(), Difference> {
     hold(ours == theirs, || {
         format!("{what}: ours {ours:?}, the reference's {theirs:?}")
     })

@@ -1,7 +1,7 @@
 //! What an accepted order's answer means, by the library's verdicts: "The two selections have the same
 //! results in every fitting volume, and no remaining such leaf would be struck."
 
-use crate::compare::{hold, same, Difference};
+use crate::compare::{hold, Difference};
 use cadwezin::{ffi, Tallies, ANSWER_BYTES, LIMIT_MOST};
 use reference::records::{read_case, Case, SelectionNode};
 use reference::striking::{candidates, without};
@@ -24,8 +24,10 @@ pub fn holds(case: &[u8], limit: u64, answer: &[u8]) -> Result<(), Difference> {
         } else {
             (ffi::CONTAINED, all)
         };
-        let judged = judged(&over(first, member), LIMIT_MOST)?;
-        same("the results before and after", judged, expected)?;
+        let got = judged(&over(first, member), LIMIT_MOST)?;
+        hold(got == expected, || {
+            format!("what is left and what was: kind and tried {got:?} and not {expected:?}")
+        })?;
     }
     for leaf in candidates(&left) {
         let (kind, _) = judged(&over(&without(&left, leaf), &left), limit)?;
@@ -73,13 +75,17 @@ fn remains(
         numbers.remove(leaf);
         present = without(&present, leaf);
     }
-    same("what is left", left, &present[..])
+    hold(left == present, || {
+        format!("what is left: {left:?} and not {present:?}")
+    })
 }
 
 /// Kind and tried of a verdict of the library, by a caller who has made none before.
 fn judged(case: &Case, limit: u64) -> Result<(u64, u64), Difference> {
     let (mut tallies, mut answer) = (Tallies::default(), [0; ANSWER_BYTES]);
     let got = ffi::verdict(&case.bytes(), limit, 0, &mut tallies, &mut answer);
-    same("the refusal of a case before and after", got.refused, 0)?;
+    hold(got.refused == 0, || {
+        format!("a verdict on what is left is refused {}", got.refused)
+    })?;
     Ok((got.kind, got.tried))
 }

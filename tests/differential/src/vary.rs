@@ -18,7 +18,7 @@ const CALLS: [u32; 9] = [
 ];
 /// A limit below which the reference is quick on any case, and one where it makes many verdicts.
 const QUICK: u64 = 60;
-const QUICK_ORDER: u64 = 12;
+const QUICK_ORDER: u64 = 8;
 
 /// One variation of a drawn vector. What it does not have is taken from the others drawn.
 pub fn vary(prng: &mut Prng, drawn: &[Vector], index: usize) -> Vector {
@@ -26,7 +26,12 @@ pub fn vary(prng: &mut Prng, drawn: &[Vector], index: usize) -> Vector {
     if prng.percent(60) {
         vector = for_call(prng, drawn, vector);
     }
-    vector.limit = 1 + prng.draw() % [1, 3, 10, QUICK][prng.below(4)];
+    let quick = if vector.call == MINIMISE {
+        QUICK_ORDER
+    } else {
+        QUICK
+    };
+    vector.limit = 1 + prng.draw() % [1, 3, 10, QUICK][prng.below(4)].min(quick);
     if prng.percent(30) {
         number(prng, &mut vector);
     }
@@ -42,11 +47,6 @@ pub fn vary(prng: &mut Prng, drawn: &[Vector], index: usize) -> Vector {
     if prng.below(2_000) == 0 {
         lengthen(prng, &mut vector);
     }
-    let quick = if vector.call == MINIMISE {
-        QUICK_ORDER
-    } else {
-        QUICK
-    };
     if vector.limit > quick && slow(&vector, quick) {
         vector.limit = quick;
     }
