@@ -1,5 +1,6 @@
-/* The nine calls from C, by include/cadwezin.h: E6 and E10 of document 01, a set of two, E6 out of the old form and back, an order that is
- * shortened, callers and their tallies, empty slices with a null pointer, and refusals, which alter nothing. Prints how many answers were as they should be. */
+/* The nine calls from C, by include/cadwezin.h: E6 and E10 of document 01, a set of two, E6 out of the old form and back, callers and
+ * their tallies, an order that is shortened, empty slices with a null pointer, and refusals, which alter nothing. Prints how many
+ * answers were as they should be. */
 #include "cadwezin.h"
 #include <stdio.h>
 #include <stdlib.h>
@@ -221,7 +222,7 @@ static void not_struck(const uint8_t *bytes, size_t length, uint64_t limit, uint
   hold(untouched(0, 0), "what a refused order leaves alone");
 }
 
-/* Each caller's tally with room for 120 times the limit, and with one less; a limit at which nothing can be decided; and refusals. */
+/* Each caller's tally with room for 120 times the limit, and with less; and refusals by the other questions. */
 static void strikes(void) {
   static const uint64_t limits[] = {1, 5, CADWEZIN_LIMIT_MOST};
   for (size_t caller = 0; caller < CADWEZIN_CALLERS; caller++) {

@@ -257,8 +257,9 @@ static void stepped(void) {
   expect(VERDICT, 0, CADWEZIN_NOT_CONTAINED, "asking in vain");
 }
 
-/* Orders of 16 nodes: all that strong edges grant, one below another or at the bottom of the line; equal ones, which go with one left;
- * free ones, whose verdicts are stopped or try very many; a line's nodes that nothing grants; and the patterns of which verdicts go deep. */
+/* Orders of 16 nodes: all that strong edges grant, one below another or at the bottom of the line; equal ones, of which one is left; a
+ * chain that nothing grants; free ones, whose verdicts are stopped; and the patterns whose verdicts go deep. Of those by turns a free node
+ * goes first, with 2 x 63^3 trials, and then all that says the same again. */
 static void struck(void) {
   ask_whole();
   put_line(1);
