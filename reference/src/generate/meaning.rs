@@ -317,7 +317,7 @@ fn a_shortened_order_has_the_same_results() {
     const MOST: u64 = 400;
     let mut prng = Prng::new(18);
     let (mut shorter, mut whole, mut seen) = (0, 0, 0);
-    for _ in 0..500 {
+    for _ in 0..250 {
         let struck = Struck::drawn(&mut prng);
         shorter += u32::from(!struck.numbers.is_empty());
         let (old, new) = (&struck.plan.first, &struck.left);
@@ -341,10 +341,10 @@ fn a_shortened_order_has_the_same_results() {
         }
     }
     assert!(
-        shorter > 200 && whole > 600,
+        shorter > 100 && whole > 300,
         "{shorter} shorter, {whole} whole"
     );
-    assert!(seen > 300, "{seen} results");
+    assert!(seen > 150, "{seen} results");
 }
 
 /// The tool worked out from verdicts alone, on cases of bytes: what goes, in which
@@ -353,7 +353,7 @@ fn a_shortened_order_has_the_same_results() {
 fn leaves_are_struck_by_verdicts_on_cases() {
     let mut prng = Prng::new(19);
     let (mut not_ascending, mut paid_again, mut stopped) = (0, 0, 0);
-    for _ in 0..500 {
+    for _ in 0..250 {
         let struck = Struck::drawn(&mut prng);
         let mut rows = struck.plan.first.clone();
         let mut numbers: Vec<u16> = (0..rows.len() as u16).collect();
@@ -380,18 +380,18 @@ fn leaves_are_struck_by_verdicts_on_cases() {
         );
         not_ascending += u32::from(!order.is_sorted());
     }
-    assert!(not_ascending > 50, "{not_ascending} not ascending");
+    assert!(not_ascending > 25, "{not_ascending} not ascending");
     assert!(
-        paid_again > 50,
+        paid_again > 25,
         "{paid_again} leaves kept before one that goes"
     );
-    assert!(stopped > 50, "{stopped} stopped");
+    assert!(stopped > 25, "{stopped} stopped");
 }
 
 #[test]
 fn the_set_does_not_matter_to_striking_out() {
     let mut prng = Prng::new(20);
-    for _ in 0..200 {
+    for _ in 0..100 {
         let mut struck = Struck::drawn(&mut prng);
         let before = struck.plan.minimised(struck.limit);
         let member = struck.plan.first.clone();
