@@ -1,4 +1,4 @@
-/* Tree pattern containment under a path summary: the eight calls of the proved library, for C99 and C++ on x86-64.
+/* Tree pattern containment under a path summary: the nine calls of the proved library, for C99 and C++ on x86-64.
  *
  * Link with libcadwezin.a, which `rt staticlib cadwezin` writes to target/staticlib/. It needs memcpy and memset and nothing else.
  *
@@ -23,7 +23,7 @@
  *    7  Do all records of all patterns keep the rules for parent and edge (0 on the root), with positions at most 8?
  *    8  Has each pattern the positions 1 to k once each, k at least 1, the same k in all?
  *   16  Is the caller 0 to 7?
- *    9  Is the caller's tally plus the limit at most 1,000,000,000,000?
+ *    9  Is the caller's tally plus the limit (of cadwezin_minimise, 120 times the limit) at most 1,000,000,000,000?
  *   10  Is the document whole, nothing after, with 1 to 1,024 nodes, parents by the rule and labels not 0?
  *   11  Is the list k fields, each below the document's count?
  *   12  Is the pattern's number 1 to 1 + the set's count and, where given, the position 1 to k?
@@ -56,6 +56,7 @@ extern "C" {
 #define CADWEZIN_TABLE_RECORDS 1024                    /* the least length of a table */
 #define CADWEZIN_LIMIT_MOST UINT64_C(1000000)          /* the greatest limit */
 #define CADWEZIN_TALLY_MOST UINT64_C(1000000000000)    /* what tally and limit may come to */
+#define CADWEZIN_MINIMISE_VERDICTS UINT64_C(120)       /* how many limits cadwezin_minimise asks room for in the tally */
 #define CADWEZIN_CASE_BYTES_MOST 65536                 /* the greatest length of a case */
 #define CADWEZIN_DOCUMENT_NODES_MOST 1024              /* the greatest count of a document */
 #define CADWEZIN_PATTERN_NODES_MOST 16                 /* the greatest count of a pattern */
@@ -67,7 +68,8 @@ extern "C" {
 #define CADWEZIN_NOT_CONTAINED UINT64_C(2) /* document 01: not included */
 #define CADWEZIN_STOPPED UINT64_C(3)
 
-/* For each caller, how many canonical documents (document 01: trials) were tried, over all of that caller's verdicts since it was set. */
+/* For each caller, how many canonical documents (document 01: trials) were tried, over all of that caller's verdicts since it was set,
+ * those that cadwezin_minimise makes among them. */
 struct cadwezin_tallies {
   uint64_t counts[CADWEZIN_CALLERS];
 };
@@ -75,6 +77,13 @@ struct cadwezin_tallies {
 struct cadwezin_verdict_answer {
   uint64_t refused;
   uint64_t kind;
+  uint64_t tried;
+};
+
+/* struck is how many nodes were struck, tried the sum over all verdicts made. */
+struct cadwezin_minimise_answer {
+  uint64_t refused;
+  uint64_t struck;
   uint64_t tried;
 };
 
@@ -153,6 +162,19 @@ struct cadwezin_count_answer cadwezin_upgrade(const uint8_t *case_bytes, size_t 
 /* From today's form back to the old one. Takes a case and an answer buffer. Questions 2 to 8, 15. Answers how many bytes the case has in
  * the old form, two fewer than it had, and writes them to the front of the answer buffer. cadwezin_upgrade gives the case back. */
 struct cadwezin_count_answer cadwezin_downgrade(const uint8_t *case_bytes, size_t case_length, uint8_t *answer, size_t answer_length);
+
+/* Striking out: what need the first pattern not say? Takes a case, a limit, a caller, the tallies and an answer buffer, as the verdict
+ * does. Questions 1 to 8, 16, 9, where 9 asks room for 120 times the limit. The set is asked about and not used. The pattern's leaves
+ * that hold no position, the root excepted, are tried, lowest number first: a leaf is struck if the pattern without it is contained in
+ * the pattern as it is now, by a verdict with this limit; then it starts over from the lowest, with the leaves that stayed too. A leaf
+ * stays where the verdict is stopped or not contained. It ends when no leaf goes. So in every document that conforms to the summary
+ * what is left has the results that the first pattern has. Answers how many nodes were struck and how many canonical documents all
+ * these verdicts tried, also those after which a leaf stayed, and adds the latter to the caller's tally. Writes to the front of the
+ * answer buffer: the section of what is left, records in their old order, with parents by their new numbers; then a count and the
+ * struck nodes, by their numbers in the case, in the order in which they were struck. Nothing struck: the pattern as it was and a
+ * count 0. At most 132 bytes. */
+struct cadwezin_minimise_answer cadwezin_minimise(const uint8_t *case_bytes, size_t case_length, uint64_t limit, uint64_t caller,
+                                                  struct cadwezin_tallies *tallies, uint8_t *answer, size_t answer_length);
 
 #ifdef __cplusplus
 }

@@ -1,4 +1,4 @@
-//! The eight calls, each with its questions in the order that the documents give;
+//! The nine calls, each with its questions in the order that the documents give;
 //! question 14 comes with those about the case, right after question 4, and
 //! question 16 just before question 9.
 //!
@@ -6,11 +6,16 @@
 //! record or tally is altered."
 
 use crate::embedding::{has, is_embedding, Shape};
+use crate::judging::{judge, own_result};
 use crate::old::{old_case, read_old_case, OldCase};
 use crate::records::{
-    ask, holder, read_case, read_list, read_volume, Case, OutlineNode, SelectionNode, VolumeNode,
+    ask, holder, read_case, read_list, read_volume, section_bytes, selection_row, Case,
+    OutlineNode, SelectionNode, VolumeNode,
 };
-use crate::trials::{each_placement, lay_out, outline_as_volume, strong_children, Trial};
+use crate::striking::{shorten, Shortened};
+use crate::trials::{lay_out, outline_as_volume, strong_children, Trial};
+
+pub use crate::judging::{INCLUDED, NONE, NOT_INCLUDED, STOPPED};
 
 const LIMIT: u64 = 1_000_000;
 const ANSWER_BYTES: usize = 4_096;
@@ -19,20 +24,26 @@ const TABLE_RECORDS: usize = 1_024;
 pub const TALLY_MOST: u64 = 1_000_000_000_000;
 /// "The single tally becomes eight".
 pub const CALLERS: usize = 8;
+/// "with 120 times the limit in question 9": 15 leaves are struck by no more than 15 + 14 + .. + 1
+/// verdicts.
+pub const VERDICTS_MOST: u64 = 120;
 
 /// One for each caller.
 pub type Tallies = [u64; CALLERS];
-
-pub const NONE: u64 = 0;
-pub const INCLUDED: u64 = 1;
-pub const NOT_INCLUDED: u64 = 2;
-pub const STOPPED: u64 = 3;
 
 /// `kind` is 0 none (refused), 1 included, 2 not included, 3 stopped.
 #[derive(Clone, Copy, Debug, Default, PartialEq, Eq)]
 pub struct VerdictAnswer {
     pub refused: u64,
     pub kind: u64,
+    pub tried: u64,
+}
+
+/// How many leaves were struck, and how many trials all verdicts made took.
+#[derive(Clone, Copy, Debug, Default, PartialEq, Eq)]
+pub struct MinimiseAnswer {
+    pub refused: u64,
+    pub struck: u64,
     pub tried: u64,
 }
 
@@ -220,6 +231,34 @@ pub fn downgrade(case: &[u8], answer: &mut [u8]) -> CountAnswer {
     write_moved(old.map(|old| old.bytes()), answer)
 }
 
+/// Striking out: "so the verdict's questions are put, with 120 times the limit in question 9".
+pub fn minimise(
+    case: &[u8],
+    limit: u64,
+    caller: u64,
+    tallies: &mut Tallies,
+    answer: &mut [u8],
+) -> MinimiseAnswer {
+    let (case, caller) = match minimise_questions(case, limit, caller, tallies, answer.len()) {
+        Ok(accepted) => accepted,
+        Err(refused) => {
+            return MinimiseAnswer {
+                refused,
+                ..Default::default()
+            }
+        }
+    };
+    let shortened = shorten(&case, limit);
+    write_shortened(&shortened, answer);
+    // "The trials go to the caller's tally".
+    tallies[caller] += shortened.tried;
+    MinimiseAnswer {
+        refused: 0,
+        struck: shortened.struck.len() as u64,
+        tried: shortened.tried,
+    }
+}
+
 /// The verdict's refusal alone, 0 where it is accepted; so for each call.
 pub fn verdict_refusal(
     case: &[u8],
@@ -267,25 +306,59 @@ pub fn downgrade_refusal(case: &[u8], answer_len: usize) -> u64 {
     refusal(downgrade_questions(case, answer_len))
 }
 
+pub fn minimise_refusal(
+    case: &[u8],
+    limit: u64,
+    caller: u64,
+    tallies: &Tallies,
+    answer_len: usize,
+) -> u64 {
+    refusal(minimise_questions(case, limit, caller, tallies, answer_len))
+}
+
 fn refusal<T>(questions: Result<T, u64>) -> u64 {
     questions.err().unwrap_or(0)
 }
 
 /// The case, and the place of the caller's tally.
+type TalliedInput = (Case, usize);
+
 fn verdict_questions(
     case: &[u8],
     limit: u64,
     caller: u64,
     tallies: &Tallies,
     answer_len: usize,
-) -> Result<(Case, usize), u64> {
+) -> Result<TalliedInput, u64> {
+    tallied_questions(case, limit, 1, caller, tallies, answer_len)
+}
+
+fn minimise_questions(
+    case: &[u8],
+    limit: u64,
+    caller: u64,
+    tallies: &Tallies,
+    answer_len: usize,
+) -> Result<TalliedInput, u64> {
+    tallied_questions(case, limit, VERDICTS_MOST, caller, tallies, answer_len)
+}
+
+/// The questions of a call that makes up to so many verdicts.
+fn tallied_questions(
+    case: &[u8],
+    limit: u64,
+    verdicts: u64,
+    caller: u64,
+    tallies: &Tallies,
+    answer_len: usize,
+) -> Result<TalliedInput, u64> {
     ask(1, (1..=LIMIT).contains(&limit))?;
     ask(2, answer_len >= ANSWER_BYTES)?;
     let case = read_case(case)?;
     ask(16, caller < CALLERS as u64)?;
     let caller = caller as usize;
     // A sum past 64 bits is past the bound too.
-    let sum = tallies[caller].checked_add(limit);
+    let sum = tallies[caller].checked_add(verdicts * limit);
     ask(9, sum.is_some_and(|sum| sum <= TALLY_MOST))?;
     Ok((case, caller))
 }
@@ -374,51 +447,6 @@ fn chosen(case: &Case, selection: u64) -> Result<Vec<SelectionNode>, u64> {
     case.selection(selection).cloned().ok_or(12)
 }
 
-/// The kind, how many were tried, and the earliest trial that does not pass.
-fn judge(case: &Case, limit: u64) -> (u64, u64, Option<Trial>) {
-    let set: Vec<Shape> = case.set.iter().map(|member| Shape::new(member)).collect();
-    let (mut kind, mut tried, mut failed) = (INCLUDED, 0, None);
-    each_placement(&case.outline, &case.first, |placement| {
-        if tried == limit {
-            // "the first L all pass and there are more"
-            kind = STOPPED;
-            return false;
-        }
-        tried += 1;
-        let trial = lay_out(&case.outline, &case.first, placement);
-        if passes(case, &trial, &set) {
-            return true;
-        }
-        kind = NOT_INCLUDED;
-        failed = Some(trial);
-        false
-    });
-    (kind, tried, failed)
-}
-
-/// "A trial passes if its result is a result of at least one of them": the
-/// first selection's own nodes at positions 1 to k, as one list.
-fn passes(case: &Case, trial: &Trial, set: &[Shape]) -> bool {
-    let volume: Vec<VolumeNode> = trial
-        .nodes
-        .iter()
-        .map(|node| VolumeNode {
-            parent: node.parent,
-            label: case.outline[node.outline].label,
-        })
-        .collect();
-    let result = own_result(case, trial);
-    set.iter().any(|member| member.is_result(&volume, &result))
-}
-
-/// The first selection's own nodes at positions 1 to k.
-fn own_result(case: &Case, trial: &Trial) -> Vec<usize> {
-    (1..=case.positions)
-        .filter_map(|position| holder(&case.first, position))
-        .map(|q| trial.own[q])
-        .collect()
-}
-
 /// "'Not included' writes the volume's section to the front of the answer
 /// buffer. The result follows from the byte after the last record, as a count
 /// k and k node numbers." At most 2 + 4 x 1,009 + 2 + 16 bytes.
@@ -437,6 +465,18 @@ fn write_trial(case: &Case, trial: &Trial, answer: &mut [u8]) {
     put(answer, &mut at, result.len());
     for v in result {
         put(answer, &mut at, v);
+    }
+}
+
+/// "The answer buffer's front gets the shortened selection's section, [...] then a count and the
+/// struck original numbers in striking order": at most 2 + 8 x 16 + 2 bytes.
+fn write_shortened(shortened: &Shortened, answer: &mut [u8]) {
+    let section = section_bytes(shortened.left.iter().map(selection_row));
+    answer[..section.len()].copy_from_slice(&section);
+    let mut at = section.len();
+    put(answer, &mut at, shortened.struck.len());
+    for &number in &shortened.struck {
+        put(answer, &mut at, number);
     }
 }
 

@@ -1,6 +1,6 @@
 //! `reference verdict`, `reference upgrade`, `reference downgrade`, `reference
-//! refusals`, `reference calls` and `reference case N`, each reading standard
-//! input.
+//! minimise`, `reference refusals`, `reference calls` and `reference case N`, each
+//! reading standard input.
 
 #![forbid(unsafe_code)]
 
@@ -14,6 +14,7 @@ use std::process::ExitCode;
 const USAGE: &str = "usage: reference verdict < CASE
        reference upgrade < OLD-CASE
        reference downgrade < CASE
+       reference minimise < CASE
        reference refusals < VECTORS
        reference calls < VECTORS
        reference case NUMBER < VECTORS";
@@ -25,6 +26,7 @@ fn main() -> ExitCode {
         ["verdict"] => input().map(|case| verdict_lines(&case).into_bytes()),
         ["upgrade"] => input().map(|case| moved(&case, reference::upgrade)),
         ["downgrade"] => input().map(|case| moved(&case, reference::downgrade)),
+        ["minimise"] => input().map(|case| minimise_lines(&case).into_bytes()),
         ["refusals"] => lines(|vector| vector.refusal().to_string()),
         ["calls"] => lines(|vector| vector.outcome()),
         ["case", number] => nth_case(number),
@@ -88,8 +90,22 @@ fn verdict_lines(case: &[u8]) -> String {
     };
     let mut text = format!("{kind}\ntried {}\n", got.tried);
     if got.kind == NOT_INCLUDED {
-        write_answer(&mut text, &answer);
+        write_fields::<2>(&mut text, &answer, "answer");
     }
+    text
+}
+
+/// What is left of the first selection, with the verdict program's limit, caller
+/// and tallies.
+fn minimise_lines(case: &[u8]) -> String {
+    let mut answer = [0; 4_096];
+    let mut tallies = [0; CALLERS];
+    let got = reference::minimise(case, 1_000_000, 0, &mut tallies, &mut answer);
+    if got.refused != 0 {
+        return format!("refused {}\n", got.refused);
+    }
+    let mut text = format!("tried {}\n", got.tried);
+    write_fields::<4>(&mut text, &answer, "struck");
     text
 }
 
@@ -105,21 +121,26 @@ fn moved(case: &[u8], call: fn(&[u8], &mut [u8]) -> CountAnswer) -> Vec<u8> {
     answer
 }
 
-/// "A node line has number, parent, label; the answer line lists the result by
-/// position, all in decimal."
-fn write_answer(text: &mut String, answer: &[u8]) {
-    let mut fields = answer
+/// A section as node lines, each record after its number, and the list that
+/// follows it as a line: "A node line has number, parent, label; the answer line
+/// lists the result by position, all in decimal."
+fn write_fields<const N: usize>(text: &mut String, answer: &[u8], list: &str) {
+    let fields: Vec<u16> = answer
         .chunks_exact(2)
-        .map(|field| u16::from_le_bytes([field[0], field[1]]));
-    let mut next = || fields.next().unwrap_or(0);
-    for number in 0..next() {
-        let (parent, label) = (next(), next());
-        // Writing to a string cannot fail.
-        let _ = writeln!(text, "node {number} {parent} {label}");
+        .map(|field| u16::from_le_bytes([field[0], field[1]]))
+        .collect();
+    let (records, rest) = fields[1..].split_at(N * usize::from(fields[0]));
+    for (number, record) in records.chunks(N).enumerate() {
+        write_line(text, &format!("node {number}"), record);
     }
-    text.push_str("answer");
-    for _ in 0..next() {
-        let _ = write!(text, " {}", next());
+    write_line(text, list, &rest[1..=usize::from(rest[0])]);
+}
+
+fn write_line(text: &mut String, name: &str, numbers: &[u16]) {
+    text.push_str(name);
+    for number in numbers {
+        // Writing to a string cannot fail.
+        let _ = write!(text, " {number}");
     }
     text.push('\n');
 }

@@ -282,7 +282,7 @@ pub(crate) fn outline_row(node: &OutlineNode) -> [u16; 3] {
     [node.parent as u16, node.label, node.strong.into()]
 }
 
-fn selection_row(node: &SelectionNode) -> [u16; 4] {
+pub(crate) fn selection_row(node: &SelectionNode) -> [u16; 4] {
     [
         node.parent as u16,
         node.label,

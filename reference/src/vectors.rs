@@ -11,6 +11,7 @@ pub const PATHS: u32 = 5;
 pub const LAYOUT: u32 = 6;
 pub const UPGRADE: u32 = 7;
 pub const DOWNGRADE: u32 = 8;
+pub const MINIMISE: u32 = 9;
 
 /// Lent bytes begin with this; lent table fields with it twice.
 pub const FILLING: u8 = 0xAA;
@@ -66,7 +67,7 @@ impl Vector {
         let case = read_bytes(rest)?;
         let volume = read_bytes(rest)?;
         let list = read_bytes(rest)?;
-        let known = (VERDICT..=DOWNGRADE).contains(&call) && length <= LENT_MOST;
+        let known = (VERDICT..=MINIMISE).contains(&call) && length <= LENT_MOST;
         known.then_some(Vector {
             call,
             limit,
@@ -84,10 +85,10 @@ impl Vector {
     /// The refusal number, 0 where the call is accepted.
     pub fn refusal(&self) -> u64 {
         let length = self.length as usize;
+        let (limit, caller) = (self.limit, self.caller);
         match self.call {
-            VERDICT => {
-                calls::verdict_refusal(&self.case, self.limit, self.caller, &self.tallies(), length)
-            }
+            VERDICT => calls::verdict_refusal(&self.case, limit, caller, &self.tallies(), length),
+            MINIMISE => calls::minimise_refusal(&self.case, limit, caller, &self.tallies(), length),
             FITS => calls::fits_refusal(&self.case, &self.volume),
             IS_RESULT => {
                 calls::result_refusal(&self.case, self.selection, &self.volume, &self.list)
@@ -109,7 +110,16 @@ impl Vector {
     /// The whole outcome on one line, the lent buffer or table included.
     pub fn outcome(&self) -> String {
         match self.call {
-            VERDICT => self.judged(),
+            VERDICT => self.tallied(|tallies, answer| {
+                let got = calls::verdict(&self.case, self.limit, self.caller, tallies, answer);
+                let fields = format!("verdict refused {} kind {}", got.refused, got.kind);
+                (fields, got.tried)
+            }),
+            MINIMISE => self.tallied(|tallies, answer| {
+                let got = calls::minimise(&self.case, self.limit, self.caller, tallies, answer);
+                let fields = format!("minimise refused {} struck {}", got.refused, got.struck);
+                (fields, got.tried)
+            }),
             FITS => {
                 let got = calls::fits(&self.case, &self.volume);
                 format!("fits refused {} holds {}", got.refused, u8::from(got.holds))
@@ -165,7 +175,7 @@ impl Vector {
         }
     }
 
-    /// The eight tallies before a verdict: the vector's for the caller, and for
+    /// The eight tallies before the call: the vector's for the caller, and for
     /// the others, who "may hold anything", something drawn from the vector.
     pub fn tallies(&self) -> Tallies {
         let mut tallies = std::array::from_fn(|other| self.drawn_tally(other as u64));
@@ -191,30 +201,19 @@ impl Vector {
         (index < CALLERS).then_some(index)
     }
 
-    /// The verdict's line, as of a call that is given its caller's tally as a
-    /// number; so the tallies are looked at here.
-    fn judged(&self) -> String {
+    /// The line of a call that raises its caller's tally by tried, as of one that
+    /// is given this tally as a number; so the tallies are looked at here. The
+    /// call gives the fields before tried, and tried.
+    fn tallied(&self, call: impl FnOnce(&mut Tallies, &mut [u8]) -> (String, u64)) -> String {
         let mut answer = vec![FILLING; self.length as usize];
         let mut tallies = self.tallies();
         let mut expected = tallies;
-        let got = calls::verdict(
-            &self.case,
-            self.limit,
-            self.caller,
-            &mut tallies,
-            &mut answer,
-        );
+        let (fields, tried) = call(&mut tallies, &mut answer);
         if let Some(own) = self.caller_index() {
-            expected[own] += got.tried;
+            expected[own] += tried;
         }
         assert_eq!(tallies, expected, "the tallies after the call");
-        format!(
-            "verdict refused {} kind {} tried {} {}",
-            got.refused,
-            got.kind,
-            got.tried,
-            seen(&answer, answer.len())
-        )
+        format!("{fields} tried {tried} {}", seen(&answer, answer.len()))
     }
 
     fn moved(&self, name: &str, call: fn(&[u8], &mut [u8]) -> CountAnswer) -> String {

@@ -27,7 +27,7 @@ impl Pattern {
 }
 
 /// For each caller, how many canonical documents were tried, over all of that caller's verdicts since
-/// it was made.
+/// it was made, those of [`crate::minimise`] among them.
 #[repr(C)]
 #[derive(Clone, Copy, Debug, Default, PartialEq, Eq)]
 pub struct Tallies {
@@ -53,6 +53,15 @@ pub enum Verdict {
         /// The limit.
         tried: u64,
     },
+}
+
+/// The answer of an accepted [`crate::minimise`].
+#[derive(Clone, Copy, Debug, PartialEq, Eq)]
+pub struct Minimised {
+    /// How many nodes were struck.
+    pub struck: u64,
+    /// How many canonical documents all verdicts made tried, also those after which a leaf stayed.
+    pub tried: u64,
 }
 
 /// For each node of a pattern, the paths that it takes in some placement.
@@ -102,7 +111,7 @@ impl Refusal {
             6 => "siblings in the summary share a label",
             7 => "a record of a pattern breaks the rules",
             8 => "the positions are not 1 to k, once each and the same in all patterns",
-            9 => "the caller's tally and the limit come to more than 1,000,000,000,000",
+            9 => "the caller's tally and what may be tried come to more than 1,000,000,000,000",
             10 => "the document is not whole or breaks the rules",
             11 => "the list is not one document node for each position",
             12 => "there is no such pattern or position",

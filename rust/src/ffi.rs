@@ -1,4 +1,4 @@
-//! The eight calls as the archive exports them: plain numbers in, answers in C's layout out. The only
+//! The nine calls as the archive exports them: plain numbers in, answers in C's layout out. The only
 //! module with unsafe code.
 //!
 //! Why the calls below are sound: the exported functions are proved for any bytes, any numbers and
@@ -21,6 +21,14 @@ pub const STOPPED: u64 = 3;
 pub struct VerdictAnswer {
     pub refused: u64,
     pub kind: u64,
+    pub tried: u64,
+}
+
+#[repr(C)]
+#[derive(Clone, Copy, Debug, PartialEq, Eq)]
+pub struct MinimiseAnswer {
+    pub refused: u64,
+    pub struck: u64,
     pub tried: u64,
 }
 
@@ -49,7 +57,9 @@ pub struct PathsAnswer {
 
 /// A slice is a pointer and a length.
 mod archive {
-    use super::{CountAnswer, NodeRecord, PathsAnswer, Tallies, TestAnswer, VerdictAnswer};
+    use super::{
+        CountAnswer, MinimiseAnswer, NodeRecord, PathsAnswer, Tallies, TestAnswer, VerdictAnswer,
+    };
 
     extern "C" {
         pub fn cadwezin_verdict(
@@ -115,6 +125,16 @@ mod archive {
             answer: *mut u8,
             answer_length: usize,
         ) -> CountAnswer;
+
+        pub fn cadwezin_minimise(
+            case: *const u8,
+            case_length: usize,
+            limit: u64,
+            caller: u64,
+            tallies: *mut Tallies,
+            answer: *mut u8,
+            answer_length: usize,
+        ) -> MinimiseAnswer;
     }
 }
 
@@ -212,5 +232,26 @@ pub fn downgrade(case: &[u8], answer: &mut [u8]) -> CountAnswer {
     // SAFETY: as in `verdict`.
     unsafe {
         archive::cadwezin_downgrade(case.as_ptr(), case.len(), answer.as_mut_ptr(), answer.len())
+    }
+}
+
+pub fn minimise(
+    case: &[u8],
+    limit: u64,
+    caller: u64,
+    tallies: &mut Tallies,
+    answer: &mut [u8],
+) -> MinimiseAnswer {
+    // SAFETY: as in `verdict`.
+    unsafe {
+        archive::cadwezin_minimise(
+            case.as_ptr(),
+            case.len(),
+            limit,
+            caller,
+            tallies,
+            answer.as_mut_ptr(),
+            answer.len(),
+        )
     }
 }

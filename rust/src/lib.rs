@@ -36,9 +36,9 @@ pub mod ffi;
 mod nodes;
 mod shown;
 
-pub use answers::{Paths, Pattern, Refusal, Tallies, Verdict};
+pub use answers::{Minimised, Paths, Pattern, Refusal, Tallies, Verdict};
 pub use nodes::{DocumentNode, NodeRecord, PatternNode, SummaryNode};
-pub use shown::{nodes_shown, Shown, ShownNode};
+pub use shown::{nodes_shown, LeftNode, Shortened, Shown, ShownNode};
 
 /// The least length of an answer buffer.
 pub const ANSWER_BYTES: usize = 4_096;
@@ -48,6 +48,8 @@ pub const TABLE_RECORDS: usize = 1_024;
 pub const LIMIT_MOST: u64 = 1_000_000;
 /// What a tally and a limit may come to.
 pub const TALLY_MOST: u64 = 1_000_000_000_000;
+/// How many limits [`minimise`] asks room for in the tally.
+pub const MINIMISE_VERDICTS: u64 = 120;
 /// The most members of a set.
 pub const MEMBERS_MOST: u64 = 8;
 /// How many callers there are, from 0 on.
@@ -141,4 +143,25 @@ pub fn upgrade<'a>(case: &[u8], answer: &'a mut [u8]) -> Result<&'a [u8], Refusa
 pub fn downgrade<'a>(case: &[u8], answer: &'a mut [u8]) -> Result<&'a [u8], Refusal> {
     let got = ffi::downgrade(case, answer);
     Refusal::or(got.refused, || &answer[..got.count as usize])
+}
+
+/// Strikes out what the first pattern need not say. Its leaves that hold no position, the root excepted,
+/// are tried, lowest number first: a leaf is struck if the pattern without it is contained in the pattern
+/// as it is now, by a verdict with this limit; then it starts over from the lowest, until no leaf goes. What
+/// is left has the first pattern's results in every document that conforms to the summary. The set is asked
+/// about and not used. The caller's tally grows by what all these verdicts tried. What is left and what was
+/// struck is written to the front of `answer`, for [`Shortened::read`]. Questions 1 to 8, 16, 9, where 9 asks
+/// room for [`MINIMISE_VERDICTS`] times the limit.
+pub fn minimise(
+    case: &[u8],
+    limit: u64,
+    caller: u64,
+    tallies: &mut Tallies,
+    answer: &mut [u8],
+) -> Result<Minimised, Refusal> {
+    let got = ffi::minimise(case, limit, caller, tallies, answer);
+    Refusal::or(got.refused, || Minimised {
+        struck: got.struck,
+        tried: got.tried,
+    })
 }

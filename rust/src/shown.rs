@@ -1,6 +1,6 @@
 //! Reading what a call wrote to the answer buffer.
 
-use crate::nodes::DocumentNode;
+use crate::nodes::{DocumentNode, PatternNode};
 
 /// A node of a shown document. The root's parent is node 0.
 #[derive(Clone, Copy, Debug, PartialEq, Eq)]
@@ -25,16 +25,49 @@ impl Shown {
     /// Reads it from the front of the answer buffer; `None` where the buffer ends within it.
     pub fn read(answer: &[u8]) -> Option<Shown> {
         let mut rest = answer;
-        let count = field(&mut rest)?;
-        let document = (0..count)
-            .map(|_| {
-                let parent = DocumentNode(field(&mut rest)?.into());
-                let label = field(&mut rest)?;
-                Some(ShownNode { parent, label })
-            })
-            .collect::<Option<_>>()?;
+        let document = counted(&mut rest, |[parent, label]| ShownNode {
+            parent: DocumentNode(parent.into()),
+            label,
+        })?;
         let result = nodes_shown(rest)?;
         Some(Shown { document, result })
+    }
+}
+
+/// A node of a pattern that was shortened. The root's parent is node 0.
+#[derive(Clone, Copy, Debug, PartialEq, Eq)]
+pub struct LeftNode {
+    /// The node above it, by its number in what is left.
+    pub parent: PatternNode,
+    /// Its label, or 0 for any.
+    pub label: u16,
+    /// Whether it is a descendant of its parent, and not a child.
+    pub descendant: bool,
+    /// The position that it holds, or 0.
+    pub position: u16,
+}
+
+/// What [`crate::minimise`] writes.
+#[derive(Clone, Debug, PartialEq, Eq)]
+pub struct Shortened {
+    /// The nodes that are left, in their old order.
+    pub left: Vec<LeftNode>,
+    /// The struck ones by their numbers in the case, in the order in which they were struck.
+    pub struck: Vec<PatternNode>,
+}
+
+impl Shortened {
+    /// Reads it from the front of the answer buffer; `None` where the buffer ends within it.
+    pub fn read(answer: &[u8]) -> Option<Shortened> {
+        let mut rest = answer;
+        let left = counted(&mut rest, |[parent, label, edge, position]| LeftNode {
+            parent: PatternNode(parent.into()),
+            label,
+            descendant: edge == 1,
+            position,
+        })?;
+        let struck = counted(&mut rest, |[node]| PatternNode(node.into()))?;
+        Some(Shortened { left, struck })
     }
 }
 
@@ -42,10 +75,20 @@ impl Shown {
 /// them; `None` where the buffer ends within them.
 pub fn nodes_shown(answer: &[u8]) -> Option<Vec<DocumentNode>> {
     let mut rest = answer;
-    let count = field(&mut rest)?;
-    (0..count)
-        .map(|_| field(&mut rest).map(|node| DocumentNode(node.into())))
-        .collect()
+    counted(&mut rest, |[node]| DocumentNode(node.into()))
+}
+
+/// A count and as many records of N fields; steps past them.
+fn counted<const N: usize, T>(rest: &mut &[u8], made: impl Fn([u16; N]) -> T) -> Option<Vec<T>> {
+    let count = field(rest)?;
+    let mut record = || {
+        let mut fields = [0; N];
+        for place in &mut fields {
+            *place = field(rest)?;
+        }
+        Some(made(fields))
+    };
+    (0..count).map(|_| record()).collect()
 }
 
 /// A field, low byte first, and steps past it.

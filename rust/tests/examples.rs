@@ -1,10 +1,11 @@
-//! E1 to E10 of document 01 through the library, sets, the old form, callers, and each call's way to
-//! refuse.
+//! E1 to E10 of document 01 through the library, sets, the old form, callers, striking out, and each
+//! call's way to refuse.
 
 use cadwezin::{
-    downgrade, fits, is_result, layout, nodes_at, nodes_shown, paths, upgrade, verdict,
-    DocumentNode, NodeRecord, Pattern, PatternNode, Refusal, Shown, ShownNode, SummaryNode,
-    Tallies, Verdict, ANSWER_BYTES, CALLERS, LIMIT_MOST, MEMBERS_MOST, TABLE_RECORDS, TALLY_MOST,
+    downgrade, fits, is_result, layout, minimise, nodes_at, nodes_shown, paths, upgrade, verdict,
+    DocumentNode, LeftNode, Minimised, NodeRecord, Pattern, PatternNode, Refusal, Shortened, Shown,
+    ShownNode, SummaryNode, Tallies, Verdict, ANSWER_BYTES, CALLERS, LIMIT_MOST, MEMBERS_MOST,
+    MINIMISE_VERDICTS, TABLE_RECORDS, TALLY_MOST,
 };
 
 const E1: &[u8] = include_bytes!("../../tests/examples/e1.case");
@@ -17,6 +18,9 @@ const E7: &[u8] = include_bytes!("../../tests/examples/e7.case");
 const E8_SAME: &[u8] = include_bytes!("../../tests/examples/e8-same.case");
 const E8_OTHER: &[u8] = include_bytes!("../../tests/examples/e8-other.case");
 const E9: &[u8] = include_bytes!("../../tests/examples/e9.case");
+
+/// /register/entry[date/year][place]//name, where each entry has a date and each date a year.
+const REGISTER: &[u8] = include_bytes!("../../tests/striking/register.case");
 
 /// E1 to E9 in the old form and with a set of one.
 const FILED: [(&[u8], &[u8]); 10] = [
@@ -332,6 +336,96 @@ fn callers_are_0_to_7() {
     assert_eq!(ask(E6, 7), 9);
 }
 
+#[test]
+fn an_order_loses_what_the_summary_grants() {
+    let (mut tallies, mut answer) = (Tallies { counts: ANYTHING }, [FILLING; ANSWER_BYTES]);
+    let got = minimise(REGISTER, LIMIT_MOST, 4, &mut tallies, &mut answer);
+    assert_eq!(
+        got,
+        Ok(Minimised {
+            struck: 2,
+            tried: 5
+        })
+    );
+    let mut counts = ANYTHING;
+    counts[4] += 5;
+    assert_eq!(tallies.counts, counts);
+    let node = |parent, label, descendant, position| LeftNode {
+        parent: PatternNode(parent),
+        label,
+        descendant,
+        position,
+    };
+    let shortened = Shortened {
+        left: vec![
+            node(0, 1, false, 0),
+            node(0, 2, false, 0),
+            node(1, 5, false, 0),
+            node(1, 6, true, 1),
+        ],
+        struck: vec![PatternNode(3), PatternNode(2)],
+    };
+    assert_eq!(Shortened::read(&answer), Some(shortened));
+    // Four records, their count, and a count and two numbers.
+    let written = 2 + 4 * 8 + 2 + 2 * 2;
+    assert!(answer[written..].iter().all(|&byte| byte == FILLING));
+    for cut in 0..written {
+        assert_eq!(Shortened::read(&answer[..cut]), None);
+    }
+}
+
+#[test]
+fn what_is_left_has_the_same_results() {
+    let (mut tallies, mut answer) = (Tallies::default(), [FILLING; ANSWER_BYTES]);
+    let got = minimise(REGISTER, LIMIT_MOST, 0, &mut tallies, &mut answer);
+    assert_eq!(
+        got,
+        Ok(Minimised {
+            struck: 2,
+            tried: 5
+        })
+    );
+    // The summary has eight records, the first pattern six.
+    let (summary, old) = (&REGISTER[..2 + 8 * 6], &REGISTER[50..50 + 2 + 6 * 8]);
+    let left = &answer[..2 + 4 * 8];
+    for [first, member] in [[old, left], [left, old]] {
+        let case = [summary, first, &[1, 0], member].concat();
+        assert_eq!(
+            judged(&case, LIMIT_MOST, &[]),
+            Verdict::Contained { tried: 2 }
+        );
+    }
+}
+
+#[test]
+fn striking_out_asks_room_for_120_verdicts() {
+    for (limit, caller) in [(1, 0), (3, 5), (LIMIT_MOST, 7)] {
+        let most = TALLY_MOST - MINIMISE_VERDICTS * limit;
+        let wrapped = u64::MAX - MINIMISE_VERDICTS * limit + 1;
+        for (tally, accepted) in [
+            (0, true),
+            (most, true),
+            (most + 1, false),
+            (TALLY_MOST - limit, false),
+            (wrapped, false),
+            (u64::MAX, false),
+        ] {
+            let mut counts = ANYTHING;
+            counts[caller] = tally;
+            let (mut tallies, mut answer) = (Tallies { counts }, [FILLING; ANSWER_BYTES]);
+            let got = minimise(REGISTER, limit, caller as u64, &mut tallies, &mut answer);
+            match got {
+                Ok(got) => counts[caller] += got.tried,
+                Err(refusal) => {
+                    assert_eq!(refusal.number(), 9);
+                    assert_eq!(answer, [FILLING; ANSWER_BYTES]);
+                }
+            }
+            assert_eq!((got.is_ok(), tallies.counts), (accepted, counts));
+        }
+    }
+}
+
 /// The number of a refusal.
 fn refused<T: std::fmt::Debug>(got: Result<T, Refusal>) -> u64 {
     got.expect_err("a refusal").number()
@@ -354,6 +448,14 @@ fn refusals_alter_nothing() {
     assert_eq!(ask(&[], 1, &mut answer), 3);
     assert_eq!(ask(&[0; 6], 1, &mut answer), 4);
     assert_eq!(ask(E6, 1, &mut answer), 9);
+    let mut strike = |case: &[u8], limit, caller, answer: &mut [u8]| {
+        refused(minimise(case, limit, caller, &mut tallies, answer))
+    };
+    assert_eq!(strike(REGISTER, 0, 0, &mut answer), 1);
+    assert_eq!(strike(REGISTER, 1, 0, short), 2);
+    assert_eq!(strike(&REGISTER[1..], 1, 0, &mut answer), 3);
+    assert_eq!(strike(REGISTER, 1, 8, &mut answer), 16);
+    assert_eq!(strike(REGISTER, 1, 7, &mut answer), 9);
     assert_eq!(tallies, full);
     assert_eq!(refused(fits(E6, &[])), 10);
     let document = bytes(&[1, 0, 1]);

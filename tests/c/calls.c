@@ -1,5 +1,6 @@
-/* The eight calls from C, by include/cadwezin.h: E6 and E10 of document 01, a set of two, E6 out of the old form and back, callers and
- * their tallies, empty slices with a null pointer, and refusals, which alter nothing. Prints how many answers were as they should be. */
+/* The nine calls from C, by include/cadwezin.h: E6 and E10 of document 01, a set of two, E6 out of the old form and back, callers and
+ * their tallies, an order that is shortened, empty slices with a null pointer, and refusals, which alter nothing. Prints how many
+ * answers were as they should be. */
 #include "cadwezin.h"
 #include <stdio.h>
 #include <stdlib.h>
@@ -21,6 +22,13 @@ static const uint8_t unheld[] = {SUMMARY, FIRST, 1, 0, 1, 0, 0, 0, 1, 0, 0, 0, 0
 static const uint8_t document[] = {3, 0, 0, 0, 1, 0, 0, 0, 2, 0, 1, 0, 3, 0};
 static const uint8_t node_2[] = {2, 0};
 static const uint8_t placement[] = {0, 0, 2, 0};
+
+/* Summary r(a(b), c), where b, and then a, is granted; first pattern r(a(b), c) with position 1 at the root. What is left is r(c). */
+#define RECORD(parent, label, edge, position) parent, 0, label, 0, edge, 0, position, 0
+#define GRANTED 4, 0, 0, 0, 1, 0, 0, 0, 0, 0, 2, 0, 1, 0, 1, 0, 3, 0, 1, 0, 0, 0, 4, 0, 0, 0
+#define WORDY 4, 0, RECORD(0, 1, 0, 1), RECORD(0, 2, 0, 0), RECORD(1, 3, 0, 0), RECORD(0, 4, 0, 0)
+static const uint8_t order[] = {GRANTED, WORDY, 1, 0, 1, 0, RECORD(0, 1, 0, 1)};
+static const uint8_t left_over[] = {2, 0, RECORD(0, 1, 0, 1), RECORD(0, 4, 0, 0), 2, 0, 2, 0, 1, 0};
 
 static uint8_t answer[CADWEZIN_ANSWER_BYTES + 1];
 static struct cadwezin_node_record table[CADWEZIN_TABLE_RECORDS + 1];
@@ -189,6 +197,56 @@ static void tallies_of_callers(void) {
   }
 }
 
+/* Striking out by a caller, with all that is lent. */
+static struct cadwezin_minimise_answer strike(const uint8_t *bytes, size_t length, uint64_t limit, uint64_t caller) {
+  const struct cadwezin_minimise_answer got = cadwezin_minimise(bytes, length, limit, caller, &tallies, answer, sizeof answer);
+  if (caller < CADWEZIN_CALLERS) {
+    wanted.counts[caller] += got.tried;
+  }
+  return got;
+}
+
+/* b goes, then a, then c stays: one trial each. */
+static void struck(uint64_t limit, uint64_t caller, uint64_t tally) {
+  fill();
+  set_tally(caller, tally);
+  const struct cadwezin_minimise_answer got = strike(order, sizeof order, limit, caller);
+  hold(got.refused == 0 && got.struck == 2 && got.tried == 3, "an order that is shortened");
+  hold(memcmp(answer, left_over, sizeof left_over) == 0, "what is left of an order");
+  hold(untouched(sizeof left_over, 0) && tallies.counts[caller] == tally + 3, "what striking out leaves alone");
+}
+
+static void not_struck(const uint8_t *bytes, size_t length, uint64_t limit, uint64_t caller, uint64_t refused) {
+  const struct cadwezin_minimise_answer got = strike(bytes, length, limit, caller);
+  hold(got.refused == refused && got.struck == 0 && got.tried == 0, "an order that is refused");
+  hold(untouched(0, 0), "what a refused order leaves alone");
+}
+
+/* Each caller's tally with room for 120 times the limit, and with less; and refusals by the other questions. */
+static void strikes(void) {
+  static const uint64_t limits[] = {1, 5, CADWEZIN_LIMIT_MOST};
+  for (size_t caller = 0; caller < CADWEZIN_CALLERS; caller++) {
+    for (size_t i = 0; i < COUNT(limits); i++) {
+      const uint64_t room = CADWEZIN_MINIMISE_VERDICTS * limits[i];
+      const uint64_t full[] = {CADWEZIN_TALLY_MOST - room + 1, CADWEZIN_TALLY_MOST - limits[i], UINT64_MAX - room + 1, UINT64_MAX};
+      struck(limits[i], caller, 0);
+      struck(limits[i], caller, CADWEZIN_TALLY_MOST - room);
+      fill();
+      for (size_t j = 0; j < COUNT(full); j++) {
+        set_tally(caller, full[j]);
+        not_struck(order, sizeof order, limits[i], caller, 9);
+      }
+    }
+  }
+  fill();
+  not_struck(order, sizeof order, 0, 8, 1);
+  not_struck(order, sizeof order - 1, 1, 8, 3);
+  not_struck(none, sizeof none, 1, 8, 14);
+  not_struck(unheld, sizeof unheld, 1, 8, 8);
+  not_struck(order, sizeof order, 1, CADWEZIN_CALLERS, 16);
+  not_struck(order, sizeof order, 1, UINT64_MAX, 16);
+}
+
 /* Callers that there are not: after question 8, before question 9, with no tally touched. */
 static void callers(void) {
   static const uint64_t nobody[] = {8, 9, 255, 256, 65536, UINT64_C(1) << 32, (UINT64_C(1) << 32) + 7, UINT64_C(1) << 63, UINT64_MAX};
@@ -210,6 +268,10 @@ static void empty(void) {
   hold(verdict.refused == 3 && verdict.kind == 0 && verdict.tried == 0, "a verdict on nothing");
   verdict = cadwezin_verdict(e6, sizeof e6, 1, 0, &tallies, NULL, 0);
   hold(verdict.refused == 2 && verdict.kind == 0 && verdict.tried == 0, "a verdict without a buffer");
+  struct cadwezin_minimise_answer shorter = cadwezin_minimise(NULL, 0, 1, 0, &tallies, answer, sizeof answer);
+  hold(shorter.refused == 3 && shorter.struck == 0 && shorter.tried == 0, "striking out of nothing");
+  shorter = cadwezin_minimise(order, sizeof order, 1, 0, &tallies, NULL, 0);
+  hold(shorter.refused == 2 && shorter.struck == 0 && shorter.tried == 0, "striking out without a buffer");
   struct cadwezin_test_answer test = cadwezin_fits(NULL, 0, NULL, 0);
   hold(test.refused == 3 && test.holds == 0, "fits of nothing");
   test = cadwezin_fits(e6, sizeof e6, NULL, 0);
@@ -248,6 +310,7 @@ int main(void) {
   moves();
   tallies_of_callers();
   callers();
+  strikes();
   empty();
   printf("calls: %u answers from C as they should be\n", held);
   return 0;

@@ -1,4 +1,4 @@
-/* The stack that each of the eight calls takes. Each call has a stack of its own, painted beforehand, on which it runs with the heaviest
+/* The stack that each of the nine calls takes. Each call has a stack of its own, painted beforehand, on which it runs with the heaviest
  * inputs there are and with every refusal; the lowest byte that has lost its paint tells how far down it went. Each answer is held to
  * what it should be, so that the heavy ways are really taken. Prints a line, and fails above what include/cadwezin.h promises. */
 #define _XOPEN_SOURCE 700
@@ -13,8 +13,8 @@
 #define PAINT 0xC5
 #define SHOWN_MOST 946
 
-enum call { VERDICT, FITS, RESULT, NODES, PATHS, LAYOUT, UPGRADE, DOWNGRADE, CALLS };
-static const char *const names[CALLS] = {"verdict", "fits", "result", "nodes", "paths", "layout", "upgrade", "downgrade"};
+enum call { VERDICT, FITS, RESULT, NODES, PATHS, LAYOUT, UPGRADE, DOWNGRADE, MINIMISE, CALLS };
+static const char *const names[CALLS] = {"verdict", "fits", "result", "nodes", "paths", "layout", "upgrade", "downgrade", "minimise"};
 
 /* Bytes in the making. */
 struct bytes {
@@ -22,7 +22,7 @@ struct bytes {
   size_t length;
 };
 
-/* What a call is asked and what it answers: value is the kind, holds or the count. */
+/* What a call is asked and what it answers: value is the kind, holds, the count or how many were struck. */
 static struct {
   enum call call;
   struct bytes given, document, list;
@@ -47,6 +47,10 @@ static void make_call(void) {
     const struct cadwezin_verdict_answer got =
         cadwezin_verdict(given, length, asked.limit, asked.caller, &tallies, answer, asked.answer_length);
     asked.refused = got.refused, asked.value = got.kind;
+  } else if (asked.call == MINIMISE) {
+    const struct cadwezin_minimise_answer got =
+        cadwezin_minimise(given, length, asked.limit, asked.caller, &tallies, answer, asked.answer_length);
+    asked.refused = got.refused, asked.value = got.struck;
   } else if (asked.call == FITS) {
     const struct cadwezin_test_answer got = cadwezin_fits(given, length, document, document_length);
     asked.refused = got.refused, asked.value = got.holds;
@@ -196,6 +200,21 @@ static void put_deep(void) {
   }
 }
 
+/* A pattern of 16 nodes with position 1 at the root: nodes that hang from it, or one from another. */
+static void put_order(unsigned label, unsigned step, unsigned edge, int chained) {
+  put(&asked.given, 16);
+  for (unsigned q = 0; q < 16; q++) {
+    put_node(q > 0 && chained ? q - 1 : 0, q == 0 ? 1 : label + step * q, q > 0 ? edge : 0, q == 0);
+  }
+}
+
+/* A set of one, which has position 1 at its root. */
+static void put_any_set(void) {
+  put(&asked.given, 1);
+  put(&asked.given, 1);
+  put_node(0, 0, 0, 1);
+}
+
 /* What every call takes where nothing else is said. */
 static void ask_whole(void) {
   asked.limit = CADWEZIN_LIMIT_MOST;
@@ -236,6 +255,39 @@ static void stepped(void) {
   expect(VERDICT, 0, CADWEZIN_STOPPED, "skipping by turns");
   put_deep();
   expect(VERDICT, 0, CADWEZIN_NOT_CONTAINED, "asking in vain");
+}
+
+/* Orders of 16 nodes: all that strong edges grant, one below another or at the bottom of the line; equal ones, of which one is left; a
+ * chain that nothing grants; free ones, whose verdicts are stopped; and the patterns whose verdicts go deep. Of those by turns a free node
+ * goes first, with 2 x 63^3 trials, and then all that says the same again. */
+static void struck(void) {
+  ask_whole();
+  put_line(1);
+  put_order(1, 1, 0, 1);
+  put_any_set();
+  expect(MINIMISE, 0, 15, "a granted chain");
+  put_line(1);
+  put_order(64, 0, 1, 0);
+  put_any_set();
+  expect(MINIMISE, 0, 15, "granted at the bottom");
+  put_line(0);
+  put_order(64, 0, 1, 0);
+  put_any_set();
+  expect(MINIMISE, 0, 14, "equal ones");
+  put_line(0);
+  put_order(1, 1, 0, 1);
+  put_any_set();
+  expect(MINIMISE, 0, 0, "a chain that stays");
+  for (int chained = 0; chained <= 1; chained++) {
+    put_line(1);
+    put_order(0, 0, 1, chained);
+    put_any_set();
+    expect(MINIMISE, 0, 0, "stopped");
+  }
+  put_alternatives();
+  expect(MINIMISE, 0, 12, "stopped, and then not, by turns");
+  put_deep();
+  expect(MINIMISE, 0, 0, "nothing but a position");
 }
 
 /* The calls over a document of 1,024 nodes: one chain, chains that fit the summary, and all below the root. Of a chained pattern the
@@ -315,7 +367,7 @@ static void refusals(void) {
   static const unsigned questions[CALLS][12] = {
       {1, 2, 3, 4, 14, 5, 6, 7, 8, 16, 9}, {3, 4, 14, 5, 6, 7, 8, 10}, {3, 4, 14, 5, 6, 7, 8, 10, 12, 11},
       {2, 3, 4, 14, 5, 6, 7, 8, 10, 12},   {3, 4, 14, 5, 6, 7, 8, 12}, {2, 3, 4, 14, 5, 6, 7, 8, 12, 13},
-      {2, 3, 4, 5, 6, 7, 8},               {2, 3, 4, 14, 5, 6, 7, 8, 15}};
+      {2, 3, 4, 5, 6, 7, 8},               {2, 3, 4, 14, 5, 6, 7, 8, 15}, {1, 2, 3, 4, 14, 5, 6, 7, 8, 16, 9}};
   for (enum call call = 0; call < CALLS; call++) {
     for (const unsigned *question = questions[call]; *question != 0; question++) {
       ask_whole();
@@ -345,6 +397,7 @@ int main(void) {
   shown(0, 63);
   shown(1, 1);
   stepped();
+  struck();
   documents();
   moved();
   refusals();

@@ -1,10 +1,10 @@
 //! `generate boundaries`, `generate stored`, `generate random SEED COUNT`,
-//! `generate cases SEED COUNT`, `generate layouts SEED COUNT` and `generate many
-//! SEED COUNT` write test vectors to standard output.
+//! `generate cases SEED COUNT`, `generate layouts SEED COUNT`, `generate many SEED
+//! COUNT` and `generate strikes SEED COUNT` write test vectors to standard output.
 
 #![forbid(unsafe_code)]
 
-use reference::generate::{boundaries, cases, layouts, many, random, stored};
+use reference::generate::{boundaries, cases, layouts, many, random, stored, strikes};
 use reference::vectors::Vector;
 use std::io::{self, Write};
 use std::process::ExitCode;
@@ -14,7 +14,8 @@ const USAGE: &str = "usage: generate boundaries
        generate random SEED COUNT
        generate cases SEED COUNT
        generate layouts SEED COUNT
-       generate many SEED COUNT";
+       generate many SEED COUNT
+       generate strikes SEED COUNT";
 
 fn main() -> ExitCode {
     let words: Vec<String> = std::env::args().skip(1).collect();
@@ -26,6 +27,7 @@ fn main() -> ExitCode {
         ["cases", seed, count] => seeded(seed, count, cases),
         ["layouts", seed, count] => seeded(seed, count, layouts),
         ["many", seed, count] => seeded(seed, count, many),
+        ["strikes", seed, count] => seeded(seed, count, strikes),
         _ => None,
     };
     match vectors {

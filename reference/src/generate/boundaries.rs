@@ -1,13 +1,14 @@
-//! Every boundary of every question, through all eight calls.
+//! Every boundary of every question, through all nine calls.
 
 use super::callers;
 use super::changes::{changes, lone_changes, long_changes, tallies, Change};
 use super::layouts::layouts;
-use super::plan::{questions, OutlineRow, Plan, SelectionRow, CALLS, MOVES};
+use super::plan::{questions, OutlineRow, Plan, SelectionRow, CALLS, MOVES, TALLIED};
+use super::strikes;
 use crate::calls::CALLERS;
 use crate::records::{read_case, SET_SELECTIONS};
 use crate::trials::each_placement;
-use crate::vectors::{Vector, FITS, IS_RESULT, LAYOUT, NODES_AT, VERDICT};
+use crate::vectors::{Vector, FITS, IS_RESULT, LAYOUT, NODES_AT};
 
 pub fn boundaries() -> Vec<Vector> {
     let (small, lone, long) = (changes(), lone_changes(), long_changes());
@@ -31,7 +32,7 @@ pub fn boundaries() -> Vec<Vector> {
 }
 
 /// Few and short enough to be stored: what is not broken or broken singly,
-/// some pairs and cuts, and a few layouts.
+/// some pairs and cuts, a few layouts, and orders to be shortened.
 pub fn stored() -> Vec<Vector> {
     const BYTES: usize = 900;
     const PAIRS: usize = 63;
@@ -48,6 +49,7 @@ pub fn stored() -> Vec<Vector> {
     }
     out.retain(|vector| vector.case.len() + vector.volume.len() < BYTES);
     out.extend(layouts(1, 20));
+    out.extend(strikes::fixed());
     let mut out = callers::by_turns(out);
     out.extend(tallies_of_each());
     out
@@ -56,9 +58,11 @@ pub fn stored() -> Vec<Vector> {
 /// Each caller's tally at every bound.
 fn tallies_of_each() -> Vec<Vector> {
     let mut out = Vec::new();
-    for caller in 0..CALLERS as u64 {
-        let plan = Plan { caller, ..rich() };
-        out.extend(singly(VERDICT, &plan, &tallies()));
+    for call in TALLIED {
+        for caller in 0..CALLERS as u64 {
+            let plan = Plan { caller, ..rich() };
+            out.extend(singly(call, &plan, &tallies()));
+        }
     }
     out
 }
@@ -530,8 +534,11 @@ mod tests {
     #[test]
     fn each_caller_is_refused_and_accepted_at_every_bound() {
         let all = tallies_of_each();
-        for caller in 0..CALLERS as u64 {
-            let own = all.iter().filter(|vector| vector.caller == caller);
+        for (call, caller) in TALLIED
+            .into_iter()
+            .flat_map(|call| (0..8).map(move |c| (call, c)))
+        {
+            let own = all.iter().filter(|v| (v.call, v.caller) == (call, caller));
             let refusals: Vec<u64> = own.map(Vector::refusal).collect();
             assert_eq!(refusals, [9, 9, 9, 9, 9, 9, 0, 0]);
         }

@@ -1,9 +1,10 @@
-//! Whose a verdict is. It is drawn apart from everything else, so that one seed
+//! Whose a verdict or a striking out is. It is drawn apart from everything else, so that one seed
 //! gives the same cases, limits and tallies whoever calls.
 
+use super::plan::TALLIED;
 use super::prng::Prng;
 use crate::calls::CALLERS;
-use crate::vectors::{Vector, VERDICT};
+use crate::vectors::Vector;
 
 const WIDE: u64 = 1 << 32;
 
@@ -27,10 +28,11 @@ pub const REFUSED: [u64; 15] = [
     u64::MAX,
 ];
 
-/// A caller for each verdict; so many in a hundred have one that is refused.
+/// A caller for each call that has one; so many in a hundred have one that is
+/// refused.
 pub fn draw(seed: u64, refused: usize, mut vectors: Vec<Vector>) -> Vec<Vector> {
     let mut prng = Prng::new(!seed);
-    for vector in verdicts(&mut vectors) {
+    for vector in tallied(&mut vectors) {
         vector.caller = match prng.one_of(&REFUSED) {
             Some(&caller) if prng.percent(refused) => caller,
             _ => prng.below(CALLERS) as u64,
@@ -39,15 +41,17 @@ pub fn draw(seed: u64, refused: usize, mut vectors: Vec<Vector>) -> Vec<Vector> 
     vectors
 }
 
-/// The eight callers by turns, where a verdict's caller is one of them.
+/// The eight callers by turns, where a call's own is one of them.
 pub fn by_turns(mut vectors: Vec<Vector>) -> Vec<Vector> {
-    let accepted = verdicts(&mut vectors).filter(|vector| vector.caller < CALLERS as u64);
+    let accepted = tallied(&mut vectors).filter(|vector| vector.caller < CALLERS as u64);
     for (turn, vector) in accepted.enumerate() {
         vector.caller = (turn % CALLERS) as u64;
     }
     vectors
 }
 
-fn verdicts(vectors: &mut [Vector]) -> impl Iterator<Item = &mut Vector> {
-    vectors.iter_mut().filter(|vector| vector.call == VERDICT)
+fn tallied(vectors: &mut [Vector]) -> impl Iterator<Item = &mut Vector> {
+    vectors
+        .iter_mut()
+        .filter(|vector| TALLIED.contains(&vector.call))
 }

@@ -159,17 +159,18 @@ pub fn tallies() -> Vec<Change> {
     let mut all = Vec::new();
     for over in [1, 2, 1_000_000] {
         all.push(change(9, move |plan| {
-            plan.tally = TALLY_MOST.saturating_sub(plan.limit) + over
+            plan.tally = TALLY_MOST.saturating_sub(plan.room_asked()) + over
         }));
     }
     all.push(change(9, |plan| plan.tally = u64::MAX));
-    all.push(change(9, |plan| plan.tally = u64::MAX - plan.limit));
+    all.push(change(9, |plan| plan.tally = u64::MAX - plan.room_asked()));
+    // The sum, cut to 64 bits, is 0.
     all.push(change(9, |plan| {
-        plan.tally = (u64::MAX - plan.limit).wrapping_add(1)
+        plan.tally = (u64::MAX - plan.room_asked()).wrapping_add(1)
     }));
     for under in [0, 1] {
         all.push(change(0, move |plan| {
-            plan.tally = TALLY_MOST.saturating_sub(plan.limit + under)
+            plan.tally = TALLY_MOST.saturating_sub(plan.room_asked().saturating_add(under))
         }));
     }
     all

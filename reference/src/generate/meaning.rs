@@ -1,15 +1,16 @@
 //! What the answers mean, tried on random plans: a verdict's answer against
 //! fitting volumes, and the calls against each other.
 
-use super::plan::{put_fields, put_section, Plan, Set};
+use super::plan::{put_fields, put_section, Plan, SelectionRow, Set};
 use super::prng::Prng;
 use super::random::{around_embedding, random, result, selections};
 use super::sets::rearrange;
+use super::strikes;
 use super::trees;
 use crate::calls::{INCLUDED, NOT_INCLUDED, STOPPED};
 use crate::old::read_old_case;
 use crate::records::{holder, read_case};
-use crate::trials::{each_placement, lay_out};
+use crate::trials::{count_placements, each_placement, lay_out};
 use crate::vectors::UPGRADE;
 use crate::*;
 
@@ -250,4 +251,153 @@ fn an_old_case_moved_over_is_judged_by_its_second_selection() {
         seen += u32::from(got.tried > 0);
     }
     assert!(seen > 100);
+}
+
+/// An order of the generator, and what striking out with a limit leaves of it.
+struct Struck {
+    plan: Plan,
+    limit: u64,
+    left: Vec<SelectionRow>,
+    numbers: Vec<u16>,
+    tried: u64,
+}
+
+impl Struck {
+    fn drawn(prng: &mut Prng) -> Struck {
+        let plan = strikes::order(prng);
+        let limit = strikes::limit(prng, &plan, strikes::TRIALS_MOST);
+        let mut answer = [0xAA; 4_096];
+        let mut tallies = [0; CALLERS];
+        let got = minimise(&plan.case_bytes(), limit, 0, &mut tallies, &mut answer);
+        assert_eq!((got.refused, tallies[0]), (0, got.tried));
+        let fields: Vec<u16> = answer
+            .chunks(2)
+            .map(|field| u16::from_le_bytes([field[0], field[1]]))
+            .collect();
+        let (rows, rest) = fields[1..].split_at(4 * usize::from(fields[0]));
+        let left = rows.chunks(4).map(|row| [row[0], row[1], row[2], row[3]]);
+        assert_eq!(u64::from(rest[0]), got.struck);
+        Struck {
+            left: left.collect(),
+            numbers: rest[1..=got.struck as usize].to_vec(),
+            tried: got.tried,
+            plan,
+            limit,
+        }
+    }
+
+    /// A plan over the same outline, with a set of one.
+    fn with(&self, first: &[SelectionRow], member: &[SelectionRow]) -> Plan {
+        Plan {
+            first: first.to_vec(),
+            set: vec![member.to_vec()],
+            ..self.plan.clone()
+        }
+    }
+}
+
+/// "its leaves without a position, root excepted, lowest number first"
+fn leaves(rows: &[SelectionRow]) -> Vec<usize> {
+    let has_child = |q: usize| rows[1..].iter().any(|row| usize::from(row[0]) == q);
+    (1..rows.len())
+        .filter(|&q| rows[q][3] == 0 && !has_child(q))
+        .collect()
+}
+
+fn without(rows: &[SelectionRow], leaf: usize) -> Vec<SelectionRow> {
+    let mut rows = rows.to_vec();
+    trees::remove(&mut rows, leaf);
+    rows
+}
+
+/// "The two selections have the same results in every fitting volume": by verdicts
+/// both ways round, and in fitting volumes.
+#[test]
+fn a_shortened_order_has_the_same_results() {
+    const MOST: u64 = 400;
+    let mut prng = Prng::new(18);
+    let (mut shorter, mut whole, mut seen) = (0, 0, 0);
+    for _ in 0..250 {
+        let struck = Struck::drawn(&mut prng);
+        shorter += u32::from(!struck.numbers.is_empty());
+        let (old, new) = (&struck.plan.first, &struck.left);
+        for (first, member) in [(old, new), (new, old)] {
+            let mut plan = struck.with(first, member);
+            let case = read_case(&plan.case_bytes()).expect("the plan is accepted");
+            let all = count_placements(&case.outline, &case.first);
+            let expected = if all <= MOST { INCLUDED } else { STOPPED };
+            let got = plan.judged(MOST);
+            assert_eq!((got.kind, got.tried), (expected, all.min(MOST)));
+            whole += u32::from(all <= MOST);
+            plan.selection = 1;
+            plan.volume = around_embedding(&mut prng, &plan, 40);
+            let (case, volume) = (plan.case_bytes(), volume_bytes(&plan.volume));
+            let list = list_bytes(&result(&mut prng, &plan));
+            if fits(&case, &volume).holds {
+                let holds = |number| is_result(&case, number, &volume, &list).holds;
+                assert_eq!(holds(1), holds(2));
+                seen += u32::from(holds(1));
+            }
+        }
+    }
+    assert!(
+        shorter > 100 && whole > 300,
+        "{shorter} shorter, {whole} whole"
+    );
+    assert!(seen > 150, "{seen} results");
+}
+
+/// The tool worked out from verdicts alone, on cases of bytes: what goes, in which
+/// order, what all of it takes, and that "no remaining such leaf would be struck".
+#[test]
+fn leaves_are_struck_by_verdicts_on_cases() {
+    let mut prng = Prng::new(19);
+    let (mut not_ascending, mut paid_again, mut stopped) = (0, 0, 0);
+    for _ in 0..250 {
+        let struck = Struck::drawn(&mut prng);
+        let mut rows = struck.plan.first.clone();
+        let mut numbers: Vec<u16> = (0..rows.len() as u16).collect();
+        let (mut order, mut tried, mut from) = (Vec::new(), 0, 0);
+        while let Some(&leaf) = leaves(&rows).get(from) {
+            let got = struck
+                .with(&without(&rows, leaf), &rows)
+                .judged(struck.limit);
+            assert_eq!(got.refused, 0);
+            tried += got.tried;
+            if got.kind == INCLUDED {
+                order.push(numbers.remove(leaf));
+                rows = without(&rows, leaf);
+                paid_again += from;
+                from = 0;
+            } else {
+                stopped += u32::from(got.kind == STOPPED);
+                from += 1;
+            }
+        }
+        assert_eq!(
+            (&rows, &order, tried),
+            (&struck.left, &struck.numbers, struck.tried)
+        );
+        not_ascending += u32::from(!order.is_sorted());
+    }
+    assert!(not_ascending > 25, "{not_ascending} not ascending");
+    assert!(
+        paid_again > 25,
+        "{paid_again} leaves kept before one that goes"
+    );
+    assert!(stopped > 25, "{stopped} stopped");
+}
+
+#[test]
+fn the_set_does_not_matter_to_striking_out() {
+    let mut prng = Prng::new(20);
+    for _ in 0..100 {
+        let mut struck = Struck::drawn(&mut prng);
+        let before = struck.plan.minimised(struck.limit);
+        let member = struck.plan.first.clone();
+        struck.plan.set = (0..prng.between(1, 8))
+            .map(|_| trees::weaken(&mut prng, &member))
+            .collect();
+        assert_eq!(struck.plan.minimised(struck.limit), before);
+    }
 }

@@ -3,7 +3,8 @@
 //! singly and in pairs, `trees` draws outlines, selections and volumes, `sets`
 //! draws sets, and `random`, `cases` and `layouts` put them together; `many` has
 //! verdicts over very many placements, and `turns` those of them that pass by
-//! turns and fail at a rank that is chosen. `callers` says whose a verdict is.
+//! turns and fail at a rank that is chosen. `strikes` has orders to be shortened.
+//! `callers` says whose a verdict or a striking out is.
 
 mod boundaries;
 mod callers;
@@ -17,6 +18,7 @@ mod plan;
 mod prng;
 mod random;
 mod sets;
+mod strikes;
 mod trees;
 mod turns;
 
@@ -26,3 +28,4 @@ pub use layouts::layouts;
 pub use many::many;
 pub use prng::Prng;
 pub use random::random;
+pub use strikes::strikes;

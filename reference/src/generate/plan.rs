@@ -1,14 +1,16 @@
 //! A call being built: rows of numbers that still can be spoilt, and how they
 //! become a vector.
 
-use crate::calls::{verdict, VerdictAnswer, CALLERS};
+use crate::calls::{minimise, verdict, MinimiseAnswer, VerdictAnswer, CALLERS, VERDICTS_MOST};
 use crate::vectors::{
-    Vector, DOWNGRADE, FITS, IS_RESULT, LAYOUT, NODES_AT, PATHS, UPGRADE, VERDICT,
+    Vector, DOWNGRADE, FITS, IS_RESULT, LAYOUT, MINIMISE, NODES_AT, PATHS, UPGRADE, VERDICT,
 };
 
-pub const CALLS: [u32; 8] = [
-    VERDICT, FITS, IS_RESULT, NODES_AT, PATHS, LAYOUT, UPGRADE, DOWNGRADE,
+pub const CALLS: [u32; 9] = [
+    VERDICT, FITS, IS_RESULT, NODES_AT, PATHS, LAYOUT, UPGRADE, DOWNGRADE, MINIMISE,
 ];
+/// Those that have a limit, a caller and tallies.
+pub const TALLIED: [u32; 2] = [VERDICT, MINIMISE];
 /// Those that move a case from one form to the other.
 pub const MOVES: [u32; 2] = [UPGRADE, DOWNGRADE];
 
@@ -20,7 +22,7 @@ pub type VolumeRow = [u16; 2];
 /// The questions of a call, in its order.
 pub fn questions(call: u32) -> &'static [u64] {
     match call {
-        VERDICT => &[1, 2, 3, 4, 14, 5, 6, 7, 8, 16, 9],
+        VERDICT | MINIMISE => &[1, 2, 3, 4, 14, 5, 6, 7, 8, 16, 9],
         FITS => &[3, 4, 14, 5, 6, 7, 8, 10],
         IS_RESULT => &[3, 4, 14, 5, 6, 7, 8, 10, 12, 11],
         NODES_AT => &[2, 3, 4, 14, 5, 6, 7, 8, 10, 12],
@@ -34,14 +36,14 @@ pub fn questions(call: u32) -> &'static [u64] {
 /// The least length of the lent buffer or table, 0 where nothing is lent.
 pub fn least_length(call: u32) -> u64 {
     match call {
-        VERDICT | NODES_AT | UPGRADE | DOWNGRADE => 4_096,
+        VERDICT | NODES_AT | UPGRADE | DOWNGRADE | MINIMISE => 4_096,
         LAYOUT => 1_024,
         _ => 0,
     }
 }
 
 /// The calls that are lent a buffer or a table.
-const LENDING: [u32; 5] = [VERDICT, NODES_AT, LAYOUT, UPGRADE, DOWNGRADE];
+const LENDING: [u32; 6] = [VERDICT, NODES_AT, LAYOUT, UPGRADE, DOWNGRADE, MINIMISE];
 
 /// What becomes of bytes after they are written: some are cut off the end,
 /// then others follow.
@@ -172,6 +174,22 @@ impl Plan {
         verdict(&self.case_bytes(), limit, 0, &mut tallies, &mut answer)
     }
 
+    /// What striking out answers, likewise.
+    pub fn minimised(&self, limit: u64) -> MinimiseAnswer {
+        let (mut tallies, mut answer) = ([0; CALLERS], [0; 4_096]);
+        minimise(&self.case_bytes(), limit, 0, &mut tallies, &mut answer)
+    }
+
+    /// What question 9 asks room for in the tally.
+    pub fn room_asked(&self) -> u64 {
+        let verdicts = if self.call == MINIMISE {
+            VERDICTS_MOST
+        } else {
+            1
+        };
+        self.limit.saturating_mul(verdicts)
+    }
+
     /// The vector, with only what the call takes.
     pub fn vector(&self) -> Vector {
         let call = self.call;
@@ -179,9 +197,9 @@ impl Plan {
         let bytes = |to: &[u32], bytes: Vec<u8>| if to.contains(&call) { bytes } else { vec![] };
         Vector {
             call,
-            limit: given(&[VERDICT], self.limit),
-            tally: given(&[VERDICT], self.tally),
-            caller: given(&[VERDICT], self.caller),
+            limit: given(&TALLIED, self.limit),
+            tally: given(&TALLIED, self.tally),
+            caller: given(&TALLIED, self.caller),
             selection: given(&[IS_RESULT, NODES_AT, PATHS, LAYOUT], self.selection),
             position: given(&[NODES_AT], self.position),
             length: given(&LENDING, self.length),

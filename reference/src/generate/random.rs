@@ -5,8 +5,9 @@ use super::changes::{changes, Change};
 use super::plan::{OutlineRow, Plan, SelectionRow, VolumeRow, CALLS};
 use super::prng::Prng;
 use super::sets;
+use super::strikes;
 use super::trees::{self, Freedom};
-use crate::vectors::{Vector, DOWNGRADE, LAYOUT, VERDICT};
+use crate::vectors::{Vector, DOWNGRADE, LAYOUT, MINIMISE, VERDICT};
 
 /// Verdicts that would take more trials than this get a limit below it, so
 /// that thousands of vectors take seconds.
@@ -26,7 +27,12 @@ pub fn random(seed: u64, count: usize) -> Vec<Vector> {
 
 fn one(prng: &mut Prng, changes: &[Change]) -> Vector {
     let call = CALLS[prng.below(CALLS.len())];
-    let mut plan = selections(prng).given_to(call);
+    let mut plan = if call == MINIMISE {
+        strikes::order(prng)
+    } else {
+        selections(prng)
+    };
+    plan = plan.given_to(call);
     plan.length += [0, 0, 1, 904][prng.below(4)];
     take_form(prng, &mut plan);
     plan.selection = prng.between(1, plan.last_selection() as usize) as u64;
@@ -35,17 +41,23 @@ fn one(prng: &mut Prng, changes: &[Change]) -> Vector {
     plan.result = result(prng, &plan);
     plan.placement = placement(prng, &plan);
     plan.tally = [0, prng.draw() % 1_000_000, prng.draw() % 999_999_000_000][prng.below(3)];
-    if call == VERDICT {
-        plan.limit = limit(prng, &plan);
+    match call {
+        VERDICT => plan.limit = limit(prng, &plan),
+        MINIMISE => plan.limit = strikes::limit(prng, &plan, strikes::TRIALS_MOST),
+        _ => {}
     }
     if prng.percent(12) {
         let concerned: Vec<&Change> = changes.iter().filter(|c| c.concerns(call)).collect();
         if let Some(change) = prng.one_of(&concerned) {
             let limit = plan.limit;
             (change.apply)(&mut plan);
-            // A greater limit could make an accepted verdict long.
+            // A greater limit could make an accepted verdict long, and 120 of them
+            // are long with more placements too.
             if change.question == 0 {
                 plan.limit = plan.limit.min(limit);
+            }
+            if change.question == 0 && call == MINIMISE {
+                plan.limit = plan.limit.min(strikes::TRIALS_MOST);
             }
         }
     }
@@ -241,8 +253,10 @@ fn limit(prng: &mut Prng, plan: &Plan) -> u64 {
 /// A byte or two changed, cut or added anywhere. The limit is lowered, since
 /// what is still accepted may have many more placements.
 fn spoil_bytes(prng: &mut Prng, vector: &mut Vector) {
-    if vector.call == VERDICT {
-        vector.limit = vector.limit.min(TRIALS_MOST);
+    match vector.call {
+        VERDICT => vector.limit = vector.limit.min(TRIALS_MOST),
+        MINIMISE => vector.limit = vector.limit.min(strikes::TRIALS_MOST),
+        _ => {}
     }
     let list = vector.call == LAYOUT && prng.percent(50);
     let bytes = match prng.below(3) {

@@ -188,7 +188,7 @@ fn splice(rows: &mut Vec<SelectionRow>, q: usize) {
 }
 
 /// Removes a row that is nobody's parent.
-fn remove(rows: &mut Vec<SelectionRow>, q: usize) {
+pub fn remove(rows: &mut Vec<SelectionRow>, q: usize) {
     rows.remove(q);
     for row in rows.iter_mut().filter(|row| usize::from(row[0]) > q) {
         row[0] -= 1;

@@ -1,11 +1,13 @@
 //! E1 to E10 with sets of one, the misreadings to catch, and the readings where
 //! two differ; those about sets are in `sets`, those about the old form in
-//! `moving`, those about callers in `callers`.
+//! `moving`, those about callers in `callers`, those about striking out in
+//! `striking`.
 
 mod callers;
 mod moving;
 mod notation;
 mod sets;
+mod striking;
 
 use notation::{case, list, volume};
 use reference::calls::{INCLUDED, NOT_INCLUDED, STOPPED};

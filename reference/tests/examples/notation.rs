@@ -102,6 +102,13 @@ pub fn old_case(outline: &str, first: &str, second: &str) -> Vec<u8> {
     out
 }
 
+/// A selection's section by itself.
+pub fn section(text: &str) -> Vec<u8> {
+    let mut out = Vec::new();
+    put_section(&mut out, text, 4);
+    out
+}
+
 pub fn volume(text: &str) -> Vec<u8> {
     let mut out = Vec::new();
     put_section(&mut out, text, 2);

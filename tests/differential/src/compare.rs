@@ -1,16 +1,18 @@
 //! One call of the library and one of the reference, held to each other whole: the answer, the eight
 //! tallies, and the lent buffer or table, each with what stands around it. A refusal also has zero in
-//! every other field and leaves everything as it was. A case that is moved is also moved back.
+//! every other field and leaves everything as it was. A case that is moved is also moved back, and an order
+//! that is shortened is also judged, before and after (`shortened`).
 
 use crate::lent::{Lent, Loans};
+use crate::shortened;
 use cadwezin::{ffi, NodeRecord, Tallies, ANSWER_BYTES};
 use reference::vectors::{
-    fnv1a, Vector, DOWNGRADE, FITS, IS_RESULT, NODES_AT, PATHS, UPGRADE, VERDICT,
+    fnv1a, Vector, DOWNGRADE, FITS, IS_RESULT, MINIMISE, NODES_AT, PATHS, UPGRADE, VERDICT,
 };
 use reference::NodeRecord as ReferenceRecord;
 
 /// What a call answered, as far as it is counted: for a verdict its kind, for a test whether it holds,
-/// and how many trials, nodes, paths or bytes there were.
+/// for an order how many nodes were struck, and how many trials, nodes, paths or bytes there were.
 #[derive(Clone, Copy, Debug, PartialEq, Eq)]
 pub struct Answered {
     pub refused: u64,
@@ -39,11 +41,70 @@ pub fn compare(vector: &Vector, loans: &mut Loans) -> Result<Answered, Differenc
             returns(vector, loans, answered, ffi::upgrade)?;
             Ok(answered)
         }
+        MINIMISE => {
+            let answered = minimise(vector, loans)?;
+            if answered.refused == 0 {
+                shortened::holds(&vector.case, vector.limit, loans.bytes.now())?;
+            }
+            Ok(answered)
+        }
         _ => layout(vector, loans),
     }
 }
 
 fn verdict(vector: &Vector, loans: &mut Loans) -> Result<Answered, Difference> {
+    let (case, limit, caller) = (&vector.case, vector.limit, vector.caller);
+    let answered = tallied(
+        vector,
+        loans,
+        |tallies, lent| {
+            let got = ffi::verdict(case, limit, caller, tallies, lent);
+            (got.refused, got.kind, got.tried)
+        },
+        |tallies, lent| {
+            let got = reference::verdict(case, limit, caller, tallies, lent);
+            (got.refused, got.kind, got.tried)
+        },
+    )?;
+    let written = if answered.value == ffi::NOT_CONTAINED {
+        sections_bytes(loans.bytes.now(), 2)
+    } else {
+        0
+    };
+    buffers(loans, written)?;
+    Ok(answered)
+}
+
+fn minimise(vector: &Vector, loans: &mut Loans) -> Result<Answered, Difference> {
+    let (case, limit, caller) = (&vector.case, vector.limit, vector.caller);
+    let answered = tallied(
+        vector,
+        loans,
+        |tallies, lent| {
+            let got = ffi::minimise(case, limit, caller, tallies, lent);
+            (got.refused, got.struck, got.tried)
+        },
+        |tallies, lent| {
+            let got = reference::minimise(case, limit, caller, tallies, lent);
+            (got.refused, got.struck, got.tried)
+        },
+    )?;
+    let written = if answered.refused == 0 {
+        sections_bytes(loans.bytes.now(), 4)
+    } else {
+        0
+    };
+    buffers(loans, written)?;
+    Ok(answered)
+}
+
+/// A call that raises its caller's tally: refused, what it tells besides, and tried.
+fn tallied(
+    vector: &Vector,
+    loans: &mut Loans,
+    ours: impl FnOnce(&mut Tallies, &mut [u8]) -> (u64, u64, u64),
+    theirs: impl FnOnce(&mut reference::Tallies, &mut [u8]) -> (u64, u64, u64),
+) -> Result<Answered, Difference> {
     let length = vector.length as usize;
     let before = Tallies {
         counts: vector.tallies(),
@@ -51,46 +112,23 @@ fn verdict(vector: &Vector, loans: &mut Loans) -> Result<Answered, Difference> {
     // The middle one is lent.
     let mut tallies = [before; 3];
     let mut their_tallies = before.counts;
-    let lent = loans.bytes.lend(length);
-    let ours = ffi::verdict(
-        &vector.case,
-        vector.limit,
-        vector.caller,
-        &mut tallies[1],
-        lent,
-    );
-    let lent = loans.reference_bytes.lend(length);
-    let theirs = reference::verdict(
-        &vector.case,
-        vector.limit,
-        vector.caller,
-        &mut their_tallies,
-        lent,
-    );
-    same(
-        "the answer",
-        (ours.refused, ours.kind, ours.tried),
-        (theirs.refused, theirs.kind, theirs.tried),
-    )?;
+    let ours = ours(&mut tallies[1], loans.bytes.lend(length));
+    let theirs = theirs(&mut their_tallies, loans.reference_bytes.lend(length));
+    same("the answer", ours, theirs)?;
     same("the tallies", tallies[1].counts, their_tallies)?;
+    let (refused, value, tried) = ours;
     let mut raised = [before; 3];
     if let Some(own) = raised[1].counts.get_mut(vector.caller as usize) {
-        *own += ours.tried;
+        *own += tried;
     }
     hold(tallies == raised, || {
         format!("the tallies: {tallies:?} and not {raised:?}")
     })?;
-    let written = if ours.kind == ffi::NOT_CONTAINED {
-        shown_bytes(loans.bytes.now())
-    } else {
-        0
-    };
-    buffers(loans, written)?;
-    refusal(ours.refused, &[ours.kind, ours.tried])?;
+    refusal(refused, &[value, tried])?;
     Ok(Answered {
-        refused: ours.refused,
-        value: ours.kind,
-        size: ours.tried,
+        refused,
+        value,
+        size: tried,
     })
 }
 
@@ -246,14 +284,15 @@ fn counted(ours: ffi::CountAnswer, theirs: reference::CountAnswer) -> Result<Ans
     })
 }
 
-/// How many bytes a shown document and result take.
-fn shown_bytes(answer: &[u8]) -> usize {
+/// How many bytes a section with records of so many fields takes, and a counted list after it: a shown
+/// document and result, or a shortened pattern and what was struck.
+fn sections_bytes(answer: &[u8], fields: usize) -> usize {
     let field = |at: usize| match answer.get(at..at + 2) {
         Some(bytes) => usize::from(u16::from_le_bytes([bytes[0], bytes[1]])),
         None => 0,
     };
-    let result = 2 + 4 * field(0);
-    result + 2 + 2 * field(result)
+    let list = 2 + 2 * fields * field(0);
+    list + 2 + 2 * field(list)
 }
 
 /// The two buffers are alike, and unaltered outside what was written.

@@ -2,11 +2,11 @@
 
 use crate::compare::Answered;
 use reference::vectors::{
-    Vector, DOWNGRADE, FITS, IS_RESULT, LAYOUT, NODES_AT, PATHS, UPGRADE, VERDICT,
+    Vector, DOWNGRADE, FITS, IS_RESULT, LAYOUT, MINIMISE, NODES_AT, PATHS, UPGRADE, VERDICT,
 };
 use std::fmt;
 
-const NAMES: [(u32, &str); 8] = [
+const NAMES: [(u32, &str); 9] = [
     (VERDICT, "verdict"),
     (FITS, "fits"),
     (IS_RESULT, "is it a result"),
@@ -15,6 +15,7 @@ const NAMES: [(u32, &str); 8] = [
     (LAYOUT, "lay out a trial"),
     (UPGRADE, "old to new"),
     (DOWNGRADE, "new to old"),
+    (MINIMISE, "striking out"),
 ];
 
 const QUESTIONS: usize = 16;
@@ -24,8 +25,8 @@ const QUESTIONS: usize = 16;
 struct Row {
     /// By number; accepted ones at 0.
     refused: [u64; QUESTIONS + 1],
-    /// Accepted ones by kind, or by whether the test holds.
-    values: [u64; 4],
+    /// Accepted ones by kind, by whether the test holds, or by how many nodes were struck.
+    values: [u64; 16],
     /// The most trials, nodes, paths or bytes of one.
     most: u64,
 }
@@ -102,7 +103,7 @@ impl fmt::Display for Counts {
             )?;
         }
         let row = |call: u32| &self.rows[call as usize];
-        let [_, contained, not, stopped] = row(VERDICT).values;
+        let [_, contained, not, stopped, ..] = row(VERDICT).values;
         let most = row(VERDICT).most;
         writeln!(
             out,
@@ -123,6 +124,13 @@ impl fmt::Display for Counts {
         writeln!(
             out,
             "moved: {over} old to new, at most {most_over} bytes, {back} new to old, at most {most_back}, each there and back again"
+        )?;
+        let struck: Vec<String> = row(MINIMISE).values.iter().map(u64::to_string).collect();
+        writeln!(
+            out,
+            "orders by how many nodes were struck, from none on: {}; at most {} tried; each judged before and after",
+            struck.join(", "),
+            row(MINIMISE).most
         )?;
         let [case, document, list, lent] = self.longest;
         writeln!(

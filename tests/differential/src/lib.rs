@@ -1,9 +1,10 @@
 //! The proved library and the plain reference, called in one process on the same input.
 //!
 //! * `compare`: one call of both, and everything that it answers and leaves behind held to be equal.
+//! * `shortened`: what an order that was shortened means, by verdicts.
 //! * `lent`: what is lent to a call: buffers and tables filled with a pattern.
 //! * `vary`: many calls made of one drawn vector.
-//! * `runs`: interleaved verdicts of all callers, and each caller's alone.
+//! * `runs`: interleaved verdicts and orders of all callers, and each caller's alone.
 //! * `old`: the filed cases of `tests/old`, moved over and back.
 //! * `counts`: how many calls there were, by call and answer.
 
@@ -14,6 +15,7 @@ pub mod counts;
 pub mod lent;
 pub mod old;
 pub mod runs;
+pub mod shortened;
 pub mod vary;
 
 /// A seed for each part of the work that one seed is for.

@@ -9,7 +9,7 @@ use differential::lent::Loans;
 use differential::old::filed;
 use differential::seed_of;
 use differential::vary::vary;
-use reference::generate::{boundaries, cases, layouts, random, Prng};
+use reference::generate::{boundaries, cases, layouts, random, strikes, Prng};
 use reference::vectors::Vector;
 use std::process::ExitCode;
 use std::sync::atomic::{AtomicU64, Ordering};
@@ -18,8 +18,9 @@ use std::time::Instant;
 /// Vectors drawn for one portion of the work, and calls made of each.
 const DRAWN: usize = 60;
 const CALLS_EACH: usize = 40;
-/// So many portions in one hundred hold cases and layouts near the limits.
+/// So many portions in one hundred hold cases and layouts near the limits, and so many orders.
 const NEAR_LIMITS: u64 = 4;
+const ORDERS: u64 = 6;
 
 fn main() -> ExitCode {
     let words = std::env::args().skip(1);
@@ -94,12 +95,14 @@ fn calls_of(
     loans: &mut Loans,
     counts: &mut Counts,
 ) -> Result<(), String> {
-    let drawn = if portion % 100 < NEAR_LIMITS {
-        let mut drawn = cases(prng.draw(), DRAWN / 6);
-        drawn.extend(layouts(prng.draw(), DRAWN - drawn.len()));
-        drawn
-    } else {
-        random(prng.draw(), DRAWN)
+    let drawn = match portion % 100 {
+        near if near < NEAR_LIMITS => {
+            let mut drawn = cases(prng.draw(), DRAWN / 6);
+            drawn.extend(layouts(prng.draw(), DRAWN - drawn.len()));
+            drawn
+        }
+        orders if orders < NEAR_LIMITS + ORDERS => strikes(prng.draw(), DRAWN / 2),
+        _ => random(prng.draw(), DRAWN),
     };
     for (index, vector) in drawn.iter().enumerate() {
         call(vector, loans, counts)?;

@@ -1,22 +1,23 @@
-//! Runs of interleaved verdicts of all callers: "What one caller receives, refusals and tally included,
-//! depends on that caller's own calls and its tally's start alone, whichever calls the others make. The
-//! eight together equal their start plus the sum of tried over all verdicts since."
+//! Runs of interleaved verdicts and orders of all callers: "What one caller receives, refusals and tally
+//! included, depends on that caller's own calls and its tally's start alone, whichever calls the others make.
+//! The eight together equal their start plus the sum of tried over all verdicts since", "the tool's verdicts
+//! into #104's sum".
 
 use crate::compare::hold;
 use crate::seed_of;
 use crate::vary::caller;
 use cadwezin::{ffi, Tallies, ANSWER_BYTES, CALLERS, TALLY_MOST};
 use reference::generate::{random, Prng};
-use reference::vectors::{Vector, VERDICT};
+use reference::vectors::{Vector, MINIMISE, VERDICT};
 use std::fmt;
 
-/// Vectors drawn for a run; one in eight is a verdict.
+/// Vectors drawn for a run; one in nine is a verdict and one an order.
 const DRAWN: usize = 1_200;
 /// A caller whose tally begins so far below the bound, or less, reaches it within some thousand calls.
 const NEAR: u64 = 1_200;
 const QUESTIONS: usize = 16;
 
-/// One verdict with the contents of the buffer that is lent.
+/// One verdict or order with the contents of the buffer that is lent.
 struct Call {
     vector: Vector,
     contents: Vec<u8>,
@@ -26,7 +27,8 @@ struct Call {
 #[derive(Debug, PartialEq, Eq)]
 struct Outcome {
     refused: u64,
-    kind: u64,
+    /// The kind, or how many nodes were struck.
+    value: u64,
     tried: u64,
     buffer: Vec<u8>,
     counts: [u64; CALLERS],
@@ -37,6 +39,9 @@ struct Outcome {
 pub struct Told {
     runs: u64,
     calls: u64,
+    /// Orders that were shortened, and what their verdicts tried.
+    shortened: u64,
+    tried_by_orders: u64,
     /// By a number that is no caller's.
     by_nobody: u64,
     /// By number; accepted ones at 0.
@@ -88,7 +93,7 @@ fn start(prng: &mut Prng, number: u64) -> [u64; CALLERS] {
 /// Cases as the generator draws them, each with a caller, a limit and a buffer of its own.
 fn drawn(prng: &mut Prng, count: usize) -> Vec<Call> {
     let mut vectors = random(prng.draw(), DRAWN);
-    vectors.retain(|vector| vector.call == VERDICT);
+    vectors.retain(|vector| [VERDICT, MINIMISE].contains(&vector.call));
     (0..count)
         .map(|_| {
             let mut vector = vectors[prng.below(vectors.len())].clone();
@@ -135,11 +140,17 @@ fn by_library<'a>(
     let mut tallies = Tallies { counts };
     let one = |call: &Call| {
         let (v, mut buffer) = (&call.vector, call.contents.clone());
-        let got = ffi::verdict(&v.case, v.limit, v.caller, &mut tallies, &mut buffer);
+        let (refused, value, tried) = if v.call == MINIMISE {
+            let got = ffi::minimise(&v.case, v.limit, v.caller, &mut tallies, &mut buffer);
+            (got.refused, got.struck, got.tried)
+        } else {
+            let got = ffi::verdict(&v.case, v.limit, v.caller, &mut tallies, &mut buffer);
+            (got.refused, got.kind, got.tried)
+        };
         Outcome {
-            refused: got.refused,
-            kind: got.kind,
-            tried: got.tried,
+            refused,
+            value,
+            tried,
             buffer,
             counts: tallies.counts,
         }
@@ -155,11 +166,17 @@ fn same_by_reference(
 ) -> Result<(), String> {
     for (number, (call, ours)) in calls.iter().zip(together).enumerate() {
         let (v, mut buffer) = (&call.vector, call.contents.clone());
-        let got = reference::verdict(&v.case, v.limit, v.caller, &mut counts, &mut buffer);
+        let (refused, value, tried) = if v.call == MINIMISE {
+            let got = reference::minimise(&v.case, v.limit, v.caller, &mut counts, &mut buffer);
+            (got.refused, got.struck, got.tried)
+        } else {
+            let got = reference::verdict(&v.case, v.limit, v.caller, &mut counts, &mut buffer);
+            (got.refused, got.kind, got.tried)
+        };
         let theirs = Outcome {
-            refused: got.refused,
-            kind: got.kind,
-            tried: got.tried,
+            refused,
+            value,
+            tried,
             buffer,
             counts,
         };
@@ -189,8 +206,8 @@ fn same_alone(
     for (number, (alone, (_, among))) in alone.iter().zip(among).enumerate() {
         let mut expected = counts;
         expected[caller] = among.counts[caller];
-        let same = (alone.refused, alone.kind, alone.tried)
-            == (among.refused, among.kind, among.tried)
+        let same = (alone.refused, alone.value, alone.tried)
+            == (among.refused, among.value, among.tried)
             && alone.buffer == among.buffer
             && alone.counts == expected;
         hold(same, || {
@@ -249,6 +266,10 @@ fn told(calls: &[Call], outcomes: &[Outcome]) -> Told {
     for (call, outcome) in calls.iter().zip(outcomes) {
         told.refused[outcome.refused as usize] += 1;
         told.tried += outcome.tried;
+        if call.vector.call == MINIMISE {
+            told.shortened += u64::from(outcome.value > 0);
+            told.tried_by_orders += outcome.tried;
+        }
         match call.vector.caller as usize {
             caller if caller < CALLERS => {
                 raised[caller] |= outcome.tried > 0;
@@ -265,6 +286,8 @@ impl Told {
     pub fn add(&mut self, other: &Told) {
         self.runs += other.runs;
         self.calls += other.calls;
+        self.shortened += other.shortened;
+        self.tried_by_orders += other.tried_by_orders;
         self.by_nobody += other.by_nobody;
         for (number, more) in self.refused.iter_mut().zip(other.refused) {
             *number += more;
@@ -273,10 +296,11 @@ impl Told {
         self.tried += other.tried;
     }
 
-    /// Whether there was something to compare: accepted calls, callers who came to the bound, and numbers
-    /// that are no caller's.
+    /// Whether there was something to compare: accepted calls, orders that were shortened and paid for,
+    /// callers who came to the bound, and numbers that are no caller's.
     pub fn enough(&self) -> bool {
-        self.refused[0] > 0 && self.came_to_the_bound > 0 && self.refused[16] > 0
+        let orders = self.shortened > 0 && self.tried_by_orders > 0;
+        self.refused[0] > 0 && orders && self.came_to_the_bound > 0 && self.refused[16] > 0
     }
 }
 
@@ -288,12 +312,14 @@ impl fmt::Display for Told {
             .collect();
         write!(
             out,
-            "{} runs of interleaved verdicts, {} calls, {} of them of no caller; {} accepted, {} tried; refused {}; {} callers came to the bound",
+            "{} runs of interleaved verdicts and orders, {} calls, {} of them of no caller; {} accepted, {} orders shortened; {} tried, {} of them by orders; refused {}; {} callers came to the bound",
             self.runs,
             self.calls,
             self.by_nobody,
             self.refused[0],
+            self.shortened,
             self.tried,
+            self.tried_by_orders,
             refused.join(", "),
             self.came_to_the_bound
         )
@@ -306,8 +332,8 @@ impl fmt::Display for Outcome {
         let hash = reference::vectors::fnv1a(&self.buffer);
         write!(
             out,
-            "refused {} kind {} tried {} tallies {:?} buffer {hash:016x}",
-            self.refused, self.kind, self.tried, self.counts
+            "refused {} kind or struck {} tried {} tallies {:?} buffer {hash:016x}",
+            self.refused, self.value, self.tried, self.counts
         )
     }
 }

@@ -3,21 +3,22 @@
 //! one.
 
 use crate::lent::LENT_MOST;
-use reference::calls::{CALLERS, STOPPED, TALLY_MOST};
+use reference::calls::{CALLERS, STOPPED, TALLY_MOST, VERDICTS_MOST};
 use reference::embedding::{has, Shape};
 use reference::generate::Prng;
 use reference::old::read_old_case;
 use reference::records::{holder, read_case, read_volume, Case};
 use reference::trials::{each_placement, lay_out};
 use reference::vectors::{
-    Vector, DOWNGRADE, FITS, IS_RESULT, LAYOUT, NODES_AT, PATHS, UPGRADE, VERDICT,
+    Vector, DOWNGRADE, FITS, IS_RESULT, LAYOUT, MINIMISE, NODES_AT, PATHS, UPGRADE, VERDICT,
 };
 
-const CALLS: [u32; 8] = [
-    VERDICT, FITS, IS_RESULT, NODES_AT, PATHS, LAYOUT, UPGRADE, DOWNGRADE,
+const CALLS: [u32; 9] = [
+    VERDICT, FITS, IS_RESULT, NODES_AT, PATHS, LAYOUT, UPGRADE, DOWNGRADE, MINIMISE,
 ];
-/// A limit below which the reference is quick on any case.
+/// A limit below which the reference is quick on any case, and one where it makes many verdicts.
 const QUICK: u64 = 60;
+const QUICK_ORDER: u64 = 8;
 
 /// One variation of a drawn vector. What it does not have is taken from the others drawn.
 pub fn vary(prng: &mut Prng, drawn: &[Vector], index: usize) -> Vector {
@@ -25,7 +26,12 @@ pub fn vary(prng: &mut Prng, drawn: &[Vector], index: usize) -> Vector {
     if prng.percent(60) {
         vector = for_call(prng, drawn, vector);
     }
-    vector.limit = 1 + prng.draw() % [1, 3, 10, QUICK][prng.below(4)];
+    let quick = if vector.call == MINIMISE {
+        QUICK_ORDER
+    } else {
+        QUICK
+    };
+    vector.limit = 1 + prng.draw() % [1, 3, 10, QUICK][prng.below(4)].min(quick);
     if prng.percent(30) {
         number(prng, &mut vector);
     }
@@ -41,8 +47,8 @@ pub fn vary(prng: &mut Prng, drawn: &[Vector], index: usize) -> Vector {
     if prng.below(2_000) == 0 {
         lengthen(prng, &mut vector);
     }
-    if vector.call == VERDICT && vector.limit > QUICK && slow(&vector) {
-        vector.limit = QUICK;
+    if vector.limit > quick && slow(&vector, quick) {
+        vector.limit = quick;
     }
     vector
 }
@@ -180,9 +186,20 @@ fn number(prng: &mut Prng, vector: &mut Vector) {
             vector.limit = one_of(prng, &bounds);
         }
         1 => {
-            let room = TALLY_MOST.saturating_sub(vector.limit);
+            let verdicts = if vector.call == MINIMISE {
+                VERDICTS_MOST
+            } else {
+                1
+            };
+            let asked = vector.limit.saturating_mul(verdicts);
+            let room = TALLY_MOST.saturating_sub(asked);
             let bounds = [room, room + 1, room.saturating_sub(1), 0, TALLY_MOST];
-            let wide = [u64::MAX - vector.limit, u64::MAX, any];
+            let wide = [
+                u64::MAX - asked,
+                (u64::MAX - asked).wrapping_add(1),
+                u64::MAX,
+                any,
+            ];
             vector.tally = one_of(prng, &[&bounds[..], &wide[..]].concat());
         }
         2 => {
@@ -343,8 +360,19 @@ fn lengthen(prng: &mut Prng, vector: &mut Vector) {
     }
 }
 
-/// Whether many trials pass, so that a great limit takes long.
-fn slow(vector: &Vector) -> bool {
+/// Whether many trials pass, so that a great limit takes long. Where all verdicts of an order together
+/// try less than one may, none of them is stopped there.
+fn slow(vector: &Vector, quick: u64) -> bool {
     let (mut tallies, mut answer) = ([0; CALLERS], [0; 4_096]);
-    reference::verdict(&vector.case, QUICK, 0, &mut tallies, &mut answer).kind == STOPPED
+    match vector.call {
+        VERDICT => {
+            let got = reference::verdict(&vector.case, quick, 0, &mut tallies, &mut answer);
+            got.kind == STOPPED
+        }
+        MINIMISE => {
+            let got = reference::minimise(&vector.case, quick, 0, &mut tallies, &mut answer);
+            got.tried >= quick
+        }
+        _ => false,
+    }
 }

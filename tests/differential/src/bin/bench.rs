@@ -1,7 +1,8 @@
 //! `bench [ROUNDS]`: the library and the reference, timed on the same calls in the same run; prints a
 //! table in Markdown. Each time is the least of ROUNDS (default 15), the two taking turns; a round
 //! repeats the call for 4 ms at least. Sets have one member; where a row has the same with a larger set,
-//! those that follow have it, and how much longer the library takes.
+//! those that follow have it, and how much longer the library takes. An order stands after one verdict on
+//! the same case, and how much longer it takes beside that.
 
 #![forbid(unsafe_code)]
 
@@ -9,9 +10,9 @@ use cadwezin::{ffi, NodeRecord, Tallies};
 use differential::compare::compare;
 use differential::lent::Loans;
 use differential::vary::set_of;
-use reference::generate::{cases, layouts, random};
+use reference::generate::{cases, layouts, random, strikes};
 use reference::vectors::{
-    Vector, DOWNGRADE, FITS, IS_RESULT, LAYOUT, NODES_AT, PATHS, UPGRADE, VERDICT,
+    Vector, DOWNGRADE, FITS, IS_RESULT, LAYOUT, MINIMISE, NODES_AT, PATHS, UPGRADE, VERDICT,
 };
 use std::hint::black_box;
 use std::process::ExitCode;
@@ -53,7 +54,7 @@ fn main() -> ExitCode {
         );
     }
     println!();
-    println!("Each time is one call's mean in the best of {rounds} rounds, library and reference taking turns. Buffers and tables are allocated once and lent again as the last call left them; nothing is cleared beforehand, no cache either. To one is the library's time beside that of the nearest row above whose set has one member. Unless another thing is said, seven of eight members end in a label that is nowhere, and the last is the one of that row.");
+    println!("Each time is one call's mean in the best of {rounds} rounds, library and reference taking turns. Buffers and tables are allocated once and lent again as the last call left them; nothing is cleared beforehand, no cache either. To one is the library's time beside that of the nearest row above whose set has one member, and of an order beside that of the one verdict above it. Unless another thing is said, seven of eight members end in a label that is nowhere, and the last is the one of that row.");
     ExitCode::SUCCESS
 }
 
@@ -72,7 +73,7 @@ struct Row {
     call: &'static str,
     input: String,
     vectors: Vec<Vector>,
-    /// Whether it is the nearest row before that is not, with a larger set.
+    /// Whether it is the nearest row before that is not, with a larger set or as an order.
     larger: bool,
 }
 
@@ -136,6 +137,11 @@ impl Ours {
                 tallies.counts[CALLER] = v.tally;
                 black_box(ffi::verdict(&v.case, v.limit, caller, tallies, answer));
             }
+            MINIMISE => {
+                let (caller, tallies) = (CALLER as u64, &mut self.tallies);
+                tallies.counts[CALLER] = v.tally;
+                black_box(ffi::minimise(&v.case, v.limit, caller, tallies, answer));
+            }
             FITS => drop(black_box(ffi::fits(&v.case, &v.volume))),
             IS_RESULT => {
                 black_box(ffi::is_result(&v.case, v.selection, &v.volume, &v.list));
@@ -178,6 +184,13 @@ impl Theirs {
                     &v.case, v.limit, caller, tallies, answer,
                 ));
             }
+            MINIMISE => {
+                let (caller, tallies) = (CALLER as u64, &mut self.tallies);
+                tallies[CALLER] = v.tally;
+                black_box(reference::minimise(
+                    &v.case, v.limit, caller, tallies, answer,
+                ));
+            }
             FITS => drop(black_box(reference::fits(&v.case, &v.volume))),
             IS_RESULT => {
                 let got = reference::is_result(&v.case, v.selection, &v.volume, &v.list);
@@ -205,6 +218,7 @@ fn rows() -> Vec<Row> {
         documents(),
         others(),
         moves(),
+        orders(),
         drawn(),
     ];
     all.into_iter().flatten().collect()
@@ -516,6 +530,69 @@ fn old_form(case: &[u8]) -> Vec<u8> {
     [&case[..at], &members.concat()].concat()
 }
 
+/// Orders of 16 nodes, each after one verdict on the same case, in which the order is the set's only
+/// member too: all that may go goes, one leaf after another or as a chain; nothing goes, since nothing is
+/// granted or since each verdict is stopped; half of it stays and is tried again after each that goes.
+fn orders() -> Vec<Row> {
+    let mut granted = vec![[0, 1, 0]];
+    granted.extend((2..65).map(|label| [0, label, 1]));
+    let mut plain = granted.clone();
+    plain.iter_mut().for_each(|node| node[2] = 0);
+    let mut half = granted.clone();
+    half[1..9].iter_mut().for_each(|node| node[2] = 0);
+    let leaves: Vec<[u16; 4]> = (0..16).map(|q| [0, q + 1, 0, u16::from(q == 0)]).collect();
+    let steps: Vec<[u16; 4]> = (0..16u16)
+        .map(|q| [q.saturating_sub(1), q + 1, 0, u16::from(q == 0)])
+        .collect();
+    let bottom: Vec<[u16; 4]> = (0..16u16)
+        .map(|q| {
+            [
+                0,
+                if q == 0 { 1 } else { 64 },
+                u16::from(q > 0),
+                u16::from(q == 0),
+            ]
+        })
+        .collect();
+    [
+        ("15 leaves, all go", in_itself(&granted, leaves.clone())),
+        ("a chain of 15, all go", in_itself(&line(1), steps)),
+        (
+            "15 equal leaves over 946 nodes, 14 go",
+            in_itself(&line(0), bottom.clone()),
+        ),
+        (
+            "15 leaves over 946 nodes, all go",
+            in_itself(&line(1), bottom),
+        ),
+        ("15 leaves, none goes", in_itself(&plain, leaves.clone())),
+        ("15 leaves, the last seven go", in_itself(&half, leaves)),
+        (
+            "15 free leaves, none goes: stopped",
+            in_itself(&line(1), star(15, 1)),
+        ),
+    ]
+    .into_iter()
+    .flat_map(|(input, case)| after_verdict(input, verdict(case, 1_000)))
+    .collect()
+}
+
+/// One verdict, and then striking out with its limit.
+fn after_verdict(input: &str, judged: Vector) -> [Row; 2] {
+    let order = Vector {
+        call: MINIMISE,
+        ..judged.clone()
+    };
+    [
+        row(
+            "verdict",
+            &format!("16 nodes in themselves: {input}"),
+            vec![judged],
+        ),
+        larger_row("striking out", input, vec![order]),
+    ]
+}
+
 /// Calls as the generators draw them, but for their callers and sets; their mean.
 fn drawn() -> Vec<Row> {
     let near_limits = || of_one_caller(cases(1, 80));
@@ -532,9 +609,14 @@ fn drawn() -> Vec<Row> {
         "80 near the limits, sets as they are drawn",
         near_limits(),
     ));
-    rows.extend(both("all eight", "1,000 random", alone(any())));
     rows.push(row(
-        "all eight",
+        "striking out",
+        "80 drawn, sets as they are drawn",
+        of_one_caller(strikes(1, 80)),
+    ));
+    rows.extend(both("all nine", "1,000 random", alone(any())));
+    rows.push(row(
+        "all nine",
         "1,000 random, sets as they are drawn",
         any(),
     ));

@@ -1,4 +1,4 @@
-//! `runs SEED RUNS CALLS`: so many runs of so many interleaved verdicts of all callers, through the
+//! `runs SEED RUNS CALLS`: so many runs of so many interleaved verdicts and orders of all callers, through the
 //! library; each caller's calls again without those of the others, and all of them through the
 //! reference. Prints what was called, or the first run that differs.
 
