@@ -1,2 +1,3 @@
+pub mod Minimise
 pub mod Table
 pub mod Verdict

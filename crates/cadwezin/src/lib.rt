@@ -1,6 +1,8 @@
 // The calls, for C and Rust to link: each is exported under its own name. A slice passes as a pointer and a length, a lent struct as a
 // pointer. Any bytes, any numbers and buffers and tables of any length may be given; where a call is refused nothing is altered.
 
+pub mod minimise;
+
 use calls::answers::CountAnswer;
 use calls::answers::PathsAnswer;
 use calls::answers::TestAnswer;
@@ -23,7 +25,7 @@ ghost use Rattle.moving.specs.Answers.{movedOf};
 ghost use Rattle.cadwezin.specs.Table.{recordsIn, layoutOf};
 ghost use Rattle.cadwezin.specs.Verdict.{numbersOf, toldOutcome, exportedOutcome};
 
-// Counts trials, for each caller apart: a caller's own count grows by tried with each of its verdicts.
+// Counts trials, for each caller apart: a caller's own count grows by tried with each of its verdicts and of its orders to strike.
 #[repr(C)]
 pub struct Tallies {
     pub counts: [u64; 8],

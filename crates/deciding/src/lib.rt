@@ -42,7 +42,14 @@ fn accepted(case: &[u8], limit: u64, answer: &mut [u8]) -> Containment
     let Containment::NotContained(rank) = r else {
         return r;
     };
-    show(case, &rows[STRONG_ROW], first, &images, arity(case, first), answer);
+    show(
+        case,
+        &rows[STRONG_ROW],
+        first,
+        &images,
+        arity(case, first),
+        answer,
+    );
     Containment::NotContained(rank)
 }
 

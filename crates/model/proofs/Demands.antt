@@ -302,7 +302,7 @@ may-go-exact P q = (
   λ m. (
     m .inside,
     and-intro (and-intro (lt-ltb 0 q (m .notRoot)) (eq-eqb (position P q) 0 (m .noPosition)))
-    (below-all (λ i. not (eqb (patternParent P i) q)) (length P) (λ i h. ap not (ne-eqb (patternParent P i) q (m .leaf i h)))),
+        (below-all (λ i. not (eqb (patternParent P i) q)) (length P) (λ i h. ap not (ne-eqb (patternParent P i) q (m .leaf i h)))),
   ),
 )
 

@@ -3,9 +3,9 @@
 
 use document::document_kept;
 use embedding::is_embedding_list;
+use format::limits::MAX_VERDICTS;
 use list::result_in_range;
 use numbered::pattern_given;
-use format::limits::MAX_VERDICTS;
 use numbered::position_given;
 use questions::case_refusal;
 use questions::numbers::buffer_large_enough;

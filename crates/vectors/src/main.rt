@@ -17,6 +17,7 @@ use laying::laid::laid_out;
 use moving::downgrade::downgrade_call;
 use moving::upgrade::upgrade_call;
 use read::Head;
+use striking::minimise_call;
 
 // A number of the vector as a length.
 fn size(n: u64) -> usize {
@@ -45,6 +46,17 @@ fn print_answer(a: Answer) {
 fn run_verdict(h: Head, case: &[u8], answer: &mut [u8]) {
     let r = verdict_call(case, h.limit, h.caller, h.tally, answer);
     print_answer(r);
+    print::lent(wide64(answer.len()), print::hash(answer));
+}
+
+fn run_minimise(h: Head, case: &[u8], answer: &mut [u8]) {
+    let r = minimise_call(case, h.limit, h.caller, h.tally, answer);
+    print::word(b"minimise refused");
+    print::number(r.refused);
+    print::word(b" struck");
+    print::number(r.struck);
+    print::word(b" tried");
+    print::number(r.tried);
     print::lent(wide64(answer.len()), print::hash(answer));
 }
 
@@ -177,7 +189,11 @@ fn with_buffer(h: Head, case: &[u8], document: &[u8], answer: &mut [u8]) {
         run_upgrade(case, answer);
         return;
     }
-    run_downgrade(case, answer);
+    if call == 8 {
+        run_downgrade(case, answer);
+        return;
+    }
+    run_minimise(h, case, answer);
 }
 
 // A buffer filled with a pattern is lent. A length beyond the room here is cut to it.

@@ -1,0 +1,11 @@
+pub mod Temp
+pub mod NumberLaws
+pub mod RecordLaws
+pub mod WriteWithout
+pub mod SectionBytes
+pub mod SetLaws
+pub mod RoundLaws
+pub mod StrikeLaws
+pub mod OrderLaws
+pub mod AcceptedLaws
+pub mod CallLaws

@@ -1,0 +1,4 @@
+pub mod Present
+pub mod Rounds
+pub mod Strikes
+pub mod Outcome
