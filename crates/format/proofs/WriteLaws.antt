@@ -1,18 +1,18 @@
 -- Laws of the writers. Fields that are put one after another, from field 0 on, stand as bytes at the front of the buffer, and one
 -- more field adds its two bytes; so the loops write what the encodings say. Assumes nothing.
-use Prim.Native.Nat.{ℕ, suc, _+_, _*_, _≤_, _<_}
+use Prim.Native.Nat.{ℕ, zero, suc, _+_, _*_, _≤_, _<_}
 use mathlib.Core.Path.{_≡_, refl, sym, ap, ap₂, _∙_, subst}
 use mathlib.Core.List.{List, [], _∷_, _++_, map, flatMap, append-assoc, map-append}
 use native.Mathlib.Omega.{arith}
 use native.Mathlib.Nat.{add-zero, zero-add}
 use native.Mathlib.Numerals.{add-one}
 use lib.ListN.{length, getD, take, set, length-append}
-use lib.Seq.{sets, length-sets, take-suc, length-take-le}
+use lib.Seq.{sets, length-sets, getD-set-same, getD-set-other, take-suc, length-take-le}
 use Rattle.model.specs.Lists.{upFrom}
 use Rattle.model.specs.Tree.{Document}
 use Rattle.model.specs.Bytes.{field, fieldBytes, bytesOf, fieldsAt, documentFields, sectionFields, encodeDocument, encodeCounted, writtenAtFront}
 use Rattle.model.proofs.ListLaws.{length-map-upFrom}
-use Rattle.model.proofs.Bytes.{length-bytes, front-none}
+use Rattle.model.proofs.Bytes.{FitFields, Holds, length-bytes, field-bytes, front-none}
 use Rattle.format.proofs.RangeLaws.{upFrom-last}
 use Rattle.format.proofs.FrontLaws.{front-sets, front-over}
 
@@ -24,16 +24,47 @@ flatMap-append f [] ys = refl
 flatMap-append f (x ∷ xs) ys = ap (λ (l : List _). f x ++ l) (flatMap-append f xs ys) ∙ sym (append-assoc (f x) (flatMap f xs) (flatMap f ys))
 
 -- the bytes of more fields
-bytes-append : (fs gs : List ℕ) → bytesOf (fs ++ gs) ≡ bytesOf fs ++ bytesOf gs
+pub bytes-append : (fs gs : List ℕ) → bytesOf (fs ++ gs) ≡ bytesOf fs ++ bytesOf gs
 unfolding bytesOf
 bytes-append fs gs = flatMap-append fieldBytes fs gs
 
 -- stores that go on where the last ones ended
-sets-append : (l : List ℕ) (i : ℕ) (xs ys : List ℕ) → sets l i (xs ++ ys) ≡ sets (sets l i xs) (i + length xs) ys
+pub sets-append : (l : List ℕ) (i : ℕ) (xs ys : List ℕ) → sets l i (xs ++ ys) ≡ sets (sets l i xs) (i + length xs) ys
 sets-append l i [] ys = ap (λ (k : ℕ). sets l k ys) (sym (add-zero i))
 sets-append l i (x ∷ xs) ys =
     let e : suc i + length xs ≡ i + suc (length xs) = omega arith in
     sets-append (set l i x) (suc i) xs ys ∙ ap (λ (k : ℕ). sets (sets (set l i x) (suc i) xs) k ys) e
+
+-- what stands before stores, and where they go
+sets-before : (l : List ℕ) (i : ℕ) (vs : List ℕ) (j : ℕ) → j < i → getD (sets l i vs) j 0 ≡ getD l j 0
+sets-before l i [] j h = refl
+sets-before l i (v ∷ vs) j h = sets-before (set l i v) (suc i) vs j (omega arith) ∙ getD-set-other l i j v 0 (λ e. omega arith)
+
+sets-at : (l : List ℕ) (i : ℕ) (vs : List ℕ) (k : ℕ) → i + length vs ≤ length l → k < length vs → getD (sets l i vs) (i + k) 0 ≡ getD vs k 0
+sets-at l i [] k room h = absurd (omega arith)
+sets-at l i (v ∷ vs) zero room h =
+    let e : i + 0 ≡ i = add-zero i in
+    ap (λ (j : ℕ). getD (sets (set l i v) (suc i) vs) j 0) e ∙ sets-before (set l i v) (suc i) vs i (omega arith) ∙ getD-set-same l i v 0 (omega arith)
+sets-at l i (v ∷ vs) (suc k) room h =
+    let e : i + suc k ≡ suc i + k = omega arith in
+    let n : length (set l i v) ≡ length l = length-sets l i (v ∷ []) in
+    ap (λ (j : ℕ). getD (sets (set l i v) (suc i) vs) j 0) e ∙ sets-at (set l i v) (suc i) vs k (omega arith) (omega arith)
+
+-- of fields: those before stay, and what is stored is held
+pub field-before : (b : List ℕ) (to : ℕ) (vs : List ℕ) (j : ℕ) → j < to → field (sets b (2 * to) vs) j ≡ field b j
+unfolding field
+field-before b to vs j h = ap₂ (λ (x y : ℕ). x + 256 * y) (sets-before b (2 * to) vs (2 * j) (omega arith)) (sets-before b (2 * to) vs (2 * j + 1) (omega arith))
+
+pub fields-stored : (b : List ℕ) (to : ℕ) (fs : List ℕ) → FitFields fs → 2 * (to + length fs) ≤ length b → Holds (sets b (2 * to) (bytesOf fs)) to fs
+unfolding field
+fields-stored b to fs fit room j h =
+    let n : length (bytesOf fs) ≡ 2 * length fs = length-bytes fs in
+    let low : 2 * (to + j) ≡ 2 * to + 2 * j = omega arith in
+    let high : 2 * (to + j) + 1 ≡ 2 * to + (2 * j + 1) = omega arith in
+    ap₂ (λ (x y : ℕ). x + 256 * y)
+    (ap (λ (k : ℕ). getD (sets b (2 * to) (bytesOf fs)) k 0) low ∙ sets-at b (2 * to) (bytesOf fs) (2 * j) (omega arith) (omega arith))
+    (ap (λ (k : ℕ). getD (sets b (2 * to) (bytesOf fs)) k 0) high ∙ sets-at b (2 * to) (bytesOf fs) (2 * j + 1) (omega arith) (omega arith))
+    ∙ field-bytes fs fit j
 
 -- ---- fields put one after another
 

@@ -1,7 +1,7 @@
 -- A pattern carried into another by a map of its nodes: each node goes to one like it, parents to parents, and no position is lost. What the
 -- larger has as a result the smaller has too, and the smaller keeps the rules of a pattern. Assumes nothing.
 use Prim.Native.Nat.{ℕ, _≤_, _<_}
-use mathlib.Core.Path.{_≡_, refl, sym, ap, ap₂, _∙_, subst, subst₂}
+use mathlib.Core.Path.{_≡_, refl, sym, ap, _∙_, subst, subst₂}
 use mathlib.Core.Bool.{Bool, true}
 use mathlib.Core.List.{List, map, map-map}
 use native.Mathlib.Omega.{arith}
@@ -10,7 +10,7 @@ use lib.ListN.{length}
 use borrow.Author.Tests.{eqb-true, eq-eqb}
 use Rattle.model.specs.Lists.{upFrom}
 use Rattle.model.specs.Tree.{Document, labelOf, Edge}
-use Rattle.model.specs.Pattern.{Pattern, patternParent, patternLabel, descends, position, arity, nodeAt, IsPatternTree, labelFits, Embeds, Result, Carries}
+use Rattle.model.specs.Pattern.{Pattern, position, arity, nodeAt, IsPatternTree, labelFits, Embeds, Result, Carries}
 use Rattle.model.specs.Facts.{PatternFacts}
 use Rattle.model.proofs.ListLaws.{upFrom-mem, mem-upFrom, first-hit, map-agree}
 

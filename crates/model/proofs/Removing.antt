@@ -1,6 +1,6 @@
 -- A list without one element, and a pattern without one leaf: what stands where, and that the shorter pattern is carried into the longer.
 -- Assumes nothing.
-use Prim.Native.Nat.{ℕ, zero, suc, _+_, _-_, _≤_, _<_}
+use Prim.Native.Nat.{ℕ, zero, suc, _-_, _≤_, _<_}
 use mathlib.Core.Path.{_≡_, refl, sym, ap, _∙_, subst}
 use mathlib.Core.Bool.{Bool, true, false, _&&_, not}
 use mathlib.Core.Logic.{_⊎_, inl, inr}
@@ -10,9 +10,9 @@ use lib.Dec.{eqb, ltb}
 use lib.ListN.{length, getD, length-map, List·getD-eq-default}
 use borrow.Author.Tests.{ltb-true, ltb-false, lt-ltb, le-ltb, eqb-true, eqb-false, not-true}
 use Rattle.model.specs.Lists.{countOf}
-use Rattle.model.specs.Pattern.{PatternRecord, Pattern, noPatternRecord, patternParent, patternLabel, descends, position, arity, IsPatternTree, Carries}
+use Rattle.model.specs.Pattern.{PatternRecord, Pattern, noPatternRecord, patternParent, position, arity, IsPatternTree, Carries}
 use Rattle.model.specs.Striking.{removed, lowered, raised, relinked, without, childless, mayGo}
-use Rattle.model.proofs.ListLaws.{by-bool, true-or-false, and-left, and-right, all-below, getD-map}
+use Rattle.model.proofs.ListLaws.{true-or-false, and-left, and-right, all-below, getD-map}
 
 -- ---- numbers, with node q and without it
 

@@ -1,7 +1,7 @@
 -- Striking out: a leaf goes only where the selection without it is included, and dropping a leaf loses no result, so results stay; the loop
 -- ends where a round strikes nothing; each round strikes one of at most one leaf fewer than there are nodes. Assumes nothing.
 use Prim.Native.Nat.{ℕ, zero, suc, _+_, _-_, _*_, _≤_, _<_}
-use mathlib.Core.Path.{_≡_, refl, sym, ap, ap₂, _∙_, subst}
+use mathlib.Core.Path.{_≡_, refl, sym, ap, _∙_, subst}
 use mathlib.Core.Bool.{true, false}
 use mathlib.Core.Logic.{_⊎_, inl, inr, _↔_, Iff·trans}
 use mathlib.Core.Option.{Option, none, some, Option·some-injective, Option·none-ne-some, Option·some-ne-none}
@@ -25,11 +25,11 @@ use Rattle.model.proofs.KeepLaws.{keep-out}
 use Rattle.model.proofs.Verdict.{IsIncluded, judge-included, included-or-not, included-or-stopped, verdict-judge, verdict-tried}
 use Rattle.model.proofs.Decision.{contained-exact}
 use Rattle.model.proofs.Carrying.{carries-self, carries-after, carried-result, carried-facts}
-use Rattle.model.proofs.Removing.{raised-not, raised-ascends, raised-apart, raised-lowered, lowered-inside, length-removed, getD-removed, length-without, without-carries, without-tree}
+use Rattle.model.proofs.Removing.{raised-not, raised-ascends, raised-apart, raised-lowered, lowered-inside, getD-removed, length-without, without-carries, without-tree}
 
 -- ---- sums
 
-total-append : (ms ns : List ℕ) → total (ms ++ ns) ≡ total ms + total ns
+pub total-append : (ms ns : List ℕ) → total (ms ++ ns) ≡ total ms + total ns
 total-append [] ns = omega arith
 total-append (m ∷ ms) ns = let e = total-append ms ns in omega arith
 
@@ -126,7 +126,7 @@ module _ {S : Summary} (s : SummaryFacts S) (L : ℕ) {P : Pattern} (p : Pattern
   facts-without = carried-facts carries p (without-tree P q inside may (p .tree))
 
   -- the present selection as the set of one
-  member : (Q : Pattern) → List·Memᴰ Q (P ∷ []) → MemberFacts (without P q) Q
+  pub member : (Q : Pattern) → List·Memᴰ Q (P ∷ []) → MemberFacts (without P q) Q
   member Q m = go (List·Memᴰ·cases-cons m)
     where
       go : (Q ≡ P) ⊎ List·Memᴰ Q [] → MemberFacts (without P q) Q
@@ -183,7 +183,7 @@ pub record LoopFacts (S : Summary) (L : ℕ) (P : Pattern) (names : List ℕ) (s
   pub each : Each L (s .tried)
 
 -- one of these leaves is a node, and may go
-leaf-may : (P : Pattern) (q : ℕ) → List·Memᴰ q (mayGoOf P) → (q < length P) × (mayGo P q ≡ true)
+pub leaf-may : (P : Pattern) (q : ℕ) → List·Memᴰ q (mayGoOf P) → (q < length P) × (mayGo P q ≡ true)
 leaf-may P q m = let k = keep-elim (mayGo P) q (upFrom 0 (length P)) m in let l = upFrom-mem 0 (length P) q (k .0) in (omega arith, k .1)
 
 may-leaf : (P : Pattern) (q : ℕ) → q < length P → mayGo P q ≡ true → List·Memᴰ q (mayGoOf P)

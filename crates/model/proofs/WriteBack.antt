@@ -172,7 +172,7 @@ module _ (b : List ℕ) where
   summary-again : Spans b 0 (sectionFields summaryFields (section summaryRecordAt summaryWidth b 0)) (firstAt b)
   summary-again = section-again summaryRecordAt summaryFields summaryWidth summary-rewritable b 0
 
-  pattern-again : (at : ℕ) → Spans b at (sectionFields patternFields (section patternRecordAt patternWidth b at)) (sectionEnd patternWidth b at)
+  pub pattern-again : (at : ℕ) → Spans b at (sectionFields patternFields (section patternRecordAt patternWidth b at)) (sectionEnd patternWidth b at)
   pattern-again at = section-again patternRecordAt patternFields patternWidth pattern-rewritable b at
 
   old-pattern-again : (at : ℕ) → Spans b at (sectionFields oldRecordFields (section oldRecordAt oldWidth b at)) (sectionEnd oldWidth b at)

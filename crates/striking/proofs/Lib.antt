@@ -1,4 +1,3 @@
-pub mod Temp
 pub mod NumberLaws
 pub mod RecordLaws
 pub mod WriteWithout

@@ -14,8 +14,8 @@ use Rattle.model.proofs.ReadBack.{AreBytes}
 use Rattle.model.proofs.WriteBack.{spans-fit}
 use Rattle.format.specs.Given.{patternAt, PatternGiven}
 use Rattle.format.proofs.SectionLaws.{pattern-count}
-use Rattle.format.proofs.WriteLaws.{Out, copied-front, written-out}
-use Rattle.striking.proofs.Temp.{fields-stored, pattern-again}
+use Rattle.format.proofs.WriteLaws.{Out, copied-front, written-out, fields-stored}
+use Rattle.model.proofs.WriteBack.{pattern-again}
 use Rattle.striking.proofs.SectionBytes.{section-fields, pattern-held, pattern-given}
 
 -- of the pattern at field `at`, which has k nodes

@@ -1,10 +1,9 @@
 -- One record as bytes, its parent renumbered: the parent's field, and the fields after it as they stand. Assumes nothing.
 use Prim.Native.Nat.{ℕ, zero, suc, _+_, _-_, _*_, _≤_, _<_}
-use mathlib.Core.Path.{_≡_, refl, sym, ap, ap₂, _∙_, subst}
+use mathlib.Core.Path.{_≡_, sym, ap, ap₂, _∙_}
 use mathlib.Core.Logic.{_⊎_, inl, inr}
-use mathlib.Core.List.{List, [], _∷_, _++_, flatMap}
+use mathlib.Core.List.{List, [], _∷_, flatMap}
 use native.Mathlib.Omega.{arith}
-use native.Mathlib.Numerals.{add-one}
 use lib.ListN.{length, getD}
 use lib.Seq.{sets}
 use Rattle.model.specs.Lists.{upFrom}
@@ -12,11 +11,10 @@ use Rattle.model.specs.Limits.{patternWidth}
 use Rattle.model.specs.Pattern.{PatternRecord, noPatternRecord, patternParent}
 use Rattle.model.specs.Bytes.{field, fieldBytes, bytesOf, fieldsAt, patternRecordAt, patternFields}
 use Rattle.model.specs.Striking.{lowered, relinked}
-use Rattle.model.proofs.Bytes.{length-bytes}
 use Rattle.model.proofs.Removing.{lowered-cases}
 use Rattle.format.specs.Given.{patternAt, PatternGiven}
 use Rattle.format.proofs.SectionLaws.{record-ends, pattern-below, section-record}
-use Rattle.striking.proofs.Temp.{bytes-append, sets-append}
+use Rattle.format.proofs.WriteLaws.{sets-append}
 
 -- a parent is a node's number, and lowered too
 pub parent-small : (b : List ℕ) (j q : ℕ) {p l : ℕ} → PatternGiven b 0 → j < length (patternAt b 0) → p ≡ patternParent (patternAt b 0) j → l ≡ lowered q p → l < 65_536

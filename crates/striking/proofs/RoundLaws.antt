@@ -1,11 +1,11 @@
 -- A round, leaf by leaf: each node has its turn, and the round over all of them is what was tried so far and the round over those that are
 -- left. Assumes nothing.
-use Prim.Native.Nat.{ℕ, zero, suc, _+_, _-_, _*_, _≤_, _<_}
-use mathlib.Core.Path.{_≡_, refl, sym, ap, ap₂, _∙_, subst}
+use Prim.Native.Nat.{ℕ, suc, _+_, _-_, _*_, _≤_, _<_}
+use mathlib.Core.Path.{_≡_, refl, sym, ap, _∙_, subst}
 use mathlib.Core.Bool.{Bool, true, false, true≢false, false≢true}
 use mathlib.Core.Logic.{_⊎_, inl, inr}
 use mathlib.Core.Option.{none, some}
-use mathlib.Core.List.{List, [], _∷_}
+use mathlib.Core.List.{[], _∷_}
 use native.Mathlib.Omega.{arith}
 use native.Mathlib.Numerals.{add-one}
 use lib.ListN.{length}
@@ -22,7 +22,10 @@ use Rattle.containment.specs.Answer.{answerOf}
 use Rattle.containment.specs.declared.Containment.{Containment}
 use Rattle.striking.specs.Rounds.{turnBy, turnIn, leafOf, roundOf}
 use Rattle.striking.specs.declared.round.Turned.{Turned}
-use Rattle.striking.specs.declared.round.Rounded.{Rounded}
+
+-- the most that a round tries: 16 verdicts, each within the largest limit
+abbrev pub mostTried : ℕ
+mostTried = 16_000_000
 
 module _ (S : Summary) (L : ℕ) (P : Pattern) where
   abbrev verdictOn : ℕ → Verdict
@@ -121,7 +124,7 @@ module _ (S : Summary) (L : ℕ) (P : Pattern) where
       record { turn = omega arith; leaf = sym (ap (λ (x : model.Round). leafOf (x .struck)) same); sum = omega arith; few = omega arith }
 
   module _ {q tried : ℕ} (g : Going q tried) (low : L ≤ maxLimit) (size : length P ≤ maxPattern) (h : q < length P) {t : Turned} (e : t ≡ turnIn S L P q) where
-    pub turn-few : tried + t .tried ≤ 16_000_000
+    pub turn-few : tried + t .tried ≤ mostTried
     turn-few = let a = turns q h e .few in let b = g .few in omega arith
 
     pub going-on : t .struck ≡ false → Going (q + 1) (tried + t .tried)

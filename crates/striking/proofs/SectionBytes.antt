@@ -1,24 +1,21 @@
 -- A pattern's section as bytes: its fields fit, without a leaf too, so where they are stored the pattern is read back. Assumes nothing.
-use Prim.Native.Nat.{ℕ, zero, suc, _+_, _-_, _*_, _≤_, _<_}
-use mathlib.Core.Path.{_≡_, refl, sym, ap, ap₂, _∙_, subst}
+use Prim.Native.Nat.{ℕ, suc, _+_, _-_, _*_, _≤_, _<_}
+use mathlib.Core.Path.{_≡_, sym, ap, _∙_, subst}
 use mathlib.Core.Logic.{_⊎_, inl, inr}
-use mathlib.Core.List.{List, [], _∷_, _++_, map, flatMap, List·Memᴰ, List·Memᴰ·head, List·Memᴰ·tail}
+use mathlib.Core.List.{List, _∷_, flatMap, List·Memᴰ·head, List·Memᴰ·tail}
 use native.Mathlib.Omega.{arith}
-use lib.ListN.{length, getD, take, replicate, length-replicate, length-map}
-use lib.Seq.{sets, length-sets}
+use lib.ListN.{length, getD}
 use Rattle.model.specs.Limits.{maxPattern, patternWidth}
-use Rattle.model.specs.Tree.{Rooted}
-use Rattle.model.specs.Pattern.{PatternRecord, Pattern, IsPatternTree, noPatternRecord, patternParent}
-use Rattle.model.specs.Bytes.{field, bytesOf, fieldsAt, patternRecordAt, patternFields, section, sectionEnd, sectionFields, encodePattern, WholeSection}
-use Rattle.model.specs.Striking.{lowered, raised, relinked, without}
+use Rattle.model.specs.Pattern.{PatternRecord, Pattern, IsPatternTree, noPatternRecord}
+use Rattle.model.specs.Bytes.{field, fieldsAt, patternRecordAt, patternFields, sectionEnd, sectionFields}
+use Rattle.model.specs.Striking.{lowered, raised, without}
 use Rattle.model.proofs.Bytes.{FitFields, Holds, pattern-readable, length-section, section-end, section-back}
 use Rattle.model.proofs.ReadBack.{AreBytes, field-fits}
-use Rattle.model.proofs.WriteBack.{Spans}
-use Rattle.model.proofs.Removing.{raised-inside, lowered-cases, length-without, record-without, without-tree}
+use Rattle.model.proofs.Removing.{raised-inside, lowered-cases, length-without, record-without}
 use Rattle.format.specs.Given.{patternAt, PatternGiven}
 use Rattle.format.proofs.SectionLaws.{pattern-count, section-record}
 use Rattle.striking.specs.Present.{RecordFits}
-use Rattle.striking.proofs.Temp.{field-before, fields-stored, pattern-again}
+use Rattle.model.proofs.WriteBack.{pattern-again}
 
 records-fit : (P : Pattern) → ((i : ℕ) → i < length P → RecordFits (getD P i noPatternRecord)) → FitFields (flatMap patternFields P)
 unfolding flatMap

@@ -1,31 +1,30 @@
 -- The set of one that is the present pattern, and after it the pattern without a leaf: what the bytes hold is an accepted case beside the
 -- summary. Assumes nothing.
 use Prim.Native.Nat.{ℕ, zero, suc, _+_, _*_, _≤_, _<_}
-use mathlib.Core.Path.{_≡_, refl, sym, ap, ap₂, _∙_, subst}
+use mathlib.Core.Path.{_≡_, sym, ap, ap₂, _∙_, subst}
 use mathlib.Core.Bool.{true}
 use mathlib.Core.Logic.{_⊎_, inl, inr}
-use mathlib.Core.List.{List, [], _∷_, _++_, map, flatMap, List·Memᴰ, List·Memᴰ·cases-cons, List·Memᴰ·not-nil}
+use mathlib.Core.List.{List, [], _∷_, map, flatMap, List·Memᴰ, List·Memᴰ·cases-cons}
 use native.Mathlib.Omega.{arith}
 use native.Mathlib.Nat.{zero-add}
-use lib.ListN.{length, getD, replicate, length-replicate}
+use lib.ListN.{length, replicate, length-replicate}
 use lib.Seq.{sets, length-sets}
 use Rattle.model.specs.Lists.{upFrom}
-use Rattle.model.specs.Limits.{maxPattern, maxPosition, maxLimit, patternWidth}
-use Rattle.model.specs.Pattern.{Pattern, arity, noPatternRecord}
-use Rattle.model.specs.Bytes.{Case, field, fieldBytes, bytesOf, fieldsAt, memberAt, setOf, section, patternRecordAt, patternFields, sectionEnd, sectionFields, setFields, encodePattern, WholeSection, WholeSet}
-use Rattle.model.specs.Facts.{SummaryFacts, PatternFacts, MemberFacts, CaseFacts}
-use Rattle.model.specs.Verdict.{Verdict, verdict}
+use Rattle.model.specs.Limits.{maxPattern, maxPosition, patternWidth}
+use Rattle.model.specs.Pattern.{Pattern, arity}
+use Rattle.model.specs.Bytes.{Case, field, fieldBytes, bytesOf, fieldsAt, memberAt, setOf, patternRecordAt, patternFields, sectionFields, setFields, encodePattern, WholeSection}
+use Rattle.model.specs.Facts.{CaseFacts}
 use Rattle.model.specs.Striking.{mayGo, without, verdictWithout}
-use Rattle.model.proofs.Bytes.{FitFields, Holds, holds-left, holds-right, length-bytes, pattern-readable, length-section, member-first}
+use Rattle.model.proofs.Bytes.{FitFields, Holds, holds-right, pattern-readable, length-section}
 use Rattle.model.proofs.ReadBack.{AreBytes}
 use Rattle.model.proofs.WriteBack.{one-fields}
 use Rattle.model.proofs.Removing.{length-without, without-carries, without-tree}
-use Rattle.model.proofs.Striking.{facts-without}
+use Rattle.model.proofs.Striking.{facts-without, member}
 use Rattle.format.specs.Given.{summaryIn, patternAt, PatternGiven, SetGiven}
 use Rattle.format.proofs.SectionLaws.{pattern-count}
-use Rattle.containment.specs.Answer.{answerOf, caseBy, verdictOf, CaseGiven}
+use Rattle.containment.specs.Answer.{caseBy, verdictOf, CaseGiven}
 use Rattle.striking.specs.Present.{Strikable, SetStands}
-use Rattle.striking.proofs.Temp.{bytes-append, sets-append, field-before, fields-stored}
+use Rattle.format.proofs.WriteLaws.{sets-append, field-before, fields-stored}
 use Rattle.striking.proofs.SectionBytes.{section-fits, read-fits, without-fits, pattern-held, pattern-given, section-fields}
 
 -- ---- the set is written
@@ -141,13 +140,6 @@ module _ {case present : List ℕ} {limit : ℕ} (G : Strikable case present lim
     arities : arity Q ≡ arity P
     arities = without-carries P q inside may .arities
 
-    member : (R : Pattern) → List·Memᴰ R (P ∷ []) → MemberFacts Q R
-    member R m = go (List·Memᴰ·cases-cons m)
-      where
-        go : (R ≡ P) ⊎ List·Memᴰ R [] → MemberFacts Q R
-        go (inl e) = subst (MemberFacts Q) (sym e) (record { pattern = G .facts; sameArity = arities; size = few })
-        go (inr n) = absurd (List·Memᴰ·not-nil n)
-
     pub case-given : CaseGiven case w′ at 0
     case-given =
         record {
@@ -158,7 +150,7 @@ module _ {case present : List ℕ} {limit : ℕ} (G : Strikable case present lim
               (record {
                 summary = G .outline;
                 first = facts-without (G .outline) limit (G .facts) few inside may;
-                members = member;
+                members = member (G .outline) limit (G .facts) few inside may;
                 someMembers = omega arith;
                 fewMembers = omega arith;
                 someArity = subst (λ (n : ℕ). 1 ≤ n) (sym arities) (G .someArity);

@@ -4,7 +4,7 @@ use Prim.Native.Nat.{ℕ, suc, _+_, _-_, _*_, _≤_, _<_}
 use mathlib.Core.Path.{_≡_, refl, sym, ap, _∙_, subst}
 use mathlib.Core.Bool.{true}
 use mathlib.Core.Option.{Option, none, some}
-use mathlib.Core.List.{List, [], _∷_, _++_, map, append-assoc, append-nil, List·Memᴰ}
+use mathlib.Core.List.{List, [], _∷_, _++_, map, append-assoc, append-nil}
 use native.Mathlib.Omega.{arith}
 use native.Mathlib.Nat.{zero-add}
 use native.Mathlib.Numerals.{add-one}
@@ -17,31 +17,20 @@ use Rattle.model.specs.Pattern.{Pattern, noPatternRecord, arity}
 use Rattle.model.specs.Bytes.{patternRecordAt, patternFields, sectionFields, encodePattern, writtenAtFront}
 use Rattle.model.specs.Facts.{PatternFacts}
 use Rattle.model.specs.Striking.{removed, raised, without, mayGo, mayGoOf, verdictWithout, Round, round, Struck, alsoStruck, strikeFrom, strikeAll}
-use Rattle.model.proofs.ListLaws.{keep-elim, upFrom-mem, length-keep, length-upFrom, getD-upFrom}
+use Rattle.model.proofs.ListLaws.{length-keep, length-upFrom, getD-upFrom}
 use Rattle.model.proofs.Bytes.{Holds, pattern-readable, length-section}
 use Rattle.model.proofs.Verdict.{verdict-tried}
 use Rattle.model.proofs.Removing.{getD-removed, length-without, not-root, without-carries}
-use Rattle.model.proofs.Striking.{RoundFacts, round-facts, each-limited, facts-without}
+use Rattle.model.proofs.Striking.{total-append, leaf-may, RoundFacts, round-facts, each-limited, facts-without}
 use Rattle.format.specs.Given.{summaryIn, patternAt}
 use Rattle.judging.proofs.TableSets.{table-entry}
 use Rattle.striking.specs.Present.{RecordFits, Strikable}
 use Rattle.striking.specs.Rounds.{leafOf, roundOf}
 use Rattle.striking.specs.Strikes.{StruckBy}
 use Rattle.striking.specs.declared.round.Rounded.{Rounded}
-use Rattle.striking.proofs.Temp.{fields-stored}
+use Rattle.format.proofs.WriteLaws.{fields-stored}
+use Rattle.striking.proofs.RoundLaws.{mostTried}
 use Rattle.striking.proofs.SectionBytes.{section-fits, without-fits, pattern-held, pattern-given}
-
--- `total-append` and `leaf-may` of model's Striking, to be made pub there
-total-append : (ms ns : List ℕ) → total (ms ++ ns) ≡ total ms + total ns
-total-append [] ns = omega arith
-total-append (m ∷ ms) ns = let e = total-append ms ns in omega arith
-
-leaf-may : (P : Pattern) (q : ℕ) → List·Memᴰ q (mayGoOf P) → (q < length P) × (mayGo P q ≡ true)
-leaf-may P q m = let k = keep-elim (mayGo P) q (upFrom 0 (length P)) m in let l = upFrom-mem 0 (length P) q (k .0) in (omega arith, k .1)
-
--- the most that a round tries: 16 verdicts, each within the largest limit
-abbrev pub mostTried : ℕ
-mostTried = 16_000_000
 
 -- ---- a round
 
@@ -177,7 +166,7 @@ module _ {case : List ℕ} {L : ℕ} {P₀ : Pattern} {present struck names : Li
   place-left = let t = turns-left in let f = v .few in let p = v .sizes .1 in omega arith
 
   module _ {x : Rounded} (e : x ≡ roundOf S L P) where
-    tried-bound : x .tried ≤ mostTried
+    pub tried-bound : x .tried ≤ mostTried
     tried-bound = subst (λ (n : ℕ). n ≤ mostTried) (ap (λ (y : Rounded). y .tried) (sym e)) (round-bound S L P (v .stands .limited) (v .stands .pattern .few))
 
     pub striking-end : x .leaf ≡ 0 → StruckBy (strikeAll S L P₀) present struck (record { count = k; tried = tried + x .tried })

@@ -1,5 +1,5 @@
 -- Writing a section without a node: after i turns the first i records stand from the field after the count on. Assumes nothing.
-use Prim.Native.Nat.{ℕ, suc, _+_, _-_, _*_, _≤_, _<_}
+use Prim.Native.Nat.{ℕ, _+_, _-_, _*_, _≤_, _<_}
 use mathlib.Core.Path.{_≡_, refl, sym, ap, ap₂, _∙_, subst}
 use mathlib.Core.List.{List, [], _∷_, _++_, flatMap}
 use native.Mathlib.Omega.{arith}
@@ -12,8 +12,7 @@ use Rattle.model.specs.Bytes.{fieldBytes, bytesOf, patternRecordAt, patternFiel
 use Rattle.model.specs.Striking.{raised, relinked, without}
 use Rattle.model.proofs.Bytes.{length-bytes, pattern-readable, length-records}
 use Rattle.model.proofs.Removing.{raised-inside, length-without, record-without}
-use Rattle.format.proofs.WriteLaws.{flatMap-append}
-use Rattle.striking.proofs.Temp.{bytes-append, sets-append}
+use Rattle.format.proofs.WriteLaws.{flatMap-append, bytes-append, sets-append}
 
 pub record Writing (Q : Pattern) (to : ℕ) (out₀ out : List ℕ) (i : ℕ) : Type 0 where
   pub turns : i ≤ length Q

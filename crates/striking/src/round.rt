@@ -10,7 +10,7 @@ use format::write::copy_fields;
 use format::write::put_field;
 use judging::rows::SummaryRows;
 ghost use mathlib.Core.Path.{_≡_};
-ghost use Prim.Native.Nat.{_+_, _*_, _≤_, _<_};
+ghost use Prim.Native.Nat.{_<_};
 ghost use lib.ListN.{length};
 ghost use mathlib.Core.Bool.{true};
 ghost use Rattle.model.specs.Striking.{mayGo, verdictWithout};
@@ -113,7 +113,7 @@ fn turn(
 // A round over the present pattern.
 pub fn round(case: &[u8], rows: &SummaryRows, present: &[u8], limit: u64) -> Rounded
     requires { ⌜ Strikable (now case) (now present) limit × (now rows ≡ summaryRows (summaryIn (now case))) ⌝ }
-    ensures { λ r. ⌜ (r ≡ roundOf (summaryIn (now (case .entry))) limit (patternAt (now (present .entry)) 0)) × (r .tried ≤ 16000000) ⌝ }
+    ensures { λ r. ⌜ r ≡ roundOf (summaryIn (now (case .entry))) limit (patternAt (now (present .entry)) 0) ⌝ }
 {
     let mut work = set_of_one(present);
     let n = pattern_count(present, 0);

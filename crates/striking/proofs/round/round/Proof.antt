@@ -37,7 +37,7 @@ returns c =
     let G = c .before .before .before .before .before .before .before .before .before .before .pre .0 in
     let h = inside (c .before .before .before .before .loop-test .taken) (c .before .before .before .before .before .before .pattern-count .ensures .0) in
     let t = c .before .before .turn .ensures .0 in
-    (going-struck _ _ _ (c .before .before .before .before .before .loop .inv .0) (G .limited) (G .pattern .few) h t (c .if1 .taken), turn-few _ _ _ (c .before .before .before .before .before .loop .inv .0) (G .limited) (G .pattern .few) h t)
+    going-struck _ _ _ (c .before .before .before .before .before .loop .inv .0) (G .limited) (G .pattern .few) h t (c .if1 .taken)
 
 loop-again : tie.Need-loop-again Inv-loop μ-loop
 loop-again c =
@@ -45,10 +45,7 @@ loop-again c =
     (going-on _ _ _ (c .before .before .before .before .before .loop .inv .0) (G .limited) (G .pattern .few) (inside (c .before .before .before .before .loop-test .taken) (c .before .before .before .before .before .before .pattern-count .ensures .0)) (c .before .before .turn .ensures .0) (c .if1 .left), c .before .before .turn .ensures .1)
 
 returns-2 : tie.Need-returns-2 Inv-loop μ-loop
-returns-2 c =
-    let g = c .before .loop .inv .0 in
-    let few = c .before .before .before .before .before .before .pre .0 .pattern .few in
-    (going-none _ _ _ g (omega (arith, c .loop-test .left, c .before .before .pattern-count .ensures .0)), omega (arith, g .few, g .turn, few))
+returns-2 c = going-none _ _ _ (c .before .loop .inv .0) (omega (arith, c .loop-test .left, c .before .before .pattern-count .ensures .0))
 
 pub round-spec : {M : Type 1} → statement M
 round-spec = tie.close (tie.spec Inv-loop μ-loop (λ c κs. search needs) (λ c κs. search needs) loop-holds turn-requires add-tried returns (λ c. search needs) (λ c. search needs) loop-again returns-2)

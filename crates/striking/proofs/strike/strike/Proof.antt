@@ -6,7 +6,7 @@ use denote.Ref.{now}
 use lib.ListN.{length}
 use borrow.Author.Needs.{needs}
 use Rattle.format.specs.Given.{patternAt}
-use Rattle.striking.proofs.StrikeLaws.{Striking, striking-start, turns-left, place-left, leaf-inside, striking-step, striking-end}
+use Rattle.striking.proofs.StrikeLaws.{Striking, striking-start, turns-left, place-left, tried-bound, leaf-inside, striking-step, striking-end}
 use Rattle.striking.proofs.strike.strike.Statement.{statement}
 use Rattle.striking.proofs.strike.strike.Tie as tie
 
@@ -23,10 +23,10 @@ round-requires : tie.Need-round-requires Inv-loop μ-loop
 round-requires c κs = let s = c .before .before .before .before .before .before .before .before .before in (c .before .before .before .loop .inv .stands, s .pre .1)
 
 add-tried : tie.Need-add-tried Inv-loop μ-loop
-add-tried c = let v = c .before .before .before .before .before .loop .inv in omega (arith, v .bound, turns-left v, v .few, c .before .round .ensures .1)
+add-tried c = let v = c .before .before .before .before .before .loop .inv in omega (arith, v .bound, turns-left v, v .few, tried-bound v (c .before .round .ensures))
 
 returns : tie.Need-returns Inv-loop μ-loop
-returns c = striking-end (c .before .before .before .before .before .before .loop .inv) (c .before .before .round .ensures .0) (c .if1 .taken)
+returns c = striking-end (c .before .before .before .before .before .before .loop .inv) (c .before .before .round .ensures) (c .if1 .taken)
 
 -- what stands before the turn that strikes
 inv : (c : tie.Else1 Inv-loop μ-loop) → let l = c .before .before .before .before .before .before in let s = l .before .before .before .before .before .before in
@@ -35,7 +35,7 @@ inv c = c .before .before .before .before .before .before .loop .inv
 
 -- its leaf is a node
 leaf : (c : tie.Else1 Inv-loop μ-loop) → c .before .before .round .result .leaf < length (patternAt (c .before .before .before .before .before .before .loop .present) 0)
-leaf c = leaf-inside (inv c) (c .before .before .round .ensures .0) (c .if1 .left)
+leaf c = leaf-inside (inv c) (c .before .before .round .ensures) (c .if1 .left)
 
 mul-struck : tie.Need-mul-struck Inv-loop μ-loop
 mul-struck c = omega (arith, leaf c, inv c .stands .pattern .few)
@@ -54,7 +54,7 @@ shortened-requires c κs =
 loop-again : tie.Need-loop-again Inv-loop μ-loop
 loop-again c =
     let d = c .before .before .before .before .before in
-    striking-step (inv d) (d .before .before .round .ensures .0) (d .if1 .left) (c .shortened .ensures) (c .before .before .before .renamed .ensures)
+    striking-step (inv d) (d .before .before .round .ensures) (d .if1 .left) (c .shortened .ensures) (c .before .before .before .renamed .ensures)
 
 returns-2 : tie.Need-returns-2 Inv-loop μ-loop
 returns-2 c = absurd (let v = c .before .loop .inv in omega (arith, turns-left v, c .loop-test .left, c .before .before .before .pattern-count .ensures .0))
