@@ -1,7 +1,7 @@
 -- An order as texts put one after another: a selection's node lines are those of its section's records, and the counted list behind it is
 -- printed by its count. Assumes nothing.
-use Prim.Native.Nat.{ℕ, _+_, _*_, _≤_, _<_}
-use mathlib.Core.Path.{_≡_, refl, sym, ap, ap₂, _∙_, subst}
+use Prim.Native.Nat.{ℕ, _+_, _*_, _≤_}
+use mathlib.Core.Path.{_≡_, sym, ap, ap₂, _∙_}
 use mathlib.Core.Logic.{_≢_}
 use mathlib.Core.List.{List, [], _∷_, _++_}
 use native.Mathlib.Omega.{arith}
@@ -13,7 +13,7 @@ use Rattle.model.specs.Text.{ascii, line, patternLine, patternLines, orderText,
 use Rattle.model.proofs.WriteBack.{pattern-rewritable}
 use Rattle.model.proofs.Calls.{chosen-accepted, chosen-refused}
 use Rattle.text.specs.Records.{recordLines}
-use Rattle.text.proofs.PutLaws.{Parts, both}
+use Rattle.text.proofs.PutLaws.{Parts}
 use Rattle.text.proofs.ListedLaws.{table-lines}
 use Rattle.listing.specs.Order.{OrderHeld, textOf, toldText}
 

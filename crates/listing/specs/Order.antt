@@ -1,6 +1,5 @@
 -- A shortened order in an answer buffer, for a reader of its bytes: a selection's section, and behind it a counted list.
 use Prim.Native.Nat.{ℕ, _+_, _*_, _≤_}
-use mathlib.Core.Path.{_≡_}
 use mathlib.Core.Bool.{true, false}
 use mathlib.Core.List.{List}
 use lib.Dec.{eqb}

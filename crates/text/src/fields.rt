@@ -5,7 +5,7 @@ use crate::put::put;
 use crate::put::word;
 use format::field::field;
 use format::field::wide64;
-ghost use mathlib.Core.List.{_∷_, _++_};
+ghost use mathlib.Core.List.{_++_};
 ghost use Prim.Native.Nat.{_+_, _*_, _≤_, _<_};
 ghost use lib.ListN.{length};
 ghost use Rattle.model.specs.Bytes.{field as fieldOf, fieldsAt, WholeSection};

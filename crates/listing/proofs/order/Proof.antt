@@ -24,7 +24,7 @@ list-line-requires c κs =
     let s = l .before .before .before .before .before in (
       list-inside _ (p .pattern-end .ensures) (f .field .ensures .0) (s .pre .0),
       room-same (list-same _ (p .pattern-end .ensures) (f .field .ensures .0))
-      (room-rest (both _ _) (room-rest (order-parts _ _) (s .pre .1) (l .line .ensures)) (r .record-lines .ensures)),
+          (room-rest (both _ _) (room-rest (order-parts _ _) (s .pre .1) (l .line .ensures)) (r .record-lines .ensures)),
     )
 
 returns : tie.Need-returns

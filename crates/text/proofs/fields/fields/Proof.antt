@@ -1,7 +1,6 @@
 -- `text::fields::fields` meets its contract: before turn i the fields before it are put. The measure is how many are left. Assumes nothing.
 use Prim.Native.Nat.{_+_, _-_}
 use mathlib.Core.Path.{sym, ap, _∙_}
-use native.Mathlib.Omega.{arith}
 use borrow.Author.Needs.{needs}
 use Rattle.model.specs.Bytes.{field}
 use Rattle.model.specs.Text.{number}
