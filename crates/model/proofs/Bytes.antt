@@ -17,7 +17,7 @@ use Rattle.model.specs.Limits.{maxCaseBytes, summaryWidth, patternWidth,
 use Rattle.model.specs.Tree.{Document, noDocumentRecord}
 use Rattle.model.specs.Summary.{Summary, noSummaryRecord}
 use Rattle.model.specs.Pattern.{Pattern, noPatternRecord}
-use Rattle.model.specs.Bytes.{field, fieldBytes, bytesOf, recordsAt, summaryRecordAt, patternRecordAt, documentRecordAt, section, sectionEnd, memberAt, setEnd, setOf, firstAt, setAt, caseEnd, Case, caseOf, WholeSection, WholeSet, WholeCase, isWholeCase, Decoded, tables, notWhole, decodeCase, documentOf, isWholeDocument, decodeDocument, listOf, summaryFields, patternFields, documentFields, sectionFields, setFields, caseFields, encodeCase, encodeDocument, encodeList, writtenAtFront}
+use Rattle.model.specs.Bytes.{field, fieldBytes, bytesOf, fieldsAt, countedAt, recordsAt, summaryRecordAt, patternRecordAt, documentRecordAt, section, sectionEnd, memberAt, setEnd, setOf, firstAt, setAt, caseEnd, Case, caseOf, WholeSection, WholeSet, WholeCase, isWholeCase, Decoded, tables, notWhole, decodeCase, documentOf, isWholeDocument, decodeDocument, listOf, summaryFields, patternFields, documentFields, sectionFields, setFields, caseFields, encodeCase, encodeDocument, encodeList, writtenAtFront}
 use Rattle.model.specs.OldForm.{oldWidth, oldRecordFields, oldRecordAt}
 use Rattle.model.proofs.ListLaws.{and-intro, and-left, and-right}
 
@@ -149,6 +149,12 @@ map-range f d (x ∷ xs) a h =
     let rest : map f (upFrom (suc a) (length xs)) ≡ xs = map-range f d xs (suc a) (λ j k. ap f (next j) ∙ h (suc j) (omega arith)) in
     ap₂ (λ (y : _) (ys : List _). y ∷ ys) first rest
 
+-- a counted list that the bytes hold is read back
+pub counted-back : (b : List ℕ) (at : ℕ) (ns : List ℕ) → Holds b at (length ns ∷ ns) → (field b at ≡ length ns) × (countedAt b at ≡ ns)
+counted-back b at ns h =
+    let count : field b at ≡ length ns = holds-head b at (length ns) ns h in
+    (count, ap (fieldsAt b (at + 1)) count ∙ map-range (field b) 0 ns (at + 1) (holds-right b at (length ns ∷ []) ns h))
+
 -- records of one width, read where their fields stand, are those records
 pub record Readable {A : Type 0} (read : List ℕ → ℕ → A) (fields : A → List ℕ) (width : ℕ) : Type 0 where
   pub size : (r : A) → length (fields r) ≡ width
@@ -179,7 +185,7 @@ module _ {A : Type 0} (read : List ℕ → ℕ → A) (fields : A → List ℕ) 
   length-section rs = let e : length (flatMap fields rs) ≡ width * length rs = length-records rs in omega arith
 
   -- the count of a section that the bytes hold
-  section-count : (b : List ℕ) (at : ℕ) (rs : List A) → Holds b at (sectionFields fields rs) → field b at ≡ length rs
+  pub section-count : (b : List ℕ) (at : ℕ) (rs : List A) → Holds b at (sectionFields fields rs) → field b at ≡ length rs
   unfolding sectionFields
   section-count b at rs h = holds-head b at (length rs) (flatMap fields rs) h
 

@@ -78,6 +78,12 @@ module _ (P : Pattern) where
       (parentRule q (patternParent P q) && leb (getD P q noPatternRecord .edge) 1 && (ltb 0 q || eqb (getD P q noPatternRecord .edge) 0)) _
       (all-below (patternRecordKept P) (length P) kept q h))
 
+  edge-bound : patternKept P ≡ true → (q : ℕ) → q < length P → getD P q noPatternRecord .edge ≤ 1
+  unfolding patternKept patternRecordKept
+  edge-bound kept q h =
+      leb-true (getD P q noPatternRecord .edge) 1
+      (and-right (parentRule q (patternParent P q)) _ (and-left _ _ (and-left _ _ (all-below (patternRecordKept P) (length P) kept q h))))
+
   some-positions : positionsOnce P ≡ true → 1 ≤ arity P
   unfolding positionsOnce
   some-positions once = leb-true 1 (arity P) (and-left _ _ once)
@@ -218,6 +224,14 @@ label-some S kept s h =
 pub labels-some : (b : List ℕ) → AllYes (caseQuestions b) → (s : ℕ) → s < length (caseOf b .summary) → 0 < summaryLabel (caseOf b .summary) s
 unfolding caseQuestions
 labels-some b y = label-some (caseOf b .summary) (y .1 .1 .1 .0)
+
+-- the first selection's edges are 0 or 1, and its positions at most 8
+pub first-bounds : (b : List ℕ) → AllYes (caseQuestions b) → (q : ℕ) → q < length (caseOf b .first)
+    → (getD (caseOf b .first) q noPatternRecord .edge ≤ 1) × (position (caseOf b .first) q ≤ maxPosition)
+unfolding caseQuestions patternsKept
+first-bounds b y q h =
+    let kept : patternKept (caseOf b .first) ≡ true = and-left _ _ (y .1 .1 .1 .1 .1 .0) in
+    (edge-bound (caseOf b .first) kept q h, position-bound (caseOf b .first) kept q h)
 
 -- a selection of an accepted case keeps the rules and is as large as it may be, whichever it is
 pub selected-facts : (c : Case) (s : ℕ) → CaseFacts c → patternGiven c s ≡ true → MemberFacts (c .first) (selected c s)

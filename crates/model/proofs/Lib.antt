@@ -42,9 +42,11 @@ pub mod Decision
 pub mod Striking
 pub mod Sets
 pub mod ReadBack
+pub mod StruckBack
 pub mod WriteBack
 pub mod Moving
 pub mod Demands
 pub mod Printed
+pub mod OrderPrinted
 pub mod Computing
 pub mod Examples

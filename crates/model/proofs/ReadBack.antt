@@ -114,11 +114,11 @@ result-inside {P} {W} f k v m =
 
 -- ---- where a reader takes the section and the list
 
-field-before : (w t : List ℕ) (i : ℕ) → 2 * i + 1 < length w → field (w ++ t) i ≡ field w i
+pub field-before : (w t : List ℕ) (i : ℕ) → 2 * i + 1 < length w → field (w ++ t) i ≡ field w i
 unfolding field
 field-before w t i h = ap₂ (λ (x y : ℕ). x + 256 * y) (List·getD-append w t 0 (2 * i) (omega arith)) (List·getD-append w t 0 (2 * i + 1) h)
 
-field-behind : (w t : List ℕ) (n i : ℕ) → length w ≡ 2 * n → field (w ++ t) (n + i) ≡ field t i
+pub field-behind : (w t : List ℕ) (n i : ℕ) → length w ≡ 2 * n → field (w ++ t) (n + i) ≡ field t i
 unfolding field
 field-behind w t n i e =
     let low : 2 * (n + i) ≡ length w + 2 * i = omega arith in

@@ -15,10 +15,10 @@ use Rattle.model.specs.Limits.{maxPattern, maxVerdicts}
 use Rattle.model.specs.Lists.{upFrom, keep, total}
 use Rattle.model.specs.Tree.{Document}
 use Rattle.model.specs.Summary.{Summary, Fits}
-use Rattle.model.specs.Pattern.{Pattern, Result, Carries}
+use Rattle.model.specs.Pattern.{PatternRecord, Pattern, Result, Carries}
 use Rattle.model.specs.Verdict.{Verdict, included, notIncluded, stopped, triedOf}
 use Rattle.model.specs.Facts.{SummaryFacts, PatternFacts, MemberFacts}
-use Rattle.model.specs.Striking.{removed, lowered, raised, without, mayGo, mayGoOf, verdictWithout, Round, judged, round, Struck, alsoStruck, strikeFrom, strikeAll}
+use Rattle.model.specs.Striking.{removed, lowered, raised, relinked, without, mayGo, mayGoOf, verdictWithout, Round, judged, round, Struck, alsoStruck, strikeFrom, strikeAll}
 use Rattle.model.specs.Demands.{Shortened}
 use Rattle.model.proofs.ListLaws.{true-or-false, map-agree, upFrom-mem, mem-upFrom, keep-elim, keep-intro, length-keep, length-upFrom, getD-upFrom}
 use Rattle.model.proofs.KeepLaws.{keep-out}
@@ -292,6 +292,41 @@ module _ {S : Summary} (s : SummaryFacts S) (L : ℕ) where
           → LoopFacts S L P names (elim o as (λ _. Struck) [ none ↦ record { pattern = P; struck = []; tried = r .tried } | some q ↦ alsoStruck (getD names q 0) (r .tried) (strikeFrom n S L (without P q) (removed q names)) ])
       go none e rest = ended names p r f e
       go (some q) e rest = let m = leaf-may P q (f .strikes q e .0) in went-on names p small r f q e (strikeFrom n S L (without P q) (removed q names)) (rest q (m .0) (m .1))
+
+-- ---- what a record keeps
+
+removed-mem : {A : Type 0} {x : A} (q : ℕ) (xs : List A) → List·Memᴰ x (removed q xs) → List·Memᴰ x xs
+unfolding removed
+removed-mem q [] m = m
+removed-mem zero (y ∷ xs) m = List·Memᴰ·tail m
+removed-mem (suc q) (y ∷ xs) (List·Memᴰ·head e) = List·Memᴰ·head e
+removed-mem (suc q) (y ∷ xs) (List·Memᴰ·tail m) = List·Memᴰ·tail (removed-mem q xs m)
+
+-- what holds of every record, and of each again when its parent is renumbered, holds of every record that is left
+module _ (Ok : PatternRecord → Type 0) (again : (q : ℕ) (r : PatternRecord) → Ok r → Ok (relinked q r)) where
+  abbrev Every : Pattern → Type 0
+  Every P = (r : PatternRecord) → List·Memᴰ r P → Ok r
+
+  without-every : (P : Pattern) (q : ℕ) → Every P → Every (without P q)
+  unfolding without
+  without-every P q h r m = let k = Memᴰ·of-map (relinked q) (removed q P) m in subst Ok (k .2) (again q (k .0) (h (k .0) (removed-mem q P (k .1))))
+
+  from-every : (n : ℕ) (S : Summary) (L : ℕ) (P : Pattern) (names : List ℕ) → Every P → Every (strikeFrom n S L P names .pattern)
+  unfolding strikeFrom
+  from-every zero S L P names h = h
+  from-every (suc n) S L P names h = go (r .struck) (λ q. from-every n S L (without P q) (removed q names) (without-every P q h))
+    where
+      r : Round
+      r = round (verdictWithout S L P) (mayGoOf P)
+
+      go : (o : Option ℕ) → ((q : ℕ) → Every (strikeFrom n S L (without P q) (removed q names) .pattern))
+          → Every ((elim o as (λ _. Struck) [ none ↦ record { pattern = P; struck = []; tried = r .tried } | some q ↦ alsoStruck (getD names q 0) (r .tried) (strikeFrom n S L (without P q) (removed q names)) ]) .pattern)
+      go none rest = h
+      go (some q) rest = rest q
+
+  pub every-record : (S : Summary) (L : ℕ) (P : Pattern) → Every P → Every (strikeAll S L P .pattern)
+  unfolding strikeAll
+  every-record S L P h = from-every (length P) S L P (upFrom 0 (length P)) h
 
 -- ---- from the start
 

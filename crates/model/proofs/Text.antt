@@ -1,5 +1,6 @@
--- What is printed: a number's decimal text is read back as that number, has digits only and no needless zero, and a whole text has at
--- most 21,263 bytes, since numbers and labels have few digits and a trial volume few nodes. Assumes nothing.
+-- What is printed: a number's decimal text is read back as that number, has digits only and no needless zero; the verdict's whole text has
+-- at most 21,263 bytes and a printed order at most 404, since numbers and labels have few digits and a trial volume and a selection few
+-- nodes. Assumes nothing.
 use Prim.Native.Nat.{ℕ, zero, suc, _+_, _-_, _*_, _/_, _%_, _^_, _≤_, _<_}
 use mathlib.Core.Path.{_≡_, refl, sym, ap, _∙_, subst}
 use mathlib.Core.Bool.{true, false}
@@ -8,16 +9,18 @@ use mathlib.Core.List.{List, [], _∷_, _++_, flatMap, List·Memᴰ, List·Mem�
 use native.Mathlib.Omega.{arith}
 use native.Mathlib.Nat.{pow-suc}
 use lib.Dec.{ltb}
-use lib.ListN.{length, length-append}
+use lib.ListN.{length, getD, length-append}
 use borrow.Author.Tests.{lt-ltb, le-ltb, ltb-true, ltb-false}
 use Rattle.model.specs.Lists.{upFrom}
-use Rattle.model.specs.Limits.{maxLimit, minBuffer, maxCanonical, maxPosition, maxText}
+use Rattle.model.specs.Limits.{maxLimit, maxVerdicts, minBuffer, maxPattern, maxCanonical, maxPosition, maxText, maxOrderText}
 use Rattle.model.specs.Tree.{Document, parentOf, labelOf}
-use Rattle.model.specs.Text.{ascii, digit, decimalIn, decimal, readOn, number, numbers, line, nodeLine, nodeLines, answerLine, firstLines, shownText, refusedText, caseText, programCaller, programTallies, programRefusal, printed, Told, told}
+use Rattle.model.specs.Pattern.{Pattern, noPatternRecord, patternParent, patternLabel, position}
+use Rattle.model.specs.Text.{ascii, digit, decimalIn, decimal, readOn, number, numbers, line, nodeLine, nodeLines, answerLine, firstLines, shownText, refusedText, caseText, programCaller, programTallies, programRefusal, printed, patternLine, patternLines, orderText, struckText, orderRefusal, orderPrinted, Told, told}
 use Rattle.model.specs.Bytes.{caseOf}
+use Rattle.model.specs.Striking.{strikeAll}
 use Rattle.model.specs.OldForm.{oldQuestions}
 use Rattle.model.specs.Moving.{upgradeRefusal, downgradeRefusal}
-use Rattle.model.specs.Questions.{Question, refusal, caseQuestions, verdictRefusal}
+use Rattle.model.specs.Questions.{Question, refusal, caseQuestions, limitInRange, chargedQuestions, ask, verdictRefusal, minimiseRefusal}
 use Rattle.model.proofs.ListLaws.{true-or-false, length-upFrom, upFrom-mem}
 use Rattle.model.proofs.Refusals.{refusal-yes, refusal-no}
 use Rattle.model.specs.Calls.{tallyOf}
@@ -247,6 +250,72 @@ shown-small n {W} {result} h p =
     let c = answer-small p in
     omega arith
 
+-- the most of a selection's node line: a number and a parent below 100, a label below 100,000, an edge and a position below 10
+pattern-line-small : (P : Pattern) (i : ℕ) → i < 100 → patternParent P i < 100 → patternLabel P i < 100_000 → getD P i noPatternRecord .edge < 10 → position P i < 10 → length (patternLine P i) ≤ 21
+unfolding patternLine numbers flatMap
+pattern-line-small P i a b c d e =
+    let parent : ℕ = patternParent P i in
+    let label : ℕ = patternLabel P i in
+    let edge : ℕ = getD P i noPatternRecord .edge in
+    let place : ℕ = position P i in
+    let whole = length-line (ascii "node") (i ∷ parent ∷ label ∷ edge ∷ place ∷ []) in
+    let f = length-numbers i (parent ∷ label ∷ edge ∷ place ∷ []) in
+    let g = length-numbers parent (label ∷ edge ∷ place ∷ []) in
+    let h = length-numbers label (edge ∷ place ∷ []) in
+    let k = length-numbers edge (place ∷ []) in
+    let l = length-numbers place [] in
+    let p = decimal-length 1 i a in
+    let q = decimal-length 1 parent b in
+    let r = decimal-length 4 label c in
+    let s = decimal-length 0 edge d in
+    let t = decimal-length 0 place e in
+    omega arith
+
+-- a selection that can be printed as an order: few nodes, each with its parent among them, a 16-bit label, an edge and a position by the
+-- rules; and the numbers of the nodes struck from one that has few
+pub record Orderable (P : Pattern) (struck : List ℕ) : Type 0 where
+  pub few : length P ≤ maxPattern
+  pub parents : (i : ℕ) → i < length P → patternParent P i < length P
+  pub labels : (i : ℕ) → i < length P → patternLabel P i < 65_536
+  pub edges : (i : ℕ) → i < length P → getD P i noPatternRecord .edge ≤ 1
+  pub positions : (i : ℕ) → i < length P → position P i ≤ maxPosition
+  pub fewStruck : length struck < maxPattern
+  pub nodes : (v : ℕ) → List·Memᴰ v struck → v < maxPattern
+
+pattern-lines-small : {P : Pattern} {struck : List ℕ} → Orderable P struck → length (patternLines P) ≤ 21 * maxPattern
+unfolding patternLines
+pattern-lines-small {P} p =
+    let few = p .few in
+    let every : (i : ℕ) → List·Memᴰ i (upFrom 0 (length P)) → length (patternLine P i) ≤ 21 =
+    λ i m.
+    let h : i < length P = (let r = upFrom-mem 0 (length P) i m .1 in omega arith) in
+    let a = p .parents i h in
+    let b = p .labels i h in
+    let c = p .edges i h in
+    let d = p .positions i h in
+    pattern-line-small P i (omega arith) (omega arith) (omega arith) (omega arith) (omega arith) in
+    let f = flat-small (patternLine P) 21 (upFrom 0 (length P)) every in
+    let n = length-upFrom 0 (length P) in
+    omega arith
+
+struck-small : {P : Pattern} {struck : List ℕ} → Orderable P struck → length (line (ascii "struck") struck) ≤ 52
+struck-small {P} {struck} p =
+    let e = length-line (ascii "struck") struck in
+    let k = p .fewStruck in
+    let f = numbers-small 1 struck (λ v m. let h = p .nodes v m in omega arith) in
+    omega arith
+
+-- the text of an order fits
+pub order-fits : (n : ℕ) {P : Pattern} {struck : List ℕ} → n ≤ maxVerdicts * maxLimit → Orderable P struck → length (orderText n P struck) ≤ maxOrderText
+unfolding orderText
+order-fits n {P} {struck} h p =
+    let e = length-append (line (ascii "tried") (n ∷ [])) (patternLines P ++ line (ascii "struck") struck) in
+    let f = length-append (patternLines P) (line (ascii "struck") struck) in
+    let a = one-line-small (ascii "tried") 8 n (omega arith) in
+    let b = pattern-lines-small p in
+    let c = struck-small p in
+    omega arith
+
 -- ---- what is printed of any bytes
 
 -- every number of the questions is at most k
@@ -263,11 +332,19 @@ refusal-most k (q ∷ qs) h = go (true-or-false (q .answer)) (refusal-most k qs 
     go (inl y) r = let e = refusal-yes q qs y in omega arith
     go (inr n) r = let e = refusal-no q qs n in let l = h .0 in omega arith
 
-verdict-most : (b : List ℕ) (L caller tally bufferBytes : ℕ) → verdictRefusal b L caller tally bufferBytes ≤ 16
-unfolding verdictRefusal caseQuestions
-verdict-most b L caller tally bufferBytes =
+charged-most : (b : List ℕ) (L most caller tally bufferBytes : ℕ) → refusal (ask 1 (limitInRange L) ∷ chargedQuestions b most caller tally bufferBytes) ≤ 16
+unfolding caseQuestions
+charged-most b L most caller tally bufferBytes =
     refusal-most 16 _
     (omega arith, (omega arith, (omega arith, (omega arith, (omega arith, (omega arith, (omega arith, (omega arith, (omega arith, (omega arith, (omega arith, tt)))))))))))
+
+verdict-most : (b : List ℕ) (L caller tally bufferBytes : ℕ) → verdictRefusal b L caller tally bufferBytes ≤ 16
+unfolding verdictRefusal
+verdict-most b L caller tally bufferBytes = charged-most b L L caller tally bufferBytes
+
+minimise-most : (b : List ℕ) (L caller tally bufferBytes : ℕ) → minimiseRefusal b L caller tally bufferBytes ≤ 16
+unfolding minimiseRefusal
+minimise-most b L caller tally bufferBytes = charged-most b L (maxVerdicts * L) caller tally bufferBytes
 
 module _ (b : List ℕ) where
   pub printed-refused : programRefusal b ≢ 0 → printed b ≡ refusedText (programRefusal b)
@@ -278,6 +355,14 @@ module _ (b : List ℕ) where
   unfolding printed
   printed-accepted e = chosen-accepted (programRefusal b) (caseText (caseOf b)) (refusedText (programRefusal b)) e
 
+  pub order-refused : orderRefusal b ≢ 0 → orderPrinted b ≡ refusedText (orderRefusal b)
+  unfolding orderPrinted
+  order-refused f = chosen-refused (orderRefusal b) (struckText (strikeAll (caseOf b .summary) maxLimit (caseOf b .first))) (refusedText (orderRefusal b)) f
+
+  pub order-accepted : orderRefusal b ≡ 0 → orderPrinted b ≡ struckText (strikeAll (caseOf b .summary) maxLimit (caseOf b .first))
+  unfolding orderPrinted
+  order-accepted e = chosen-accepted (orderRefusal b) (struckText (strikeAll (caseOf b .summary) maxLimit (caseOf b .first))) (refusedText (orderRefusal b)) e
+
 -- a refusal's line is short
 pub refused-short : (n : ℕ) → n < 100 → length (refusedText n) ≤ 11
 unfolding refusedText
@@ -286,6 +371,9 @@ refused-short n h = let e = one-line-small (ascii "refused") 1 n (omega arith) i
 -- so it fits
 pub refused-small : (b : List ℕ) → length (refusedText (programRefusal b)) ≤ maxText
 refused-small b = let m = verdict-most b maxLimit programCaller (tallyOf programTallies programCaller) minBuffer in omega (arith, refused-short (programRefusal b) (omega arith))
+
+pub order-refused-small : (b : List ℕ) → length (refusedText (orderRefusal b)) ≤ maxOrderText
+order-refused-small b = let m = minimise-most b maxLimit programCaller (tallyOf programTallies programCaller) minBuffer in omega (arith, refused-short (orderRefusal b) (omega arith))
 
 -- so do the first lines
 pub first-fits : (words : List ℕ) (n : ℕ) → length words ≤ 12 → n ≤ maxLimit → length (firstLines words n) ≤ maxText

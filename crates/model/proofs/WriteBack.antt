@@ -162,7 +162,7 @@ four-fields b at =
     three : at + 3 ≡ suc (suc (suc at))
     three = omega arith
 
-pattern-rewritable : Rewritable patternRecordAt patternFields patternWidth
+pub pattern-rewritable : Rewritable patternRecordAt patternFields patternWidth
 pattern-rewritable = four-fields
 
 old-rewritable : Rewritable oldRecordAt oldRecordFields oldWidth

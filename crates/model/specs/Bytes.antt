@@ -25,6 +25,10 @@ bytesOf fs = flatMap fieldBytes fs
 abbrev pub fieldsAt : List ℕ → ℕ → ℕ → List ℕ
 fieldsAt b at n = map (field b) (upFrom at n)
 
+-- a counted list: its count in field `at`, then as many numbers
+abbrev pub countedAt : List ℕ → ℕ → List ℕ
+countedAt b at = fieldsAt b (at + 1) (field b at)
+
 -- n records of the given width from field `at` on
 unfoldable pub recordsAt : {A : Type 0} → (ℕ → A) → ℕ → ℕ → ℕ → List A
 recordsAt read width at n = map (λ i. read (at + width * i)) (upFrom 0 n)

@@ -8,13 +8,13 @@ use mathlib.Core.List.{List, _∷_, _++_, map, List·Memᴰ}
 use lib.Count.{ones}
 use lib.ListN.{length, getD, take, replicate}
 use Rattle.model.specs.Lists.{Ascending, has, total}
-use Rattle.model.specs.Limits.{minBuffer, maxPattern, maxCanonical, maxVerdicts, documentWidth}
+use Rattle.model.specs.Limits.{minBuffer, maxPattern, maxCanonical, maxVerdicts, patternWidth, documentWidth}
 use Rattle.model.specs.Tree.{Document}
 use Rattle.model.specs.Summary.{Summary, Fits}
 use Rattle.model.specs.Pattern.{Pattern, patternParent, position, Result, AtPosition, PathOf, Contained, CounterExample, Carries}
 use Rattle.model.specs.Embeddings.{summaryEmbeddings}
 use Rattle.model.specs.Canonical.{canonical, canonicalSpots, ownResult, covered}
-use Rattle.model.specs.Bytes.{field, sectionEnd, caseOf, documentOf, listOf, encodeDocument, encodeCounted, writtenAtFront, shownSection, shownList}
+use Rattle.model.specs.Bytes.{field, patternRecordAt, section, sectionEnd, countedAt, caseOf, documentOf, listOf, encodeDocument, encodeCounted, writtenAtFront, shownSection, shownList}
 use Rattle.model.specs.Questions.{selected, verdictRefusal, minimiseRefusal, fitsRefusal, resultRefusal, nodesRefusal, pathsRefusal, layoutRefusal}
 use Rattle.model.specs.Calls.{Received, OnEight, refusedAnswer, VerdictOutcome, kindIncluded, kindNotIncluded, kindStopped, kindOf, verdictCall, tallyOf, TalliedOutcome, talliedCall, TestAnswer, yesAnswer, noAnswer, fitsCall, resultCall, CountOutcome, nodesCall, PathsAnswer, pathsCall, LaidRecord, laidRecord, LayoutOutcome, layoutCall}
 use Rattle.model.specs.Striking.{verdictWithout, Struck, strikeAll, MinimiseAnswer, refusedStrike, MinimiseOutcome, struckBytes, minimiseCall, talliedMinimise}
@@ -188,6 +188,13 @@ pub record StruckOf (S : Summary) (P : Pattern) (L : ℕ) (s : Struck) (tally : 
 -- of the tables that the case's bytes hold
 abbrev pub StruckTold : List ℕ → ℕ → ℕ → List ℕ → MinimiseOutcome → Type 0
 StruckTold b L tally before o = StruckOf (caseOf b .summary) (caseOf b .first) L (strikeAll (caseOf b .summary) L (caseOf b .first)) tally before o
+
+-- what is written of s reads back from the buffer: the section is the shortened selection, and the counted list after it the struck numbers
+pub record StruckReadsBack (after : List ℕ) (s : Struck) : Type 0 where
+  pub nodes : field after 0 ≡ length (s .pattern)
+  pub pattern : section patternRecordAt patternWidth after 0 ≡ s .pattern
+  pub count : field after (sectionEnd patternWidth after 0) ≡ length (s .struck)
+  pub struck : countedAt after (sectionEnd patternWidth after 0) ≡ s .struck
 
 -- ---- Callers, over a run of calls that name them
 

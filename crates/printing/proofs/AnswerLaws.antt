@@ -4,7 +4,6 @@ use Prim.Native.Nat.{ℕ, _≤_}
 use mathlib.Core.Path.{_≡_, refl, sym, ap, _∙_, subst}
 use mathlib.Core.List.{List}
 use native.Mathlib.Omega.{arith}
-use native.Mathlib.Nat.{zero-add}
 use lib.ListN.{length}
 use Rattle.model.specs.Limits.{maxLimit, minBuffer, documentWidth, maxPosition, maxText}
 use Rattle.model.specs.Tree.{Document}
@@ -23,10 +22,9 @@ use Rattle.format.proofs.GivenLaws.{whole-document}
 use Rattle.deciding.specs.Outcome.{outcomeOf}
 use Rattle.deciding.specs.declared.Answer.{Answer}
 use Rattle.deciding.specs.declared.Answer.the-variants.{Refused, Contained, NotContained, Stopped}
-use Rattle.text.specs.Put.{Room, Put}
+use Rattle.text.specs.Put.{Room, Put, Printed}
 use Rattle.printing.specs.Shown.{ShownWhole, toldText, Tellable}
-use Rattle.printing.specs.Text.{Printed}
-use Rattle.text.proofs.PutLaws.{put-length, put-front, put-same}
+use Rattle.text.proofs.PutLaws.{room-same, put-same, put-printed}
 
 -- ---- an answer by its variant
 
@@ -85,10 +83,5 @@ module _ (b : List ℕ) {before after : List ℕ} (size : length before ≡ minB
         let s : length (toldText answer after) ≤ maxText = subst (λ (x : List ℕ). length x ≤ maxText) (sym (told-printed answer a)) (printed-small b small) in
         record { fits = omega arith }
 
-    pub text-printed : {out out' : List ℕ} {stop : ℕ} → length out ≡ maxText → Put (toldText answer after) 0 out out' stop → Printed b out out' stop
-    text-printed l p =
-        let q = put-same (told-printed answer a) p in
-        let e = q .ends ∙ zero-add (length (printed b)) in
-        let s = printed-small b small in
-        let n = put-length p (told-fits l) in
-        record { text = put-front q; counted = e; fits = omega arith }
+    pub text-printed : {out out' : List ℕ} {stop : ℕ} → length out ≡ maxText → Put (toldText answer after) 0 out out' stop → Printed (printed b) out out' stop
+    text-printed l p = put-printed (room-same (told-printed answer a) (told-fits l)) (put-same (told-printed answer a) p)

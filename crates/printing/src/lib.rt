@@ -6,9 +6,9 @@ use deciding::Answer;
 use deciding::verdict_call;
 use format::field::field;
 use text::line::line;
-ghost use Rattle.text.specs.Put.{Room, Put};
+ghost use Rattle.model.specs.Text.{printed};
+ghost use Rattle.text.specs.Put.{Room, Put, Printed};
 ghost use Rattle.printing.specs.Shown.{ShownWhole, textOf, Tellable, toldText};
-ghost use Rattle.printing.specs.Text.{Printed};
 
 // The text of "not included", with the document and the result that an answer buffer shows.
 fn shown_text(tried: u64, answer: &[u8], out: &mut [u8]) -> usize
@@ -37,7 +37,7 @@ fn answer_text(told: Answer, answer: &[u8], out: &mut [u8]) -> usize
 
 // The text of a case from standard input, with limit 1,000,000, caller 0 and its tally 0, and how many bytes it has.
 pub fn verdict_text(case: &[u8], out: &mut [u8; 21263]) -> usize
-    ensures { λ r. ⌜ Printed (now (case .entry)) (now (out .entry)) (now (out .exit)) r ⌝ }
+    ensures { λ r. ⌜ Printed (printed (now (case .entry))) (now (out .entry)) (now (out .exit)) r ⌝ }
 {
     let mut answer = [0u8; 4096];
     let told = verdict_call(case, 1000000, 0, 0, &mut answer);

@@ -21,3 +21,7 @@ words-parts w = both w (ascii "\n")
 pub line-parts : (w : List ℕ) (n : ℕ) → Parts (line w (n ∷ [])) w (number n ++ ascii "\n")
 unfolding line numbers flatMap
 line-parts w n = record { parts = ap (λ (x : List ℕ). w ++ x) (more n [] (ascii "\n")) }
+
+pub list-parts : (w ns : List ℕ) → Parts (line w ns) w (numbers ns ++ ascii "\n")
+unfolding line
+list-parts w ns = both w (numbers ns ++ ascii "\n")

@@ -11,7 +11,7 @@ use lib.Seq.{paste, paste-zero, paste-suc, length-paste, take-paste, drop-paste,
 use Rattle.model.specs.Bytes.{writtenAtFront}
 use Rattle.model.specs.Text.{digit, decimal}
 use Rattle.model.proofs.Text.{decimal-one, decimal-more}
-use Rattle.text.specs.Put.{Room, Put}
+use Rattle.text.specs.Put.{Room, Put, Printed}
 
 pub put-length : {text : List ℕ} {at : ℕ} {before after : List ℕ} {stop : ℕ} → Put text at before after stop → Room text at before → length after ≡ length before
 put-length {text} {at} {before} p h = ap length (p .buffer) ∙ length-paste before at text (length text) (h .fits) (omega arith)
@@ -82,6 +82,14 @@ pub put-front : {text : List ℕ} {before after : List ℕ} {stop : ℕ} → Put
 unfolding writtenAtFront
 put-front {text} {before} p =
     p .buffer ∙ ap₂ (λ (x : List ℕ) (k : ℕ). x ++ drop k before) (take-all (length text) text (omega arith)) (zero-add (length text))
+
+-- and so it is printed
+pub put-printed : {text : List ℕ} {before after : List ℕ} {stop : ℕ} → Room text 0 before → Put text 0 before after stop → Printed text before after stop
+put-printed {text} h p =
+    let e = p .ends ∙ zero-add (length text) in
+    let f = h .fits in
+    let n = put-length p h in
+    record { bytes = put-front p; counted = e; fits = omega arith }
 
 -- ---- the loop that copies a text, which was out₀ before
 
