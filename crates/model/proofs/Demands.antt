@@ -28,7 +28,7 @@ use Rattle.model.specs.Striking.{childless, mayGo, verdictWithout, Struc
 use Rattle.model.specs.Runs.{Call, ofOne, ofOther, given, after, receipts, talliesAfter, callsOf, receivedBy}
 use Rattle.model.specs.Facts.{SummaryFacts, PatternFacts, MemberFacts, CaseFacts}
 use Rattle.model.specs.Moving.{upgradeRefusal, downgradeRefusal, upgraded, downgraded, movedCall, upgradeCall, downgradeCall}
-use Rattle.model.specs.Demands.{TestTold, FitsTold, ResultTold, NodesTold, PathsTold, LayoutTold, SomeCounterExample, AllEmbeddingsPass, SomeEmbeddingFails, Shown, ReadsBack, Demand3, FitsAnswered, ResultAnswered, NodesAnswered, PathsAnswered, LayoutAnswered, ChargedAnswered, VerdictAnswered, TalliedAnswered, MayGo, Shortened, StruckOf, StruckTold, MinimiseAnswered, TalliedMinimised, Separated, Summed, MoveAnswered, UpgradeAnswered, DowngradeAnswered}
+use Rattle.model.specs.Demands.{TestTold, FitsTold, ResultTold, NodesTold, PathsTold, LayoutTold, SomeCounterExample, AllEmbeddingsPass, SomeEmbeddingFails, Shown, ReadsBack, Demand3, FitsAnswered, ResultAnswered, NodesAnswered, PathsAnswered, LayoutAnswered, ChargedAnswered, VerdictAnswered, TalliedAnswered, MayGo, Shortened, StruckTold, MinimiseAnswered, TalliedMinimised, Separated, Summed, MoveAnswered, UpgradeAnswered, DowngradeAnswered}
 use Rattle.model.proofs.ListLaws.{and-intro, below-all, length-map-upFrom, getD-map-upFrom}
 use Rattle.model.proofs.ReturnNodes.{length-returnNodes}
 use Rattle.model.proofs.Results.{result-exact, nodes-at-exact, nodes-at-ascending, path-mask-exact, path-mask-beyond, path-count-ones}
@@ -42,6 +42,7 @@ use Rattle.model.proofs.Calls.{verdict-refused, verdict-accepted, minim
 use Rattle.model.proofs.Bytes.{FitFields, front-none, length-document}
 use Rattle.model.proofs.Runs.{VerdictRun, verdict-joins, MinimiseRun, minimise-joins, separated, summed}
 use Rattle.model.proofs.Removing.{not-root, no-position, no-children}
+use Rattle.model.proofs.StruckBack.{struck-back}
 use Rattle.model.proofs.Striking.{LoopFacts, all-facts, struck-shortened, few-verdicts, each-limited}
 use Rattle.model.proofs.Moving.{moved-refused, upgrade-moved, downgrade-moved}
 use Rattle.model.proofs.ReadBack.{AreBytes, label-small, canonical-labels, canonical-fields, reads-back}
@@ -306,10 +307,11 @@ may-go-exact P q = (
   ),
 )
 
--- of an accepted case: what the loop comes to keeps all that is demanded
-strike-told : (c : Case) → CaseFacts c → (L tally : ℕ) (buffer : List ℕ) → StruckOf (c .summary) (c .first) L (strikeAll (c .summary) L (c .first)) tally buffer (minimiseAccepted c L tally buffer)
+-- of bytes that every question on the case accepts: what the loop comes to keeps all that is demanded
+strike-told : (b : List ℕ) → AreBytes b → AllYes (caseQuestions b) → CaseFacts (caseOf b) → (L tally : ℕ) (buffer : List ℕ) → StruckTold b L tally buffer (minimiseAccepted (caseOf b) L tally buffer)
 unfolding minimiseAccepted
-strike-told c f L tally buffer =
+strike-told b small asked f L tally buffer =
+    let c : Case = caseOf b in
     let P : Pattern = c .first in
     let s : Struck = strikeAll (c .summary) L P in
     let l : LoopFacts (c .summary) L P (upFrom 0 (length P)) s = all-facts (f .summary) L (f .first) (f .firstSize) in
@@ -320,6 +322,7 @@ strike-told c f L tally buffer =
       count = refl;
       shortened = short;
       written = refl;
+      readsBack = struck-back b small asked f L buffer refl;
       sameResults = l .same;
       noneLeft = λ q m k. (let g = may-go-exact (s .pattern) q .1 m in l .none q (g .0) (g .1) (kind-included (verdictWithout (c .summary) L (s .pattern) q) .0 k));
       fewStruck = let n = short .count in let i : 0 < length (s .pattern) = l .facts .tree .inhabited in let k : length P ≤ maxPattern = f .firstSize in omega arith;
@@ -330,9 +333,11 @@ strike-told c f L tally buffer =
     }
 
 -- the call keeps it
-pub strike-demand : (b : List ℕ) (L caller tally : ℕ) (buffer : List ℕ) → minimiseRefusal b L caller tally (length buffer) ≡ 0 → StruckTold b L tally buffer (minimiseCall b L caller tally buffer)
-strike-demand b L caller tally buffer e =
-    subst (StruckTold b L tally buffer) (sym (minimise-accepted b L caller tally buffer e)) (strike-told (caseOf b) (accepted-minimise b L caller tally (length buffer) e .case .facts) L tally buffer)
+pub strike-demand : (b : List ℕ) → AreBytes b → (L caller tally : ℕ) (buffer : List ℕ) → minimiseRefusal b L caller tally (length buffer) ≡ 0
+    → StruckTold b L tally buffer (minimiseCall b L caller tally buffer)
+strike-demand b small L caller tally buffer e =
+    let f = accepted-minimise b L caller tally (length buffer) e in
+    subst (StruckTold b L tally buffer) (sym (minimise-accepted b L caller tally buffer e)) (strike-told b small (f .asked) (f .case .facts) L tally buffer)
 
 -- ---- Callers: over any run of calls that name one, each in whatever order and refused ones among them
 
@@ -457,12 +462,12 @@ unfolding talliedCall
 tallied-answered b L caller tallies size before a =
     charged-answered tallies size before (λ z. accepted-verdict b L caller (tallyOf tallies caller) (length before) z .known) (a .outcome) (a .demand1) (a .demand3)
 
-pub minimise-answered : (b : List ℕ) (L caller tally : ℕ) (before : List ℕ) {o : MinimiseOutcome} → o ≡ minimiseCall b L caller tally before → MinimiseAnswered b L caller tally before o
-minimise-answered b L caller tally before e =
+pub minimise-answered : (b : List ℕ) → AreBytes b → (L caller tally : ℕ) (before : List ℕ) {o : MinimiseOutcome} → o ≡ minimiseCall b L caller tally before → MinimiseAnswered b L caller tally before o
+minimise-answered b small L caller tally before e =
     record {
       outcome = e;
       demand1 = λ f. e ∙ minimise-refused b L caller tally before f;
-      demand3 = λ z. subst (StruckTold b L tally before) (sym e) (strike-demand b L caller tally before z);
+      demand3 = λ z. subst (StruckTold b L tally before) (sym e) (strike-demand b small L caller tally before z);
     }
 
 pub tallied-minimised : (b : List ℕ) (L caller : ℕ) (tallies : List ℕ) → length tallies ≡ callers → (before : List ℕ) {o : MinimiseOutcome}

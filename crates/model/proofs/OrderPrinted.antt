@@ -14,7 +14,7 @@ use Rattle.model.specs.Text.{orderText, refusedText, programCaller, orde
 use Rattle.model.proofs.Calls.{by-number}
 use Rattle.model.proofs.CallFacts.{ChargedFacts, accepted-minimise}
 use Rattle.model.proofs.ReadBack.{AreBytes}
-use Rattle.model.proofs.StruckBack.{struck-orderable, struck-back}
+use Rattle.model.proofs.StruckBack.{struck-orderable}
 use Rattle.model.proofs.Demands.{minimise-answered}
 use Rattle.model.proofs.Text.{Orderable, order-fits, order-refused, order-accepted, order-refused-small}
 
@@ -54,7 +54,7 @@ module _ (b : List ℕ) {before : List ℕ} (size : length before ≡ minBuffer)
     order-orderable = struck-orderable b small (known .asked) (known .case .facts) maxLimit
 
     pub order-back : StruckReadsBack (o .buffer) s
-    order-back = struck-back b small (known .asked) (known .case .facts) maxLimit before (told .written)
+    order-back = told .readsBack
 
     by-struck : orderPrinted b ≡ orderText (o .answer .tried) (s .pattern) (s .struck)
     by-struck = order-accepted b (sym same-number ∙ accepted-order e) ∙ ap (λ (n : ℕ). orderText n (s .pattern) (s .struck)) (sym (told .summed))
@@ -80,4 +80,4 @@ order-small b small =
     size = length-replicate {A = ℕ} minBuffer 0
 
     call : MinimiseAnswered b maxLimit programCaller 0 blank (minimiseCall b maxLimit programCaller 0 blank)
-    call = minimise-answered b maxLimit programCaller 0 blank refl
+    call = minimise-answered b small maxLimit programCaller 0 blank refl

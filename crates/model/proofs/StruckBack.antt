@@ -7,12 +7,12 @@ use native.Mathlib.Omega.{arith}
 use native.Mathlib.Nat.{zero-add}
 use lib.ListN.{length, getD, drop}
 use Rattle.model.specs.Lists.{upFrom}
-use Rattle.model.specs.Limits.{maxPosition, patternWidth}
+use Rattle.model.specs.Limits.{maxPattern, maxPosition, patternWidth}
 use Rattle.model.specs.Pattern.{PatternRecord, Pattern, noPatternRecord, patternParent}
 use Rattle.model.specs.Bytes.{field, recordsAt, patternRecordAt, section, sectionEnd, firstAt, caseOf, patternFields, sectionFields, encodePattern, encodeCounted, writtenAtFront}
 use Rattle.model.specs.Questions.{caseQuestions}
 use Rattle.model.specs.Striking.{relinked, Struck, strikeAll, struckBytes}
-use Rattle.model.specs.Facts.{CaseFacts}
+use Rattle.model.specs.Facts.{RecordFits, CaseFacts}
 use Rattle.model.specs.Demands.{Shortened, StruckReadsBack}
 use Rattle.model.proofs.ListLaws.{mem-at, at-mem, length-map-upFrom, getD-map-upFrom}
 use Rattle.model.proofs.Bytes.{FitFields, Holds, length-bytes, field-bytes, section-count, section-end, section-back, counted-back, pattern-readable}
@@ -81,27 +81,30 @@ first-small b small asked r m =
       position = f .1;
     })
 
--- the fields of a selection's section fit
-records-fit : (P : Pattern) → ((r : PatternRecord) → List·Memᴰ r P → (r .parent < 65_536) × Small r) → FitFields (flatMap patternFields P)
+-- the fields of a selection's section fit, if its records do
+records-fit : (P : Pattern) → ((i : ℕ) → i < length P → RecordFits (getD P i noPatternRecord)) → FitFields (flatMap patternFields P)
 unfolding flatMap
-records-fit (r ∷ P) h f (List·Memᴰ·head e) = subst (λ (x : ℕ). x < 65_536) (sym e) (h r (List·Memᴰ·head refl) .0)
-records-fit (r ∷ P) h f (List·Memᴰ·tail (List·Memᴰ·head e)) = subst (λ (x : ℕ). x < 65_536) (sym e) (h r (List·Memᴰ·head refl) .1 .label)
-records-fit (r ∷ P) h f (List·Memᴰ·tail (List·Memᴰ·tail (List·Memᴰ·head e))) = let l = h r (List·Memᴰ·head refl) .1 .edge in omega arith
-records-fit (r ∷ P) h f (List·Memᴰ·tail (List·Memᴰ·tail (List·Memᴰ·tail (List·Memᴰ·head e)))) = let l = h r (List·Memᴰ·head refl) .1 .position in omega arith
-records-fit (r ∷ P) h f (List·Memᴰ·tail (List·Memᴰ·tail (List·Memᴰ·tail (List·Memᴰ·tail m)))) = records-fit P (λ x k. h x (List·Memᴰ·tail k)) f m
+records-fit (r ∷ P) h f (List·Memᴰ·head e) = subst (λ (x : ℕ). x < 65_536) (sym e) (h 0 (omega arith) .parent)
+records-fit (r ∷ P) h f (List·Memᴰ·tail (List·Memᴰ·head e)) = subst (λ (x : ℕ). x < 65_536) (sym e) (h 0 (omega arith) .label)
+records-fit (r ∷ P) h f (List·Memᴰ·tail (List·Memᴰ·tail (List·Memᴰ·head e))) = subst (λ (x : ℕ). x < 65_536) (sym e) (h 0 (omega arith) .edge)
+records-fit (r ∷ P) h f (List·Memᴰ·tail (List·Memᴰ·tail (List·Memᴰ·tail (List·Memᴰ·head e)))) = subst (λ (x : ℕ). x < 65_536) (sym e) (h 0 (omega arith) .position)
+records-fit (r ∷ P) h f (List·Memᴰ·tail (List·Memᴰ·tail (List·Memᴰ·tail (List·Memᴰ·tail m)))) = records-fit P (λ i l. h (suc i) (omega arith)) f m
+
+pub section-fits : (P : Pattern) → length P ≤ maxPattern → ((i : ℕ) → i < length P → RecordFits (getD P i noPatternRecord)) → FitFields (sectionFields patternFields P)
+unfolding sectionFields
+section-fits P n h f (List·Memᴰ·head e) = subst (λ (x : ℕ). x < 65_536) (sym e) (omega arith)
+section-fits P n h f (List·Memᴰ·tail m) = records-fit P h f m
 
 pub orderable-section : {P : Pattern} {struck : List ℕ} → Orderable P struck → FitFields (sectionFields patternFields P)
-unfolding sectionFields
-orderable-section {P} p f (List·Memᴰ·head e) = let l = p .few in omega arith
-orderable-section {P} p f (List·Memᴰ·tail m) = records-fit P at f m
-  where
-    at : (r : PatternRecord) → List·Memᴰ r P → (r .parent < 65_536) × Small r
-    at r k =
-        let i = at-mem P r noPatternRecord k in
-        let few = p .few in
-        let inside = p .parents (i .0) (i .1) in
-        subst (λ (x : PatternRecord). (x .parent < 65_536) × Small x) (i .2)
-        (omega arith, record { label = p .labels (i .0) (i .1); edge = p .edges (i .0) (i .1); position = p .positions (i .0) (i .1) })
+orderable-section {P} p =
+    section-fits P (p .few)
+    (λ i h. (
+    let few = p .few in
+    let inside = p .parents (i) h in
+    let e = p .edges i h in
+    let n = p .positions i h in
+    record { parent = omega arith; label = p .labels i h; edge = omega arith; position = omega arith }
+    ))
 
 pub orderable-list : {P : Pattern} {struck : List ℕ} → Orderable P struck → FitFields (length struck ∷ struck)
 orderable-list p v (List·Memᴰ·head e) = let l = p .fewStruck in omega arith

@@ -166,6 +166,13 @@ pub record Shortened (P : Pattern) (gone : List ℕ) (Q : Pattern) : Type 0 wher
   pub all : (x : ℕ) → x < length P → List·Memᴰ x gone ⊎ ((i : ℕ) × (i < length Q) × (old i ≡ x))
   pub count : length Q + length gone ≡ length P
 
+-- what is written of s reads back from the buffer: the section is the shortened selection, and the counted list after it the struck numbers
+pub record StruckReadsBack (after : List ℕ) (s : Struck) : Type 0 where
+  pub nodes : field after 0 ≡ length (s .pattern)
+  pub pattern : section patternRecordAt patternWidth after 0 ≡ s .pattern
+  pub count : field after (sectionEnd patternWidth after 0) ≡ length (s .struck)
+  pub struck : countedAt after (sectionEnd patternWidth after 0) ≡ s .struck
+
 -- of outline S, first selection P and limit L, from the tally and the buffer before. The loop comes to s
 pub record StruckOf (S : Summary) (P : Pattern) (L : ℕ) (s : Struck) (tally : ℕ) (before : List ℕ) (o : MinimiseOutcome) : Type 0 where
   pub accepted : o .answer .refused ≡ 0
@@ -173,6 +180,7 @@ pub record StruckOf (S : Summary) (P : Pattern) (L : ℕ) (s : Struck) (tally : 
   pub count : o .answer .struck ≡ length (s .struck)
   pub shortened : Shortened P (s .struck) (s .pattern)
   pub written : o .buffer ≡ writtenAtFront (struckBytes s) before
+  pub readsBack : StruckReadsBack (o .buffer) s
   -- the two selections have the same results in every fitting volume, of any size
   pub sameResults : (W : Document) → Fits S W → (r : List ℕ) → Result P W r ↔ Result (s .pattern) W r
   -- no remaining such leaf would be struck: the verdict on it is not "included" within the limit
@@ -188,13 +196,6 @@ pub record StruckOf (S : Summary) (P : Pattern) (L : ℕ) (s : Struck) (tally : 
 -- of the tables that the case's bytes hold
 abbrev pub StruckTold : List ℕ → ℕ → ℕ → List ℕ → MinimiseOutcome → Type 0
 StruckTold b L tally before o = StruckOf (caseOf b .summary) (caseOf b .first) L (strikeAll (caseOf b .summary) L (caseOf b .first)) tally before o
-
--- what is written of s reads back from the buffer: the section is the shortened selection, and the counted list after it the struck numbers
-pub record StruckReadsBack (after : List ℕ) (s : Struck) : Type 0 where
-  pub nodes : field after 0 ≡ length (s .pattern)
-  pub pattern : section patternRecordAt patternWidth after 0 ≡ s .pattern
-  pub count : field after (sectionEnd patternWidth after 0) ≡ length (s .struck)
-  pub struck : countedAt after (sectionEnd patternWidth after 0) ≡ s .struck
 
 -- ---- Callers, over a run of calls that name them
 

@@ -7,7 +7,7 @@ use lib.ListN.{length}
 use Rattle.model.specs.Limits.{maxSummary, maxPattern, maxMembers, maxPosition, maxDocument}
 use Rattle.model.specs.Tree.{IsTree, Child, labelOf}
 use Rattle.model.specs.Summary.{Summary, asDocument, summaryLabel}
-use Rattle.model.specs.Pattern.{Pattern, IsPatternTree, arity, position, nodeAt}
+use Rattle.model.specs.Pattern.{PatternRecord, Pattern, IsPatternTree, arity, position, nodeAt}
 use Rattle.model.specs.Bytes.{Case, caseOf, documentOf, listOf, WholeCase, isWholeDocument, isWholeList}
 
 -- an outline by the rules: a tree whose siblings have different labels
@@ -22,6 +22,13 @@ pub record PatternFacts (P : Pattern) : Type 0 where
   pub held : (p : ℕ) → 1 ≤ p → p ≤ arity P → position P (nodeAt P p) ≡ p
   pub once : (q : ℕ) → q < length P → 0 < position P q → nodeAt P (position P q) ≡ q
   pub range : (q : ℕ) → q < length P → position P q ≤ arity P
+
+-- a selection record each of whose values fits the 16 bits of a field
+pub record RecordFits (r : PatternRecord) : Type 0 where
+  pub parent : r .parent < 65_536
+  pub label : r .label < 65_536
+  pub edge : r .edge < 65_536
+  pub position : r .position < 65_536
 
 -- a member of the set, beside the first selection P
 pub record MemberFacts (P Q : Pattern) : Type 0 where

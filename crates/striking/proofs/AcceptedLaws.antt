@@ -7,13 +7,13 @@ use lib.ListN.{length, getD, take, length-take}
 use Rattle.model.specs.Limits.{maxLimit, maxPosition}
 use Rattle.model.specs.Pattern.{Pattern, noPatternRecord, arity}
 use Rattle.model.specs.Bytes.{Case, caseOf, firstAt, encodePattern, encodeCounted, writtenAtFront}
-use Rattle.model.specs.Facts.{PatternFacts, AcceptedCase}
+use Rattle.model.specs.Facts.{PatternFacts, AcceptedCase, RecordFits}
 use Rattle.model.specs.Striking.{Struck, strikeAll}
 use Rattle.model.proofs.ReadBack.{AreBytes}
 use Rattle.format.specs.Given.{patternAt, PatternGiven}
 use Rattle.format.proofs.GivenLaws.{given-summary}
 use Rattle.questions.proofs.SectionLaws.{first-pattern}
-use Rattle.striking.specs.Present.{RecordFits, Strikable}
+use Rattle.striking.specs.Present.{Strikable}
 use Rattle.striking.specs.Strikes.{StruckBy}
 use Rattle.striking.specs.Outcome.{Told}
 use Rattle.striking.specs.declared.strike.Strikes.{Strikes}

@@ -11,19 +11,20 @@ use Rattle.model.specs.Striking.{refusedStrike, minimiseAccepted}
 use Rattle.model.specs.Demands.{MinimiseAnswered}
 use Rattle.model.proofs.Calls.{minimise-refused, minimise-accepted}
 use Rattle.model.proofs.Demands.{minimise-answered}
+use Rattle.model.proofs.ReadBack.{AreBytes}
 use Rattle.striking.specs.Outcome.{outcomeOf, Told}
 use Rattle.striking.specs.declared.Minimised.{Minimised}
 
-module _ (b : List ℕ) (L caller tally : ℕ) (buffer : List ℕ) where
+module _ (b : List ℕ) (small : AreBytes b) (L caller tally : ℕ) (buffer : List ℕ) where
   pub answered-refused : {number : ℕ} → number ≡ minimiseRefusal b L caller tally (length buffer) → (number ≡ 0 → ⊥)
       → MinimiseAnswered b L caller tally buffer (outcomeOf tally (record { refused = number; struck = 0; tried = 0 }) buffer)
   answered-refused e f =
-      minimise-answered b L caller tally buffer
+      minimise-answered b small L caller tally buffer
       ((λ i. record { answer = refusedStrike (e i); buffer = buffer; tally = add-zero tally i }) ∙ sym (minimise-refused b L caller tally buffer (λ z. f (e ∙ z))))
 
   pub answered-accepted : minimiseRefusal b L caller tally (length buffer) ≡ 0 → {after : List ℕ} {r : Minimised} → Told (caseOf b) L buffer after r
       → MinimiseAnswered b L caller tally buffer (outcomeOf tally r after)
   unfolding minimiseAccepted
   answered-accepted z t =
-      minimise-answered b L caller tally buffer
+      minimise-answered b small L caller tally buffer
       ((λ i. record { answer = t .answer i; buffer = t .buffer i; tally = tally + t .answer i .tried }) ∙ sym (minimise-accepted b L caller tally buffer z))

@@ -1,34 +1,21 @@
 -- A pattern's section as bytes: its fields fit, without a leaf too, so where they are stored the pattern is read back. Assumes nothing.
-use Prim.Native.Nat.{ℕ, suc, _+_, _-_, _*_, _≤_, _<_}
+use Prim.Native.Nat.{ℕ, _+_, _-_, _*_, _≤_, _<_}
 use mathlib.Core.Path.{_≡_, sym, ap, _∙_, subst}
 use mathlib.Core.Logic.{_⊎_, inl, inr}
-use mathlib.Core.List.{List, _∷_, flatMap, List·Memᴰ·head, List·Memᴰ·tail}
+use mathlib.Core.List.{List}
 use native.Mathlib.Omega.{arith}
 use lib.ListN.{length, getD}
 use Rattle.model.specs.Limits.{maxPattern, patternWidth}
 use Rattle.model.specs.Pattern.{PatternRecord, Pattern, IsPatternTree, noPatternRecord}
 use Rattle.model.specs.Bytes.{field, fieldsAt, patternRecordAt, patternFields, sectionEnd, sectionFields}
+use Rattle.model.specs.Facts.{RecordFits}
 use Rattle.model.specs.Striking.{lowered, raised, without}
-use Rattle.model.proofs.Bytes.{FitFields, Holds, pattern-readable, length-section, section-end, section-back}
+use Rattle.model.proofs.Bytes.{Holds, pattern-readable, length-section, section-end, section-back}
 use Rattle.model.proofs.ReadBack.{AreBytes, field-fits}
+use Rattle.model.proofs.WriteBack.{pattern-again}
 use Rattle.model.proofs.Removing.{raised-inside, lowered-cases, length-without, record-without}
 use Rattle.format.specs.Given.{patternAt, PatternGiven}
 use Rattle.format.proofs.SectionLaws.{pattern-count, section-record}
-use Rattle.striking.specs.Present.{RecordFits}
-use Rattle.model.proofs.WriteBack.{pattern-again}
-
-records-fit : (P : Pattern) → ((i : ℕ) → i < length P → RecordFits (getD P i noPatternRecord)) → FitFields (flatMap patternFields P)
-unfolding flatMap
-records-fit (r ∷ P) h f (List·Memᴰ·head e) = subst (λ (x : ℕ). x < 65_536) (sym e) (h 0 (omega arith) .parent)
-records-fit (r ∷ P) h f (List·Memᴰ·tail (List·Memᴰ·head e)) = subst (λ (x : ℕ). x < 65_536) (sym e) (h 0 (omega arith) .label)
-records-fit (r ∷ P) h f (List·Memᴰ·tail (List·Memᴰ·tail (List·Memᴰ·head e))) = subst (λ (x : ℕ). x < 65_536) (sym e) (h 0 (omega arith) .edge)
-records-fit (r ∷ P) h f (List·Memᴰ·tail (List·Memᴰ·tail (List·Memᴰ·tail (List·Memᴰ·head e)))) = subst (λ (x : ℕ). x < 65_536) (sym e) (h 0 (omega arith) .position)
-records-fit (r ∷ P) h f (List·Memᴰ·tail (List·Memᴰ·tail (List·Memᴰ·tail (List·Memᴰ·tail m)))) = records-fit P (λ i l. h (suc i) (omega arith)) f m
-
-pub section-fits : (P : Pattern) → length P ≤ maxPattern → ((i : ℕ) → i < length P → RecordFits (getD P i noPatternRecord)) → FitFields (sectionFields patternFields P)
-unfolding sectionFields
-section-fits P n h f (List·Memᴰ·head e) = subst (λ (x : ℕ). x < 65_536) (sym e) (omega arith)
-section-fits P n h f (List·Memᴰ·tail m) = records-fit P h f m
 
 -- of a pattern that is read from bytes
 pub read-fits : (b : List ℕ) → AreBytes b → (at i : ℕ) → i < length (patternAt b at) → RecordFits (getD (patternAt b at) i noPatternRecord)

@@ -25,7 +25,8 @@ use Rattle.format.proofs.SectionLaws.{pattern-count}
 use Rattle.containment.specs.Answer.{caseBy, verdictOf, CaseGiven}
 use Rattle.striking.specs.Present.{Strikable, SetStands}
 use Rattle.format.proofs.WriteLaws.{sets-append, field-before, fields-stored}
-use Rattle.striking.proofs.SectionBytes.{section-fits, read-fits, without-fits, pattern-held, pattern-given, section-fields}
+use Rattle.model.proofs.StruckBack.{section-fits}
+use Rattle.striking.proofs.SectionBytes.{read-fits, without-fits, pattern-held, pattern-given, section-fields}
 
 -- ---- the set is written
 

@@ -15,7 +15,7 @@ use Rattle.model.specs.Lists.{upFrom, total}
 use Rattle.model.specs.Summary.{Summary}
 use Rattle.model.specs.Pattern.{Pattern, noPatternRecord, arity}
 use Rattle.model.specs.Bytes.{patternRecordAt, patternFields, sectionFields, encodePattern, writtenAtFront}
-use Rattle.model.specs.Facts.{PatternFacts}
+use Rattle.model.specs.Facts.{PatternFacts, RecordFits}
 use Rattle.model.specs.Striking.{removed, raised, without, mayGo, mayGoOf, verdictWithout, Round, round, Struck, alsoStruck, strikeFrom, strikeAll}
 use Rattle.model.proofs.ListLaws.{length-keep, length-upFrom, getD-upFrom}
 use Rattle.model.proofs.Bytes.{Holds, pattern-readable, length-section}
@@ -24,13 +24,14 @@ use Rattle.model.proofs.Removing.{getD-removed, length-without, not-root, witho
 use Rattle.model.proofs.Striking.{total-append, leaf-may, RoundFacts, round-facts, each-limited, facts-without}
 use Rattle.format.specs.Given.{summaryIn, patternAt}
 use Rattle.judging.proofs.TableSets.{table-entry}
-use Rattle.striking.specs.Present.{RecordFits, Strikable}
+use Rattle.striking.specs.Present.{Strikable}
 use Rattle.striking.specs.Rounds.{leafOf, roundOf}
 use Rattle.striking.specs.Strikes.{StruckBy}
 use Rattle.striking.specs.declared.round.Rounded.{Rounded}
 use Rattle.format.proofs.WriteLaws.{fields-stored}
 use Rattle.striking.proofs.RoundLaws.{mostTried}
-use Rattle.striking.proofs.SectionBytes.{section-fits, without-fits, pattern-held, pattern-given}
+use Rattle.model.proofs.StruckBack.{section-fits}
+use Rattle.striking.proofs.SectionBytes.{without-fits, pattern-held, pattern-given}
 
 -- ---- a round
 

@@ -4,17 +4,10 @@ use mathlib.Core.Path.{_≡_}
 use mathlib.Core.List.{List, [], _∷_}
 use lib.ListN.{length, getD}
 use Rattle.model.specs.Limits.{maxLimit, maxPosition}
-use Rattle.model.specs.Pattern.{PatternRecord, Pattern, noPatternRecord, arity}
+use Rattle.model.specs.Pattern.{Pattern, noPatternRecord, arity}
 use Rattle.model.specs.Bytes.{field, setFields}
-use Rattle.model.specs.Facts.{SummaryFacts, PatternFacts}
+use Rattle.model.specs.Facts.{SummaryFacts, PatternFacts, RecordFits}
 use Rattle.format.specs.Given.{summaryIn, patternAt, SummaryGiven, PatternGiven}
-
--- each value of a record fits the 16 bits of a field
-pub record RecordFits (r : PatternRecord) : Type 0 where
-  pub parent : r .parent < 65_536
-  pub label : r .label < 65_536
-  pub edge : r .edge < 65_536
-  pub position : r .position < 65_536
 
 -- the pattern at field 0 keeps what an accepted case has of its first, beside the case's summary
 pub record Strikable (case present : List ℕ) (limit : ℕ) : Type 0 where
