@@ -3,11 +3,13 @@
 use format::field::field;
 use format::limits::PATTERN_WIDTH;
 use format::sections::pattern_end;
+use striking::minimise_call;
 use text::fields::list_line;
 use text::fields::record_lines;
 use text::line::line;
 ghost use mathlib.Core.Path.{_≡_};
-ghost use Rattle.text.specs.Put.{Room, Put};
+ghost use Rattle.model.specs.Text.{orderPrinted};
+ghost use Rattle.text.specs.Put.{Room, Put, Printed};
 ghost use Rattle.listing.specs.Order.{OrderHeld, textOf, toldText};
 
 // The text of a shortened order that an answer buffer holds: tried, the selection's nodes, and the struck numbers behind it.
@@ -31,4 +33,13 @@ fn answer_text(refused: u64, tried: u64, answer: &[u8], out: &mut [u8]) -> usize
     } else {
         line(b"refused", refused, out, 0)
     }
+}
+
+// The text of a case from standard input, with limit 1,000,000, caller 0 and its tally 0, and how many bytes it has.
+pub fn order_text(case: &[u8], out: &mut [u8; 404]) -> usize
+    ensures { λ r. ⌜ Printed (orderPrinted (now (case .entry))) (now (out .entry)) (now (out .exit)) r ⌝ }
+{
+    let mut answer = [0u8; 4096];
+    let told = minimise_call(case, 1000000, 0, 0, &mut answer);
+    answer_text(told.refused, told.tried, &answer, out)
 }
