@@ -1,9 +1,9 @@
 // Striking out what a pattern need not say (document 02, #105): the call over plain forms. Any bytes may be passed: it refuses what its
 // questions refuse.
 
-pub mod round;
-pub mod shorten;
-pub mod strike;
+mod round;
+mod shorten;
+mod strike;
 
 use format::limits::PATTERN_WIDTH;
 use format::pattern::pattern_count;

@@ -8,7 +8,6 @@ use format::pattern::pattern_count;
 use judging::rows::SummaryRows;
 ghost use mathlib.Core.Path.{_≡_};
 ghost use mathlib.Core.List.{map};
-ghost use Prim.Native.Nat.{_<_};
 ghost use lib.ListN.{length, getD, replicate};
 ghost use Rattle.model.specs.Lists.{upFrom};
 ghost use Rattle.model.specs.Bytes.{writtenAtFront};
@@ -55,7 +54,8 @@ pub fn strike(
     limit: u64,
 ) -> Strikes
     requires { ⌜ Strikable (now case) (now present) limit × (now rows ≡ summaryRows (summaryIn (now case))) × (length (now struck) ≡ 16) ⌝ }
-    ensures { λ r. ⌜ StruckBy (strikeAll (summaryIn (now (case .entry))) limit (patternAt (now (present .entry)) 0)) (now (present .exit)) (now (struck .exit)) r ⌝ }
+    ensures { λ r. ⌜ StruckBy (strikeAll (summaryIn (now (case .entry))) limit (patternAt (now (present .entry)) 0))
+        (now (present .exit)) (now (struck .exit)) r ⌝ }
 {
     let n = pattern_count(present, 0);
     let mut names = own_names();
