@@ -8,10 +8,10 @@ use lib.ListN.{length, length-map}
 use Rattle.model.specs.Limits.{minBuffer, documentWidth}
 use Rattle.model.specs.Summary.{Summary}
 use Rattle.model.specs.Pattern.{Pattern}
-use Rattle.model.specs.Bytes.{documentFields, sectionFields, documentOf, WholeSection}
+use Rattle.model.specs.Bytes.{documentFields, sectionFields, documentOf, WholeSection, AreBytes}
 use Rattle.model.specs.Canonical.{canonicalSpots, canonical, spotRecord}
 use Rattle.model.proofs.Bytes.{FitFields}
-use Rattle.model.proofs.ReadBack.{AreBytes, label-small, canonical-fields}
+use Rattle.model.proofs.ReadBack.{label-small, canonical-fields}
 use Rattle.format.specs.Given.{summaryIn, patternAt}
 use Rattle.format.proofs.WriteLaws.{document-size}
 use Rattle.format.proofs.WrittenLaws.{written-document, written-whole}

@@ -6,13 +6,12 @@ use mathlib.Core.List.{List}
 use native.Mathlib.Nat.{add-zero}
 use lib.ListN.{length}
 use Rattle.model.specs.Verdict.{Verdict, included, notIncluded, stopped, triedOf}
-use Rattle.model.specs.Bytes.{caseOf}
+use Rattle.model.specs.Bytes.{caseOf, AreBytes}
 use Rattle.model.specs.Questions.{verdictRefusal}
 use Rattle.model.specs.Calls.{refusedAnswer, kindOf, verdictAccepted}
 use Rattle.model.specs.Demands.{VerdictAnswered}
 use Rattle.model.proofs.Calls.{verdict-refused, verdict-accepted}
 use Rattle.model.proofs.Demands.{verdict-answered}
-use Rattle.model.proofs.ReadBack.{AreBytes}
 use Rattle.containment.specs.Answer.{answerOf, verdictOf}
 use Rattle.containment.specs.declared.Containment.{Containment}
 use Rattle.deciding.specs.Told.{Told}

@@ -10,7 +10,7 @@ use Rattle.model.specs.Striking.{MinimiseAnswer}
 use Rattle.model.specs.Demands.{MinimiseAnswered}
 use Rattle.model.specs.Text.{programCaller, orderPrinted}
 use Rattle.model.proofs.Calls.{by-number}
-use Rattle.model.proofs.ReadBack.{AreBytes}
+use Rattle.model.specs.Bytes.{AreBytes}
 use Rattle.model.proofs.OrderPrinted.{order-orderable, order-back, prints-order, prints-refusal, order-small}
 use Rattle.text.specs.Put.{Room, Put, Printed}
 use Rattle.text.proofs.PutLaws.{room-same, put-same, put-printed}

@@ -13,7 +13,7 @@ use borrow.Author.Tests.{eqb-true, leb-true, le-leb}
 use Rattle.model.specs.Lists.{allOf}
 use Rattle.model.specs.Limits.{callers, minBuffer, maxSummary, maxPattern, maxMembers, summaryWidth, patternWidth}
 use Rattle.model.specs.Pattern.{Pattern}
-use Rattle.model.specs.Bytes.{field, fieldsAt, recordsAt, summaryRecordAt, patternRecordAt, section, memberAt, setOf, setAt, caseEnd, Case, caseOf, summaryFields, sectionFields, caseFields, encodeCase}
+use Rattle.model.specs.Bytes.{field, fieldsAt, recordsAt, summaryRecordAt, patternRecordAt, section, memberAt, setOf, setAt, caseEnd, Case, caseOf, summaryFields, sectionFields, caseFields, encodeCase, AreBytes}
 use Rattle.model.specs.Questions.{between, bufferLargeEnough, caseWhole, countInRange, countsInRange, setInRange, Question, ask, refusal, caseQuestions}
 use Rattle.model.specs.Calls.{CountOutcome, countRefused, verdictCall}
 use Rattle.model.specs.OldForm.{OldCase, oldWidth, oldRecordAt, oldRecordFields, secondAt, oldEnd, oldCaseOf, oldFields, encodeOldCase, newPattern, oneOf, oldPattern, oldOf, oldWhole, oldCountsInRange, oldQuestions, SetOfOne, oldVerdictCall}
@@ -24,7 +24,6 @@ use Rattle.model.proofs.Bytes.{FitFields, length-bytes, length-section,
 use Rattle.model.proofs.Refusals.{AllYes, refusal-none, accepted-all-yes, all-yes-append}
 use Rattle.model.proofs.CaseFacts.{between-facts, all-asked}
 use Rattle.model.proofs.Calls.{chosen-accepted, chosen-refused}
-use Rattle.model.proofs.ReadBack.{AreBytes}
 use Rattle.model.proofs.Sets.{counts-one, refused-one, call-one, old-back, old-whole}
 use Rattle.model.proofs.WriteBack.{old-new, new-old, new-fields, one-fields, fields-fit, upgraded-fields, downgraded-fields, old-whole-facts, encode-case, encode-old}
 

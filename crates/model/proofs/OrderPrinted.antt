@@ -6,14 +6,13 @@ use mathlib.Core.Logic.{_≢_}
 use mathlib.Core.List.{List}
 use lib.ListN.{length, replicate, length-replicate}
 use Rattle.model.specs.Limits.{maxLimit, maxVerdicts, minBuffer, patternWidth, maxOrderText}
-use Rattle.model.specs.Bytes.{patternRecordAt, section, sectionEnd, countedAt, caseOf}
+use Rattle.model.specs.Bytes.{patternRecordAt, section, sectionEnd, countedAt, caseOf, AreBytes}
 use Rattle.model.specs.Questions.{minimiseRefusal}
 use Rattle.model.specs.Striking.{Struck, strikeAll, MinimiseOutcome, minimiseCall}
 use Rattle.model.specs.Demands.{StruckTold, StruckReadsBack, MinimiseAnswered}
 use Rattle.model.specs.Text.{orderText, refusedText, programCaller, orderRefusal, orderPrinted}
 use Rattle.model.proofs.Calls.{by-number}
 use Rattle.model.proofs.CallFacts.{ChargedFacts, accepted-minimise}
-use Rattle.model.proofs.ReadBack.{AreBytes}
 use Rattle.model.proofs.StruckBack.{struck-orderable}
 use Rattle.model.proofs.Demands.{minimise-answered}
 use Rattle.model.proofs.Text.{Orderable, order-fits, order-refused, order-accepted, order-refused-small}

@@ -12,7 +12,7 @@ use Rattle.model.specs.Pattern.{Pattern, arity}
 use Rattle.model.specs.Embeddings.{summaryEmbeddings}
 use Rattle.model.specs.Canonical.{covered}
 use Rattle.model.specs.Verdict.{Verdict, included, notIncluded, stopped, verdict}
-use Rattle.model.specs.Bytes.{caseOf, documentOf, listOf, shownSection, shownList}
+use Rattle.model.specs.Bytes.{caseOf, documentOf, listOf, shownSection, shownList, AreBytes}
 use Rattle.model.specs.Questions.{verdictRefusal}
 use Rattle.model.specs.Calls.{VerdictOutcome, kindIncluded, kindNotIncluded, kindStopped, kindOf, verdictAccepted, verdictCall}
 use Rattle.model.specs.Facts.{CaseFacts}
@@ -22,7 +22,7 @@ use Rattle.model.proofs.Verdict.{included-judge, not-included-judge, st
 use Rattle.model.proofs.Calls.{by-number, verdict-accepted}
 use Rattle.model.proofs.CallFacts.{accepted-verdict}
 use Rattle.model.proofs.Decision.{placed}
-use Rattle.model.proofs.ReadBack.{AreBytes, label-small, parent-inside, canonical-labels, result-count, result-inside}
+use Rattle.model.proofs.ReadBack.{label-small, parent-inside, canonical-labels, result-count, result-inside}
 use Rattle.model.proofs.Demands.{verdict-answered}
 use Rattle.model.proofs.Text.{Printable, shown-small, refused-small, first-fits, printed-refused, printed-accepted}
 

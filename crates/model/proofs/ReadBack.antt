@@ -20,7 +20,7 @@ use Rattle.model.specs.Pattern.{Pattern, IsPatternTree, arity, returnNod
 use Rattle.model.specs.Embeddings.{imageIn, isResult}
 use Rattle.model.specs.Fitting.{fits}
 use Rattle.model.specs.Canonical.{canonicalSpots, canonical, spotAt}
-use Rattle.model.specs.Bytes.{field, fieldBytes, bytesOf, recordsAt, summaryRecordAt, section, sectionEnd, caseOf, documentOf, listOf, isWholeList, documentFields, sectionFields, encodeDocument, encodeList, encodeCounted, writtenAtFront, shownSection, shownList}
+use Rattle.model.specs.Bytes.{field, fieldBytes, bytesOf, recordsAt, summaryRecordAt, section, sectionEnd, caseOf, documentOf, listOf, isWholeList, documentFields, sectionFields, encodeDocument, encodeList, encodeCounted, writtenAtFront, shownSection, shownList, AreBytes}
 use Rattle.model.specs.Questions.{between, documentRecordKept, documentKept, listInRange, patternGiven, selected, ask, refusal, caseQuestions, fitsRefusal, resultRefusal}
 use Rattle.model.specs.Calls.{TestAnswer, yesAnswer, noAnswer, fitsCall, resultCall}
 use Rattle.model.specs.Facts.{PatternFacts, MemberFacts, CaseFacts}
@@ -37,10 +37,6 @@ use Rattle.model.proofs.Refusals.{AllYes, refusal-yes, refusal-after}
 use Rattle.model.proofs.Calls.{fits-accepted, result-accepted}
 
 -- ---- what fits a field
-
--- every number of the list is a byte
-abbrev pub AreBytes : List ℕ → Type 0
-AreBytes b = (i : ℕ) → getD b i 0 < 256
 
 pub field-fits : (b : List ℕ) → AreBytes b → (i : ℕ) → field b i < 65_536
 unfolding field

@@ -9,7 +9,7 @@ use lib.ListN.{length, getD, drop}
 use Rattle.model.specs.Lists.{upFrom}
 use Rattle.model.specs.Limits.{maxPattern, maxPosition, patternWidth}
 use Rattle.model.specs.Pattern.{PatternRecord, Pattern, noPatternRecord, patternParent}
-use Rattle.model.specs.Bytes.{field, recordsAt, patternRecordAt, section, sectionEnd, firstAt, caseOf, patternFields, sectionFields, encodePattern, encodeCounted, writtenAtFront}
+use Rattle.model.specs.Bytes.{field, recordsAt, patternRecordAt, section, sectionEnd, firstAt, caseOf, patternFields, sectionFields, encodePattern, encodeCounted, writtenAtFront, AreBytes}
 use Rattle.model.specs.Questions.{caseQuestions}
 use Rattle.model.specs.Striking.{relinked, Struck, strikeAll, struckBytes}
 use Rattle.model.specs.Facts.{RecordFits, CaseFacts}
@@ -18,7 +18,7 @@ use Rattle.model.proofs.ListLaws.{mem-at, at-mem, length-map-upFrom, ge
 use Rattle.model.proofs.Bytes.{FitFields, Holds, length-bytes, field-bytes, section-count, section-end, section-back, counted-back, pattern-readable}
 use Rattle.model.proofs.Refusals.{AllYes}
 use Rattle.model.proofs.CaseFacts.{first-bounds}
-use Rattle.model.proofs.ReadBack.{AreBytes, field-fits, field-before, field-behind}
+use Rattle.model.proofs.ReadBack.{field-fits, field-before, field-behind}
 use Rattle.model.proofs.Striking.{LoopFacts, all-facts, struck-shortened, every-record}
 use Rattle.model.proofs.Text.{Orderable}
 

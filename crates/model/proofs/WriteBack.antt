@@ -13,12 +13,12 @@ use borrow.Author.Tests.{eqb-true, leb-true}
 use Rattle.model.specs.Lists.{upFrom}
 use Rattle.model.specs.Limits.{maxCaseBytes, summaryWidth, patternWidth}
 use Rattle.model.specs.Pattern.{Pattern}
-use Rattle.model.specs.Bytes.{field, fieldBytes, bytesOf, fieldsAt, recordsAt, summaryRecordAt, patternRecordAt, section, sectionEnd, memberAt, setEnd, setOf, firstAt, setAt, caseEnd, caseOf, isWholeCase, summaryFields, patternFields, sectionFields, setFields, caseFields, encodeCase}
+use Rattle.model.specs.Bytes.{field, fieldBytes, bytesOf, fieldsAt, recordsAt, summaryRecordAt, patternRecordAt, section, sectionEnd, memberAt, setEnd, setOf, firstAt, setAt, caseEnd, caseOf, isWholeCase, summaryFields, patternFields, sectionFields, setFields, caseFields, encodeCase, AreBytes}
 use Rattle.model.specs.Moving.{goesBack}
 use Rattle.model.specs.OldForm.{OldPattern, oldWidth, oldRecordFields, oldRecordAt, secondAt, oldEnd, oldCaseOf, oldFields, encodeOldCase, newRecord, newPattern, oneOf, oldRecord, oldPattern, oldOf, oldWhole}
 use Rattle.model.proofs.ListLaws.{and-left, and-right, length-map-upFrom}
 use Rattle.model.proofs.Bytes.{FitFields, field-next, member-first, member-next}
-use Rattle.model.proofs.ReadBack.{AreBytes, field-fits}
+use Rattle.model.proofs.ReadBack.{field-fits}
 
 -- ---- there and back, record by record
 

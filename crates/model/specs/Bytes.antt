@@ -10,6 +10,10 @@ use Rattle.model.specs.Tree.{DocumentRecord, Document}
 use Rattle.model.specs.Summary.{SummaryRecord, Summary}
 use Rattle.model.specs.Pattern.{PatternRecord, Pattern}
 
+-- every number of the list is a byte
+abbrev pub AreBytes : List ℕ → Type 0
+AreBytes b = (i : ℕ) → getD b i 0 < 256
+
 -- field i: 16 bits, low byte first; 0 past the end
 unfoldable pub field : List ℕ → ℕ → ℕ
 field b i = getD b (2 * i) 0 + 256 * getD b (2 * i + 1) 0

@@ -14,12 +14,14 @@ use Rattle.model.specs.Summary.{Summary, Fits}
 use Rattle.model.specs.Pattern.{Pattern, patternParent, position, Result, AtPosition, PathOf, Contained, CounterExample, Carries}
 use Rattle.model.specs.Embeddings.{summaryEmbeddings}
 use Rattle.model.specs.Canonical.{canonical, canonicalSpots, ownResult, covered}
-use Rattle.model.specs.Bytes.{field, patternRecordAt, section, sectionEnd, countedAt, caseOf, documentOf, listOf, encodeDocument, encodeCounted, writtenAtFront, shownSection, shownList}
-use Rattle.model.specs.Questions.{selected, verdictRefusal, minimiseRefusal, fitsRefusal, resultRefusal, nodesRefusal, pathsRefusal, layoutRefusal}
+use Rattle.model.specs.Bytes.{AreBytes, field, patternRecordAt, section, sectionEnd, countedAt, caseOf, documentOf, listOf, encodeDocument, encodeCounted, writtenAtFront, shownSection, shownList}
+use Rattle.model.specs.Questions.{refusal, caseQuestions, selected, verdictRefusal, minimiseRefusal, fitsRefusal, resultRefusal, nodesRefusal, pathsRefusal, layoutRefusal}
 use Rattle.model.specs.Calls.{Received, OnEight, refusedAnswer, VerdictOutcome, kindIncluded, kindNotIncluded, kindStopped, kindOf, verdictCall, tallyOf, TalliedOutcome, talliedCall, TestAnswer, yesAnswer, noAnswer, fitsCall, resultCall, CountOutcome, nodesCall, PathsAnswer, pathsCall, LaidRecord, laidRecord, LayoutOutcome, layoutCall}
 use Rattle.model.specs.Striking.{verdictWithout, Struck, strikeAll, MinimiseAnswer, refusedStrike, MinimiseOutcome, struckBytes, minimiseCall, talliedMinimise}
 use Rattle.model.specs.Runs.{Call, receipts, talliesAfter, callsOf, receivedBy, triedOver}
 use Rattle.model.specs.OldForm.{SetOfOne}
+use Rattle.model.specs.Renumbering.{CaseRenumbering}
+use Rattle.model.specs.Normal.{normaliseRefusal, normalised, normaliseCall}
 use Rattle.model.specs.Moving.{upgradeRefusal, downgradeRefusal, upgraded, downgraded, movedAccepted, movedCall, upgradeCall, downgradeCall}
 
 -- ---- Demand 1
@@ -233,6 +235,34 @@ Upgraded b before o = Moved (λ w. SetOfOne b w) downgradeCall b before o
 abbrev pub Downgraded : List ℕ → List ℕ → CountOutcome → Type 0
 Downgraded b before o = Moved (λ w. SetOfOne w b) upgradeCall b before o
 
+-- ---- One way of writing a case, of an accepted call
+
+-- a verdict with a limit of at least the number of placements, of w in place of b: accepted too, of the same kind, and where it is "included"
+-- with the same tried
+pub record SameKind (b w : List ℕ) (L caller tally : ℕ) (buffer : List ℕ) : Type 0 where
+  pub accepted : verdictRefusal w L caller tally (length buffer) ≡ 0
+  pub kind : verdictCall w L caller tally buffer .answer .kind ≡ verdictCall b L caller tally buffer .answer .kind
+  pub tried : verdictCall b L caller tally buffer .answer .kind ≡ kindIncluded → verdictCall w L caller tally buffer .answer .tried ≡ verdictCall b L caller tally buffer .answer .tried
+
+-- what is written of the case b
+pub record Normalised (b before : List ℕ) (o : CountOutcome) : Type 0 where
+  pub accepted : o .answer .refused ≡ 0
+  -- at the buffer's front, as many bytes as the case has
+  pub count : o .answer .count ≡ length b
+  pub size : length (normalised b) ≡ length b
+  pub whole : length b ≤ length before
+  pub buffer : o .buffer ≡ writtenAtFront (normalised b) before
+  -- it is an accepted case, and a renumbering of what was given
+  pub again : refusal (caseQuestions (normalised b)) ≡ 0
+  pub renumbered : CaseRenumbering (caseOf b) (caseOf (normalised b))
+  -- two accepted cases are written alike exactly when renumbering nodes turns one into the other
+  pub alike : (a : List ℕ) → AreBytes a → refusal (caseQuestions a) ≡ 0 → (normalised a ≡ normalised b) ↔ CaseRenumbering (caseOf a) (caseOf b)
+  -- writing twice changes nothing
+  pub twice : (lent : List ℕ) → minBuffer ≤ length lent → normaliseCall (normalised b) lent ≡ movedAccepted (normalised b) lent
+  -- the kind of verdict with a limit of at least the number of placements stays
+  pub sameKind : (L caller tally : ℕ) (buffer : List ℕ) → verdictRefusal b L caller tally (length buffer) ≡ 0
+      → length (summaryEmbeddings (caseOf b .summary) (caseOf b .first)) ≤ L → SameKind b (normalised b) L caller tally buffer
+
 -- ---- The calls: the outcome is document 01's, a refusal keeps demand 1, an accepted call demand 2 or 3
 
 -- Fits: case, volume
@@ -301,7 +331,7 @@ TalliedMinimised b L caller tallies before o =
     let t : ℕ = tallyOf tallies caller in
     ChargedAnswered (minimiseRefusal b L caller t (length before)) (talliedMinimise b L caller tallies before) refusedStrike (StruckTold b L t before) caller tallies before o
 
--- A tool of #102 whose refusal has this number, or 0, and which then writes this and keeps that
+-- A tool that writes a case: its refusal has this number, or 0, and then it writes this and keeps that
 pub record MoveAnswered (number : ℕ) (written : List ℕ) (Kept : CountOutcome → Type 0) (before : List ℕ) (o : CountOutcome) : Type 0 where
   pub outcome : o ≡ movedCall number written before
   pub demand1 : Demand1 number o (λ n. record { answer = record { refused = n; count = 0 }; buffer = before })
@@ -314,3 +344,7 @@ UpgradeAnswered b before o = MoveAnswered (upgradeRefusal b (length before)) (up
 -- New to old: case, answer buffer
 abbrev pub DowngradeAnswered : List ℕ → List ℕ → CountOutcome → Type 0
 DowngradeAnswered b before o = MoveAnswered (downgradeRefusal b (length before)) (downgraded b) (Downgraded b before) before o
+
+-- One way of writing: case, answer buffer
+abbrev pub NormaliseAnswered : List ℕ → List ℕ → CountOutcome → Type 0
+NormaliseAnswered b before o = MoveAnswered (normaliseRefusal b (length before)) (normalised b) (Normalised b before) before o

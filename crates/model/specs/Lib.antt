@@ -17,6 +17,9 @@ pub mod Runs
 pub mod Striking
 pub mod OldForm
 pub mod Moving
+pub mod Renumbering
+pub mod Normal
+pub mod Gathering
 pub mod Text
 pub mod Facts
 pub mod Demands

@@ -6,14 +6,13 @@ use mathlib.Core.Bool.{true}
 use mathlib.Core.List.{List}
 use native.Mathlib.Omega.{arith}
 use lib.ListN.{length, take}
-use Rattle.model.specs.Bytes.{caseOf, isWholeCase}
+use Rattle.model.specs.Bytes.{caseOf, isWholeCase, AreBytes}
 use Rattle.model.specs.Questions.{bufferLargeEnough, caseWhole, ask, refusal, caseQuestions}
 use Rattle.model.specs.OldForm.{oldCaseOf, oldWhole, oldCountsInRange, oldQuestions}
 use Rattle.model.specs.Calls.{CountOutcome}
 use Rattle.model.specs.Moving.{goesBack, upgradeRefusal, downgradeRefusal, upgraded, downgraded, movedAccepted, movedCall}
 use Rattle.model.specs.Demands.{MoveAnswered, UpgradeAnswered, DowngradeAnswered}
 use Rattle.model.proofs.Bytes.{front-written}
-use Rattle.model.proofs.ReadBack.{AreBytes}
 use Rattle.model.proofs.Refusals.{refusal-yes}
 use Rattle.model.proofs.Moving.{moved-refused, moved-accepted, accepted-upgrade, upgraded-small, upgraded-asked, upgrade-moved, accepted-downgrade, downgraded-small, downgrade-moved}
 use Rattle.model.proofs.Demands.{move-answered}

@@ -8,7 +8,7 @@ use lib.ListN.{length}
 use Rattle.model.specs.Limits.{maxLimit, minBuffer, documentWidth, maxPosition, maxText}
 use Rattle.model.specs.Tree.{Document}
 use Rattle.model.specs.Pattern.{Result}
-use Rattle.model.specs.Bytes.{caseOf, shownSection, WholeSection}
+use Rattle.model.specs.Bytes.{caseOf, shownSection, WholeSection, AreBytes}
 use Rattle.model.specs.Questions.{fitsRefusal, verdictRefusal}
 use Rattle.model.specs.Calls.{TestAnswer, yesAnswer, fitsCall}
 use Rattle.model.specs.Facts.{CaseFacts}
@@ -16,7 +16,7 @@ use Rattle.model.specs.Demands.{VerdictAnswered}
 use Rattle.model.specs.Text.{programCaller, printed}
 use Rattle.model.proofs.Calls.{by-number, fits-refused}
 use Rattle.model.proofs.CallFacts.{accepted-fits, accepted-verdict}
-use Rattle.model.proofs.ReadBack.{AreBytes, result-count}
+use Rattle.model.proofs.ReadBack.{result-count}
 use Rattle.model.proofs.Printed.{accepted-kind, prints-included, prints-stopped, prints-shown, prints-refused, printed-small}
 use Rattle.format.proofs.GivenLaws.{whole-document}
 use Rattle.deciding.specs.Outcome.{outcomeOf}

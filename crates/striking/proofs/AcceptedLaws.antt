@@ -6,10 +6,9 @@ use native.Mathlib.Omega.{arith}
 use lib.ListN.{length, getD, take, length-take}
 use Rattle.model.specs.Limits.{maxLimit, maxPosition}
 use Rattle.model.specs.Pattern.{Pattern, noPatternRecord, arity}
-use Rattle.model.specs.Bytes.{Case, caseOf, firstAt, encodePattern, encodeCounted, writtenAtFront}
+use Rattle.model.specs.Bytes.{Case, caseOf, firstAt, encodePattern, encodeCounted, writtenAtFront, AreBytes}
 use Rattle.model.specs.Facts.{PatternFacts, AcceptedCase, RecordFits}
 use Rattle.model.specs.Striking.{Struck, strikeAll}
-use Rattle.model.proofs.ReadBack.{AreBytes}
 use Rattle.format.specs.Given.{patternAt, PatternGiven}
 use Rattle.format.proofs.GivenLaws.{given-summary}
 use Rattle.questions.proofs.SectionLaws.{first-pattern}

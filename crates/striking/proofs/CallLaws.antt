@@ -5,13 +5,12 @@ use mathlib.Core.Path.{_≡_, sym, _∙_}
 use mathlib.Core.List.{List}
 use native.Mathlib.Nat.{add-zero}
 use lib.ListN.{length}
-use Rattle.model.specs.Bytes.{caseOf}
+use Rattle.model.specs.Bytes.{caseOf, AreBytes}
 use Rattle.model.specs.Questions.{minimiseRefusal}
 use Rattle.model.specs.Striking.{refusedStrike, minimiseAccepted}
 use Rattle.model.specs.Demands.{MinimiseAnswered}
 use Rattle.model.proofs.Calls.{minimise-refused, minimise-accepted}
 use Rattle.model.proofs.Demands.{minimise-answered}
-use Rattle.model.proofs.ReadBack.{AreBytes}
 use Rattle.striking.specs.Outcome.{outcomeOf, Told}
 use Rattle.striking.specs.declared.Minimised.{Minimised}
 

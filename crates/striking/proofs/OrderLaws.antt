@@ -8,9 +8,8 @@ use lib.ListN.{length}
 use lib.Seq.{sets, length-sets}
 use Rattle.model.specs.Limits.{patternWidth}
 use Rattle.model.specs.Pattern.{Pattern}
-use Rattle.model.specs.Bytes.{bytesOf, fieldsAt, patternRecordAt, patternFields, sectionFields, encodePattern}
+use Rattle.model.specs.Bytes.{bytesOf, fieldsAt, patternRecordAt, patternFields, sectionFields, encodePattern, AreBytes}
 use Rattle.model.proofs.Bytes.{Holds, pattern-readable, length-section}
-use Rattle.model.proofs.ReadBack.{AreBytes}
 use Rattle.model.proofs.WriteBack.{spans-fit}
 use Rattle.format.specs.Given.{patternAt, PatternGiven}
 use Rattle.format.proofs.SectionLaws.{pattern-count}

@@ -7,11 +7,11 @@ use native.Mathlib.Omega.{arith}
 use lib.ListN.{length, getD}
 use Rattle.model.specs.Limits.{maxPattern, patternWidth}
 use Rattle.model.specs.Pattern.{PatternRecord, Pattern, IsPatternTree, noPatternRecord}
-use Rattle.model.specs.Bytes.{field, fieldsAt, patternRecordAt, patternFields, sectionEnd, sectionFields}
+use Rattle.model.specs.Bytes.{field, fieldsAt, patternRecordAt, patternFields, sectionEnd, sectionFields, AreBytes}
 use Rattle.model.specs.Facts.{RecordFits}
 use Rattle.model.specs.Striking.{lowered, raised, without}
 use Rattle.model.proofs.Bytes.{Holds, pattern-readable, length-section, section-end, section-back}
-use Rattle.model.proofs.ReadBack.{AreBytes, field-fits}
+use Rattle.model.proofs.ReadBack.{field-fits}
 use Rattle.model.proofs.WriteBack.{pattern-again}
 use Rattle.model.proofs.Removing.{raised-inside, lowered-cases, length-without, record-without}
 use Rattle.format.specs.Given.{patternAt, PatternGiven}

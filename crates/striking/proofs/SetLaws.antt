@@ -12,11 +12,10 @@ use lib.Seq.{sets, length-sets}
 use Rattle.model.specs.Lists.{upFrom}
 use Rattle.model.specs.Limits.{maxPattern, maxPosition, patternWidth}
 use Rattle.model.specs.Pattern.{Pattern, arity}
-use Rattle.model.specs.Bytes.{Case, field, fieldBytes, bytesOf, fieldsAt, memberAt, setOf, patternRecordAt, patternFields, sectionFields, setFields, encodePattern, WholeSection}
+use Rattle.model.specs.Bytes.{Case, field, fieldBytes, bytesOf, fieldsAt, memberAt, setOf, patternRecordAt, patternFields, sectionFields, setFields, encodePattern, WholeSection, AreBytes}
 use Rattle.model.specs.Facts.{CaseFacts}
 use Rattle.model.specs.Striking.{mayGo, without, verdictWithout}
 use Rattle.model.proofs.Bytes.{FitFields, Holds, holds-right, pattern-readable, length-section}
-use Rattle.model.proofs.ReadBack.{AreBytes}
 use Rattle.model.proofs.WriteBack.{one-fields}
 use Rattle.model.proofs.Removing.{length-without, without-carries, without-tree}
 use Rattle.model.proofs.Striking.{facts-without, member}

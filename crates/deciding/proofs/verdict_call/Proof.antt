@@ -7,7 +7,7 @@ use lib.ListN.{length}
 use borrow.Author.Needs.{needs}
 use Rattle.model.specs.Questions.{verdictRefusal}
 use Rattle.model.proofs.CallFacts.{accepted-verdict}
-use Rattle.model.proofs.ReadBack.{AreBytes}
+use Rattle.model.specs.Bytes.{AreBytes}
 use Rattle.deciding.proofs.CallLaws.{answered-refused, answered-accepted}
 use Rattle.deciding.proofs.verdict_call.Statement.{statement}
 use Rattle.deciding.proofs.verdict_call.Tie as tie

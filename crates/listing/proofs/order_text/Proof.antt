@@ -3,7 +3,7 @@ use mathlib.Core.Path.{refl}
 use native.Mathlib.Omega.{arith}
 use denote.Ref.{now}
 use borrow.Author.Needs.{needs}
-use Rattle.model.proofs.ReadBack.{AreBytes}
+use Rattle.model.specs.Bytes.{AreBytes}
 use Rattle.listing.proofs.AnswerLaws.{order-held, told-fits, text-printed}
 use Rattle.listing.proofs.order_text.Statement.{statement}
 use Rattle.listing.proofs.order_text.Tie as tie

@@ -3,7 +3,7 @@ use mathlib.Core.Path.{refl}
 use native.Mathlib.Omega.{arith}
 use denote.Ref.{now}
 use borrow.Author.Needs.{needs}
-use Rattle.model.proofs.ReadBack.{AreBytes}
+use Rattle.model.specs.Bytes.{AreBytes}
 use Rattle.printing.proofs.AnswerLaws.{tellable, told-fits, text-printed}
 use Rattle.printing.proofs.verdict_text.Statement.{statement}
 use Rattle.printing.proofs.verdict_text.Tie as tie

@@ -7,7 +7,7 @@ use lib.ListN.{length}
 use borrow.Author.Needs.{needs}
 use Rattle.model.specs.Questions.{minimiseRefusal}
 use Rattle.model.proofs.CallFacts.{accepted-minimise}
-use Rattle.model.proofs.ReadBack.{AreBytes}
+use Rattle.model.specs.Bytes.{AreBytes}
 use Rattle.striking.proofs.CallLaws.{answered-refused, answered-accepted}
 use Rattle.striking.proofs.minimise_call.Statement.{statement}
 use Rattle.striking.proofs.minimise_call.Tie as tie

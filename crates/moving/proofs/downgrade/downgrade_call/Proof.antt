@@ -3,7 +3,7 @@
 use native.Mathlib.Omega.{arith}
 use denote.Ref.{now}
 use borrow.Author.Needs.{needs}
-use Rattle.model.proofs.ReadBack.{AreBytes}
+use Rattle.model.specs.Bytes.{AreBytes}
 use Rattle.moving.proofs.CallLaws.{downgrade-no, downgrade-fits, downgrade-yes}
 use Rattle.moving.proofs.downgrade.downgrade_call.Statement.{statement}
 use Rattle.moving.proofs.downgrade.downgrade_call.Tie as tie

@@ -10,7 +10,7 @@ use borrow.Author.Needs.{needs}
 use Rattle.model.specs.Questions.{bufferLargeEnough}
 use Rattle.model.specs.OldForm.{oldCaseOf, oldWhole, oldCountsInRange, oldQuestions}
 use Rattle.model.specs.Moving.{upgradeRefusal}
-use Rattle.model.proofs.ReadBack.{AreBytes}
+use Rattle.model.specs.Bytes.{AreBytes}
 use Rattle.model.proofs.Moving.{upgraded-small}
 use Rattle.questions.proofs.TestLaws.{said-yes}
 use Rattle.questions.proofs.RefusalLaws.{asked}

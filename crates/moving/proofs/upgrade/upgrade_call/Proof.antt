@@ -3,7 +3,7 @@
 use native.Mathlib.Omega.{arith}
 use denote.Ref.{now}
 use borrow.Author.Needs.{needs}
-use Rattle.model.proofs.ReadBack.{AreBytes}
+use Rattle.model.specs.Bytes.{AreBytes}
 use Rattle.moving.proofs.CallLaws.{upgrade-no, upgrade-fits, upgrade-yes}
 use Rattle.moving.proofs.upgrade.upgrade_call.Statement.{statement}
 use Rattle.moving.proofs.upgrade.upgrade_call.Tie as tie

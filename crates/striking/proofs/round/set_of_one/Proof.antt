@@ -2,7 +2,7 @@
 use native.Mathlib.Omega.{arith}
 use denote.Ref.{now}
 use borrow.Author.Needs.{needs}
-use Rattle.model.proofs.ReadBack.{AreBytes}
+use Rattle.model.specs.Bytes.{AreBytes}
 use Rattle.striking.proofs.SetLaws.{section-room, set-stands}
 use Rattle.striking.proofs.round.set_of_one.Statement.{statement}
 use Rattle.striking.proofs.round.set_of_one.Tie as tie
