@@ -45,6 +45,8 @@ pub mod ReadBack
 pub mod StruckBack
 pub mod WriteBack
 pub mod Moving
+pub mod Ordering
+pub mod Preorder
 pub mod Demands
 pub mod Printed
 pub mod OrderPrinted
