@@ -47,6 +47,7 @@ pub mod WriteBack
 pub mod Moving
 pub mod Ordering
 pub mod Preorder
+pub mod Gathering
 pub mod Demands
 pub mod Printed
 pub mod OrderPrinted

@@ -7,7 +7,7 @@ use mathlib.Core.Logic.{_⊎_, inl, inr}
 use mathlib.Core.List.{List, [], _∷_, _++_, map, flatMap, List·Memᴰ, List·Memᴰ·head, List·Memᴰ·tail, List·Memᴰ·not-nil, List·Memᴰ·cases-cons, List·Memᴰ·append-cases, Memᴰ·append-left, Memᴰ·append-right, map-append, head-eq-of-cons-eq, tail-eq-of-cons-eq, nil≢cons}
 use native.Mathlib.Omega.{arith}
 use lib.Dec.{eqb, ltb}
-use borrow.Author.Tests.{eqb-true, eqb-false, eq-eqb, ne-eqb, ltb-true, ltb-false, lt-ltb}
+use borrow.Author.Tests.{eqb-true, eqb-false, eq-eqb, ne-eqb, ltb-true, ltb-false, lt-ltb, le-ltb}
 use Rattle.model.specs.Lists.{Ascending}
 use Rattle.model.specs.Normal.{notAfter, placed, ordered, Entry, entryNumbers, bySubtree}
 use Rattle.model.proofs.ListLaws.{by-bool, not-both}
@@ -17,16 +17,20 @@ use Rattle.model.proofs.KeepLaws.{no-members}
 
 -- what notAfter says of two lists that begin
 module _ (x y : ℕ) (xs ys : List ℕ) where
-  after-same : x ≡ y → notAfter (x ∷ xs) (y ∷ ys) ≡ notAfter xs ys
+  pub after-same : x ≡ y → notAfter (x ∷ xs) (y ∷ ys) ≡ notAfter xs ys
   unfolding notAfter
   after-same e = rw (eq-eqb x y e, notAfter) refl
 
-  after-less : x < y → notAfter (x ∷ xs) (y ∷ ys) ≡ true
+  pub after-less : x < y → notAfter (x ∷ xs) (y ∷ ys) ≡ true
   unfolding notAfter
   after-less h = rw (ne-eqb x y (λ e. omega arith), notAfter) (lt-ltb x y h)
 
+  pub after-greater : y < x → notAfter (x ∷ xs) (y ∷ ys) ≡ false
+  unfolding notAfter
+  after-greater h = rw (ne-eqb x y (λ e. omega arith), notAfter) (le-ltb x y (omega arith))
+
   -- it holds where the first is less, or the same and the rest does not come after
-  after-cases : notAfter (x ∷ xs) (y ∷ ys) ≡ true → (x < y) ⊎ ((x ≡ y) × (notAfter xs ys ≡ true))
+  pub after-cases : notAfter (x ∷ xs) (y ∷ ys) ≡ true → (x < y) ⊎ ((x ≡ y) × (notAfter xs ys ≡ true))
   unfolding notAfter
   after-cases e = go (eqb x y) refl e
     where
@@ -35,7 +39,7 @@ module _ (x y : ℕ) (xs ys : List ℕ) where
       go false q e′ = inl (ltb-true x y e′)
 
   -- it fails where the first is greater, or the same and the rest comes after
-  after-fails : notAfter (x ∷ xs) (y ∷ ys) ≡ false → (y < x) ⊎ ((x ≡ y) × (notAfter xs ys ≡ false))
+  pub after-fails : notAfter (x ∷ xs) (y ∷ ys) ≡ false → (y < x) ⊎ ((x ≡ y) × (notAfter xs ys ≡ false))
   unfolding notAfter
   after-fails e = go (eqb x y) refl e
     where
