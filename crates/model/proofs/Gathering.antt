@@ -11,13 +11,14 @@ use native.Mathlib.Nat.{add-zero, zero-add}
 use lib.Dec.{eqb, ltb}
 use lib.ListN.{length, getD, take, drop}
 use borrow.Author.Tests.{eqb-true, eq-eqb, ne-eqb, lt-ltb}
-use Rattle.model.specs.Lists.{upFrom, keep}
+use Rattle.model.specs.Lists.{upFrom, keep, countOf}
 use Rattle.model.specs.Pattern.{Pattern, patternParent, IsPatternTree}
 use Rattle.model.specs.Normal.{notAfter, placed, ordered, depthOf, Entry, noEntry, entryAt, entries, entryNumbers, bySubtree, byWritten, isChildOf, childrenOf, preorder}
 use Rattle.model.specs.Gathering.{gathered, opens, placeIn, joined}
 use Rattle.model.proofs.ListLaws.{and-intro, and-right, true-or-false, keep-intro, keep-elim, upFrom-mem, mem-upFrom}
 use Rattle.model.proofs.KeepLaws.{keep-in, keep-out}
-use Rattle.model.proofs.Ordering.{after-cases, after-fails, after-same, after-less, after-greater, placed-first, placed-later, ordered-elim, ordered-map}
+use Rattle.model.proofs.Ordering.{after-cases, after-fails, after-same, after-less, after-greater, placed-first, placed-later, ordered-elim, ordered-map, count-placed}
+use Rattle.model.proofs.CountLaws.{count-append}
 use Rattle.model.proofs.Preorder.{depth-child, child-elim, child-later, preorder-whole, Headed, headed, map-flatten}
 
 -- ---- comparing with the rest of a list
@@ -243,11 +244,37 @@ module _ (P : Pattern) where
                 absurd (omega arith)
             go (inr e) = e
 
+    first-later : (k : ℕ) → 0 < k → k < length P → later k (patternParent P k) ≡ k ∷ later (suc k) (patternParent P k)
+    first-later k z h =
+        ap (keep (isChildOf P (patternParent P k))) (upFrom-next k (length P) h)
+        ∙ keep-in (isChildOf P (patternParent P k)) k (upFrom (suc k) (length P - suc k)) (and-intro (lt-ltb 0 k z) (eq-eqb (patternParent P k) (patternParent P k) refl))
+
+    -- what passes a test, in a node's subtree with one child more
+    pub gathered-count : (test : ℕ → Bool) (k : ℕ) → 0 < k → k < length P
+        → countOf test (gathered P k (patternParent P k)) ≡ countOf test (gathered P (suc k) k) + countOf test (gathered P (suc k) (patternParent P k))
+    unfolding gathered ordered
+    gathered-count test k z h =
+        ap (λ (cs : List ℕ). countOf test (over p cs)) (first-later k z h)
+        ∙ count-append test (p ∷ []) (flatten (placed (byWritten bySubtree P) (preorder bySubtree (length P) P k) rest))
+        ∙ ap (λ (n : ℕ). countOf test (p ∷ []) + n) (count-placed test (byWritten bySubtree P) (preorder bySubtree (length P) P k) rest)
+        ∙ shuffle (countOf test (p ∷ [])) (countOf test (preorder bySubtree (length P) P k)) (countOf test (flatten rest))
+        ∙ ap (λ (n : ℕ). countOf test (preorder bySubtree (length P) P k) + n) (sym (count-append test (p ∷ []) (flatten rest)))
+        ∙ ap (λ (o : List ℕ). countOf test o + countOf test (p ∷ flatten rest)) (sym (gathered-whole k (suc k) h (omega arith)))
+      where
+        p : ℕ
+        p = patternParent P k
+
+        rest : List (List ℕ)
+        rest = ordered (byWritten bySubtree P) (map (preorder bySubtree (length P) P) (later (suc k) p))
+
+        shuffle : (a b c : ℕ) → a + (b + c) ≡ b + (a + c)
+        shuffle a b c = omega arith
+
     pub gathered-own : (k : ℕ) → 0 < k → k < length P
         → entries P (gathered P k (patternParent P k)) ≡ joined (entries P (gathered P (suc k) k)) (entries P (gathered P (suc k) (patternParent P k)))
     unfolding gathered ordered
     gathered-own k z h =
-        ap (λ (cs : List ℕ). entries P (over p cs)) first
+        ap (λ (cs : List ℕ). entries P (over p cs)) (first-later k z h)
         ∙ over-row p (k ∷ later (suc k) p)
         ∙ ap (λ (es : List Entry). entryAt P p ∷ es) (sym (joined-siblings (row k) (depthOf P k) own (ordered bySubtree (map row (later (suc k) p))) heads))
         ∙ sym (joined-later (row k) (entryAt P p) (flatten (ordered bySubtree (map row (later (suc k) p)))) (opens-not (row k) (depthOf P k) own (entryAt P p) (flatten (ordered bySubtree (map row (later (suc k) p)))) (λ e. omega (arith, deep, e))))
@@ -262,11 +289,6 @@ module _ (P : Pattern) where
 
         deep : depthOf P k ≡ suc (depthOf P p)
         deep = depth-child P t k z h
-
-        first : later k p ≡ k ∷ later (suc k) p
-        first =
-            ap (keep (isChildOf P p)) (upFrom-next k (length P) h)
-            ∙ keep-in (isChildOf P p) k (upFrom (suc k) (length P - suc k)) (and-intro (lt-ltb 0 k z) (eq-eqb p p refl))
 
         heads : (l : List Entry) → List·Memᴰ l (ordered bySubtree (map row (later (suc k) p))) → Headed (depthOf P k) l
         heads l m =

@@ -48,6 +48,7 @@ pub mod Moving
 pub mod Ordering
 pub mod Preorder
 pub mod Gathering
+pub mod Numbering
 pub mod Demands
 pub mod Printed
 pub mod OrderPrinted

@@ -1,17 +1,18 @@
 -- Laws of lists compared at the first difference, and of lists put in order: what is put in order does not depend on the order in which it
 -- came. Assumes nothing.
-use Prim.Native.Nat.{ℕ, zero, suc, _≤_, _<_}
+use Prim.Native.Nat.{ℕ, zero, suc, _+_, _≤_, _<_}
 use mathlib.Core.Path.{_≡_, refl, sym, ap, _∙_, subst}
 use mathlib.Core.Bool.{Bool, true, false, true≢false, false≢true}
 use mathlib.Core.Logic.{_⊎_, inl, inr}
-use mathlib.Core.List.{List, [], _∷_, _++_, map, flatMap, List·Memᴰ, List·Memᴰ·head, List·Memᴰ·tail, List·Memᴰ·not-nil, List·Memᴰ·cases-cons, List·Memᴰ·append-cases, Memᴰ·append-left, Memᴰ·append-right, map-append, head-eq-of-cons-eq, tail-eq-of-cons-eq, nil≢cons}
+use mathlib.Core.List.{List, [], _∷_, _++_, map, flatMap, flatten, List·Memᴰ, List·Memᴰ·head, List·Memᴰ·tail, List·Memᴰ·not-nil, List·Memᴰ·cases-cons, List·Memᴰ·append-cases, Memᴰ·append-left, Memᴰ·append-right, map-append, head-eq-of-cons-eq, tail-eq-of-cons-eq, nil≢cons}
 use native.Mathlib.Omega.{arith}
 use lib.Dec.{eqb, ltb}
 use borrow.Author.Tests.{eqb-true, eqb-false, eq-eqb, ne-eqb, ltb-true, ltb-false, lt-ltb, le-ltb}
-use Rattle.model.specs.Lists.{Ascending}
+use Rattle.model.specs.Lists.{Ascending, countOf}
 use Rattle.model.specs.Normal.{notAfter, placed, ordered, Entry, entryNumbers, bySubtree}
 use Rattle.model.proofs.ListLaws.{by-bool, not-both}
 use Rattle.model.proofs.KeepLaws.{no-members}
+use Rattle.model.proofs.CountLaws.{count-append}
 
 -- ---- comparing at the first difference
 
@@ -199,6 +200,20 @@ module _ {A : Type 0} (by : A → A → Bool) where
     unfolding ordered
     ordered-among [] x vs = refl
     ordered-among (u ∷ us) x vs = ap (placed by u) (ordered-among us x vs) ∙ placed-commute u x (ordered by (us ++ vs))
+
+-- what passes a test is neither more nor less
+pub count-placed : {A : Type 0} (test : A → Bool) (by : List A → List A → Bool) (x : List A) (ls : List (List A)) → countOf test (flatten (placed by x ls)) ≡ countOf test x + countOf test (flatten ls)
+unfolding placed flatten
+count-placed test by x [] = count-append test x []
+count-placed {A} test by x (l ∷ ls) = go (by x l) (count-placed test by x ls)
+  where
+    go : (t : Bool) → countOf test (flatten (placed by x ls)) ≡ countOf test x + countOf test (flatten ls)
+        → countOf test (flatten (elim t as (λ _. List (List A)) [ true ↦ x ∷ l ∷ ls | false ↦ l ∷ placed by x ls ])) ≡ countOf test x + countOf test (l ++ flatten ls)
+    go true e = count-append test x (l ++ flatten ls)
+    go false e =
+        let a : countOf test (l ++ flatten (placed by x ls)) ≡ countOf test l + countOf test (flatten (placed by x ls)) = count-append test l (flatten (placed by x ls)) in
+        let b : countOf test (l ++ flatten ls) ≡ countOf test l + countOf test (flatten ls) = count-append test l (flatten ls) in
+        omega arith
 
 -- keys in place of elements
 module _ {A B : Type 0} (key : A → B) (by : B → B → Bool) where
