@@ -58,6 +58,25 @@ unfolding sumBelow
 sum-none f zero h = refl
 sum-none f (suc n) h = let e = sum-none f n (λ i l. h i (omega arith)) in let k = h n (omega arith) in omega arith
 
+sum-ones : (f : ℕ → ℕ) (n : ℕ) → ((i : ℕ) → f i ≡ 1) → sumBelow f n ≡ n
+unfolding sumBelow
+sum-ones f zero h = refl
+sum-ones f (suc n) h = let e = sum-ones f n h in let k = h n in omega arith
+
+sum-part : (f : ℕ → ℕ) (n i : ℕ) → i < n → f i ≤ sumBelow f n
+unfolding sumBelow
+sum-part f zero i h = absurd (omega arith)
+sum-part f (suc n) i h = go (eqb i n) refl (λ k. sum-part f n i k)
+  where
+    go : (t : Bool) → eqb i n ≡ t → (i < n → f i ≤ sumBelow f n) → f i ≤ sumBelow f n + f n
+    go true q rest = let e : f i ≡ f n = ap f (eqb-true i n q) in omega arith
+    go false q rest = let ne : i ≡ n → ⊥ = eqb-false i n q in let l = rest (omega arith) in omega arith
+
+count-all : (xs : List ℕ) → countOf (λ _. true) xs ≡ length xs
+unfolding countOf
+count-all [] = refl
+count-all (x ∷ xs) = ap suc (count-all xs)
+
 module _ (P : Pattern) (t : IsPatternTree P) where
   -- ---- each node stands once
 
@@ -72,20 +91,28 @@ module _ (P : Pattern) (t : IsPatternTree P) where
   unfolding countOf
   none i j ne = rw (ne-eqb i j ne, countOf) refl
 
-  -- in the subtrees of the nodes below k, when children from k on stand in them
-  once-in-all : (j : ℕ) → j < length P → (m k : ℕ) → k + m ≡ length P → 1 ≤ k → sumBelow (λ i. countOf (is j) (gathered P k i)) k ≡ 1
+  -- in the subtrees of the nodes below k, when children from k on stand in them, is what is in all nodes by themselves
+  same-in-all : (test : ℕ → Bool) (m k : ℕ) → k + m ≡ length P → 1 ≤ k → sumBelow (λ i. countOf test (gathered P k i)) k ≡ sumBelow (λ i. countOf test (i ∷ [])) (length P)
   unfolding sumBelow
-  once-in-all j h zero k e l =
+  same-in-all test zero k e l =
       let n : k ≡ length P = omega arith in
-      let own : (i : ℕ) → countOf (is j) (gathered P k i) ≡ countOf (is j) (i ∷ []) = λ i. ap (λ (x : ℕ). countOf (is j) (gathered P x i)) n ∙ ap (countOf (is j)) (gathered-start P i) in
-      sum-more (λ i. 0) (λ i. countOf (is j) (gathered P k i)) 1 j k (omega arith) (own j ∙ one j j refl) (λ i q ne. own i ∙ none i j (λ r. ne (sym r)))
-      ∙ ap (λ (x : ℕ). 1 + x) (sum-none (λ i. 0) k (λ i q. refl))
-  once-in-all j h (suc m) k e l =
+      sum-agree (λ i. countOf test (i ∷ [])) (λ i. countOf test (gathered P k i)) k (λ i q. ap (λ (x : ℕ). countOf test (gathered P x i)) n ∙ ap (countOf test) (gathered-start P i))
+      ∙ ap (sumBelow (λ i. countOf test (i ∷ []))) n
+  same-in-all test (suc m) k e l =
       let inside : k < length P = omega arith in
-      let later : sumBelow (λ i. countOf (is j) (gathered P (suc k) i)) k + countOf (is j) (gathered P (suc k) k) ≡ 1 = once-in-all j h m (suc k) (omega arith) (omega arith) in
-      let more : sumBelow (λ i. countOf (is j) (gathered P k i)) k ≡ countOf (is j) (gathered P (suc k) k) + sumBelow (λ i. countOf (is j) (gathered P (suc k) i)) k =
-          sum-more (λ i. countOf (is j) (gathered P (suc k) i)) (λ i. countOf (is j) (gathered P k i)) (countOf (is j) (gathered P (suc k) k)) (patternParent P k) k
-          (t .earlier k (omega arith) inside) (gathered-count P t (is j) k (omega arith) inside) (λ i q ne. ap (countOf (is j)) (gathered-other P k i inside ne)) in
+      let later : sumBelow (λ i. countOf test (gathered P (suc k) i)) k + countOf test (gathered P (suc k) k) ≡ sumBelow (λ i. countOf test (i ∷ [])) (length P) = same-in-all test m (suc k) (omega arith) (omega arith) in
+      let more : sumBelow (λ i. countOf test (gathered P k i)) k ≡ countOf test (gathered P (suc k) k) + sumBelow (λ i. countOf test (gathered P (suc k) i)) k =
+      sum-more (λ i. countOf test (gathered P (suc k) i)) (λ i. countOf test (gathered P k i)) (countOf test (gathered P (suc k) k)) (patternParent P k) k
+      (t .earlier k (omega arith) inside) (gathered-count P t test k (omega arith) inside) (λ i q ne. ap (countOf test) (gathered-other P k i inside ne)) in
+      omega arith
+
+  -- none has more nodes than the tree
+  pub gathered-length : (k i : ℕ) → i < k → k ≤ length P → length (gathered P k i) ≤ length P
+  gathered-length k i h l =
+      let e = same-in-all (λ _. true) (length P - k) k (omega arith) (omega arith) in
+      let n : sumBelow (λ x. countOf (λ _. true) (x ∷ [])) (length P) ≡ length P = sum-ones (λ x. countOf (λ _. true) (x ∷ [])) (length P) (λ x. count-all (x ∷ [])) in
+      let part : countOf (λ _. true) (gathered P k i) ≤ sumBelow (λ x. countOf (λ _. true) (gathered P k x)) k = sum-part (λ x. countOf (λ _. true) (gathered P k x)) k i h in
+      let c : countOf (λ _. true) (gathered P k i) ≡ length (gathered P k i) = count-all (gathered P k i) in
       omega arith
 
   -- the nodes in preorder
@@ -95,7 +122,10 @@ module _ (P : Pattern) (t : IsPatternTree P) where
   once : (j : ℕ) → j < length P → countOf (is j) order ≡ 1
   unfolding sumBelow
   once j h =
-      let s : 0 + countOf (is j) (gathered P 1 0) ≡ 1 = once-in-all j h (length P - 1) 1 (omega arith) (omega arith) in
+      let s : 0 + countOf (is j) (gathered P 1 0) ≡ sumBelow (λ i. countOf (is j) (i ∷ [])) (length P) = same-in-all (is j) (length P - 1) 1 (omega arith) (omega arith) in
+      let n : sumBelow (λ i. countOf (is j) (i ∷ [])) (length P) ≡ 1 + sumBelow (λ _. 0) (length P) =
+      sum-more (λ _. 0) (λ i. countOf (is j) (i ∷ [])) 1 j (length P) h (one j j refl) (λ i q ne. none i j (λ r. ne (sym r))) in
+      let z : sumBelow (λ _. 0) (length P) ≡ 0 = sum-none (λ _. 0) (length P) (λ i q. refl) in
       ap (countOf (is j)) (sym (gathered-whole P t 0 1 (t .inhabited) (omega arith))) ∙ omega arith
 
   -- and nothing else
@@ -143,7 +173,7 @@ module _ (P : Pattern) (t : IsPatternTree P) where
   pub order-length : length order ≡ length P
   order-length =
       let low : length P ≤ length order = pigeonhole (length P) (length order) placeOf (λ i h. placed-at i h .0)
-          (λ i j h k e. sym (placed-at i h .1) ∙ ap (λ (x : ℕ). getD order x 0) e ∙ placed-at j k .1) in
+      (λ i j h k e. sym (placed-at i h .1) ∙ ap (λ (x : ℕ). getD order x 0) e ∙ placed-at j k .1) in
       let high : length order ≤ length P = pigeonhole (length order) (length P) (λ k. getD order k 0) node-inside apart in
       omega arith
 
@@ -184,10 +214,12 @@ module _ (P : Pattern) (t : IsPatternTree P) where
       → ((v : ℕ → ℕ) → Above (depthOf P i) u v → Linked v rest) → Linked u (preorder bySubtree (length P) P i ++ rest)
   link-within zero i h k u p rest after = absurd (omega arith)
   link-within (suc n) i h k u p rest after =
-      subst (λ (o : List ℕ). Linked u (o ++ rest)) (sym (preorder-whole P bySubtree t i h))
-      (p, link-blocks i u rest after (ordered (byWritten bySubtree P) subtrees)
-      (λ o m. child o (ordered-elim (byWritten bySubtree P) o subtrees m) (λ c q. link-within n c (child-elim P i c q .1) (let l = child-later P t i c q in omega arith)))
-      (next u i) (next-own u i) (λ e l. next-other u i e (λ q. omega arith)))
+      subst (λ (o : List ℕ). Linked u (o ++ rest)) (sym (preorder-whole P bySubtree t i h)) (
+        p,
+        link-blocks i u rest after (ordered (byWritten bySubtree P) subtrees)
+            (λ o m. child o (ordered-elim (byWritten bySubtree P) o subtrees m) (λ c q. link-within n c (child-elim P i c q .1) (let l = child-later P t i c q in omega arith)))
+            (next u i) (next-own u i) (λ e l. next-other u i e (λ q. omega arith)),
+      )
     where
       subtrees : List (List ℕ)
       subtrees = map (preorder bySubtree (length P) P) (childrenOf P i)
@@ -317,7 +349,7 @@ module _ (P : Pattern) (t : IsPatternTree P) where
       let low : up ≤ k = last-most es (depthOf P i - 1) k in
       let depth : getD es k noEntry .depth ≡ depthOf P i = ap (λ (e : Entry). e .depth) (entry-of k inside) ∙ ap (depthOf P) (at .1) in
       let own : getD (order P t) up 0 ≡ patternParent P i =
-          ap (λ (x : ℕ). getD (order P t) (lastAt es (depthOf P x - 1) k) 0) (sym (at .1)) ∙ parent-place P t k (at .0) ∙ ap (patternParent P) (at .1) in
+      ap (λ (x : ℕ). getD (order P t) (lastAt es (depthOf P x - 1) k) 0) (sym (at .1)) ∙ parent-place P t k (at .0) ∙ ap (patternParent P) (at .1) in
       ap (λ (r : PatternRecord). r .parent) (record-of k inside) ∙ ap (λ (d : ℕ). lastAt es (d - 1) k) depth
       ∙ sym (place-back P t up (let l = at .0 in omega arith)) ∙ ap (placeOf P t) own
 
