@@ -49,6 +49,7 @@ pub mod Ordering
 pub mod Preorder
 pub mod Gathering
 pub mod Numbering
+pub mod Alike
 pub mod Demands
 pub mod Printed
 pub mod OrderPrinted

@@ -15,7 +15,7 @@ use Rattle.model.specs.Normal.{ordered, depthFrom, depthOf, Entry, entry
 use Rattle.model.proofs.ListLaws.{and-intro, and-left, and-right, map-agree, keep-intro, keep-elim, upFrom-mem, mem-upFrom}
 use Rattle.model.proofs.Ordering.{ordered-elim, ordered-map}
 
-none-or-some : (i : ℕ) → (i ≡ 0) ⊎ (0 < i)
+pub none-or-some : (i : ℕ) → (i ≡ 0) ⊎ (0 < i)
 none-or-some zero = inl refl
 none-or-some (suc i) = inr (omega arith)
 
