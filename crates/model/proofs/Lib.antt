@@ -2,6 +2,7 @@ pub mod ListLaws
 pub mod KeepLaws
 pub mod Ascending
 pub mod Counting
+pub mod Distinct
 pub mod Masks
 pub mod TreeLaws
 pub mod TreeChoice
