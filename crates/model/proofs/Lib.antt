@@ -14,6 +14,7 @@ pub mod ReturnNodes
 pub mod Results
 pub mod Carrying
 pub mod Removing
+pub mod Renumbering
 pub mod Chains
 pub mod Laid
 pub mod Built
