@@ -15,6 +15,7 @@ pub mod Results
 pub mod Carrying
 pub mod Removing
 pub mod Renumbering
+pub mod RenumberedTables
 pub mod Chains
 pub mod Laid
 pub mod Built

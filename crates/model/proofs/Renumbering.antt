@@ -78,7 +78,7 @@ module _ {A : Type 0} {none : A} {parent : A → ℕ} {others : A → List ℕ} 
       root-back = ap (r .from) (sym (r .root)) ∙ r .back 0 (tree .inhabited)
 
       -- there and back
-      pub renumbering-back : Renumbering none parent others Q P
+      unfoldable pub renumbering-back : Renumbering none parent others Q P
       renumbering-back =
           record {
             to = r .from;
