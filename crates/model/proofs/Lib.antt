@@ -37,6 +37,7 @@ pub mod Bytes
 pub mod Refusals
 pub mod CountLaws
 pub mod CaseFacts
+pub mod RenumberedCase
 pub mod CallFacts
 pub mod Calls
 pub mod Text
