@@ -48,6 +48,7 @@ pub mod Sets
 pub mod ReadBack
 pub mod StruckBack
 pub mod WriteBack
+pub mod RenumberedBytes
 pub mod Moving
 pub mod Demands
 pub mod Printed
