@@ -49,6 +49,7 @@ pub mod ReadBack
 pub mod StruckBack
 pub mod WriteBack
 pub mod RenumberedBytes
+pub mod RenumberedVerdict
 pub mod Moving
 pub mod Demands
 pub mod Printed
