@@ -1,7 +1,7 @@
 -- What "not included" shows reads back: the section and the list stand where a reader takes them, all their numbers fit a field
 -- (a label is a field of the case, whose bytes are below 256), so decoding gives the document and the result; these pass questions
 -- 10 and 11, and as a counter-example they answer the calls. Assumes nothing.
-use Prim.Native.Nat.{ℕ, zero, suc, _+_, _-_, _*_, _%_, _≤_, _<_}
+use Prim.Native.Nat.{ℕ, suc, _+_, _-_, _*_, _%_, _≤_, _<_}
 use mathlib.Core.Path.{_≡_, refl, sym, ap, ap₂, _∙_, subst}
 use mathlib.Core.Bool.{Bool, true, false}
 use mathlib.Core.Logic.{_⊎_, inl, inr}

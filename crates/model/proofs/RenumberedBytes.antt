@@ -1,6 +1,6 @@
 -- A renumbering of an accepted case, written out: every field fits, since a parent is a node's number and all else stands in the given case; it
 -- has as many bytes, reads back, and is accepted. Assumes nothing.
-use Prim.Native.Nat.{ℕ, zero, suc, _+_, _*_, _/_, _%_, _≤_, _<_}
+use Prim.Native.Nat.{ℕ, zero, suc, _+_, _*_, _≤_, _<_}
 use mathlib.Core.Path.{_≡_, refl, sym, ap, ap₂, _∙_, subst}
 use mathlib.Core.Bool.{true}
 use mathlib.Core.Logic.{_⊎_, inl, inr}
@@ -9,10 +9,10 @@ use native.Mathlib.Omega.{arith}
 use lib.ListN.{length, getD, length-append}
 use Rattle.model.specs.Limits.{maxCaseBytes, summaryWidth, patternWidth}
 use Rattle.model.specs.Tree.{Rooted, IsTree}
-use Rattle.model.specs.Summary.{Summary, asDocument}
+use Rattle.model.specs.Summary.{asDocument}
 use Rattle.model.specs.Pattern.{Pattern, IsPatternTree}
 use Rattle.model.specs.Bytes.{AreBytes, fieldBytes, bytesOf, summaryRecordAt, patternRecordAt, Case, caseOf, isWholeCase, summaryFields, patternFields, sectionFields, setFields, caseFields, encodeCase}
-use Rattle.model.specs.Questions.{caseWhole, countsInRange, setInRange, summaryKept, siblingsDiffer, patternsKept, positionsKept, refusal, caseQuestions}
+use Rattle.model.specs.Questions.{caseWhole, refusal, caseQuestions}
 use Rattle.model.specs.Renumbering.{Renumbering, PatternRenumbering, CaseRenumbering}
 use Rattle.model.proofs.ListLaws.{mem-at, at-mem, flat-intro, flat-elim}
 use Rattle.model.proofs.TreeLaws.{rooted-inside}
@@ -157,12 +157,20 @@ pub record RenumberedBytes (b : List ℕ) (d : Case) : Type 0 where
   pub bytes : AreBytes (encodeCase d)
   pub size : length (encodeCase d) ≡ length b
   pub again : AllYes (caseQuestions (encodeCase d))
-  pub none : refusal (caseQuestions (encodeCase d)) ≡ 0
+  pub accepted : refusal (caseQuestions (encodeCase d)) ≡ 0
+  pub renumbered : CaseRenumbering (caseOf b) (caseOf (encodeCase d))
 
 pub renumbered-bytes : (b : List ℕ) → AreBytes b → AllYes (caseQuestions b) → (d : Case) → CaseRenumbering (caseOf b) d → CaseTrees d → RenumberedBytes b d
 unfolding encodeCase
 renumbered-bytes b small asked d r trees =
-    record { back = back; bytes = bytes-small (caseFields d); size = size; again = again; none = refusal-none (caseQuestions (encodeCase d)) again }
+    record {
+      back = back;
+      bytes = bytes-small (caseFields d);
+      size = size;
+      again = again;
+      accepted = refusal-none (caseQuestions (encodeCase d)) again;
+      renumbered = subst (CaseRenumbering (caseOf b)) (sym back) r;
+    }
   where
     whole : isWholeCase b ≡ true
     whole = whole-case b .1 (case-accepted b asked .whole)

@@ -4,7 +4,7 @@ use Prim.Native.Nat.{ℕ, _<_}
 use mathlib.Core.Path.{_≡_, refl, sym, ap, _∙_, subst}
 use mathlib.Core.Bool.{Bool, true, false, _&&_, _||_, not}
 use mathlib.Core.Logic.{_⊎_, inl, inr, _↔_}
-use mathlib.Core.List.{List, [], List·Memᴰ}
+use mathlib.Core.List.{List, []}
 use native.Mathlib.Omega.{arith}
 use native.Mathlib.Nat.{eq-zero-or-pos}
 use lib.Dec.{eqb, leb, ltb}
@@ -12,20 +12,20 @@ use lib.ListN.{length, getD}
 use borrow.Author.Tests.{eqb-true, ltb-true, eq-eqb, lt-ltb}
 use Rattle.model.specs.Lists.{upFrom, allOf, countOf}
 use Rattle.model.specs.Limits.{maxSummary, maxPattern, maxMembers, maxPosition}
-use Rattle.model.specs.Tree.{Document, IsTree}
-use Rattle.model.specs.Summary.{Summary, noSummaryRecord, asDocument, summaryParent, summaryLabel, Fits}
-use Rattle.model.specs.Pattern.{PatternRecord, Pattern, noPatternRecord, IsPatternTree, patternParent, position, arity, Result, Contained}
+use Rattle.model.specs.Tree.{IsTree}
+use Rattle.model.specs.Summary.{Summary, noSummaryRecord, asDocument, summaryParent, summaryLabel}
+use Rattle.model.specs.Pattern.{PatternRecord, Pattern, noPatternRecord, IsPatternTree, patternParent, arity, Result, Contained}
 use Rattle.model.specs.Fitting.{parentRule}
 use Rattle.model.specs.Bytes.{Case}
 use Rattle.model.specs.Questions.{between, countInRange, countsInRange, setInRange, summaryRecordKept, summaryKept, alike, siblingsDiffer, patternRecordKept, patternKept, patternsKept, positionsOnce, positionsKept}
 use Rattle.model.specs.Renumbering.{SummaryRenumbering, PatternRenumbering, CaseRenumbering}
-use Rattle.model.specs.Facts.{SummaryFacts, MemberFacts, CaseFacts}
+use Rattle.model.specs.Facts.{SummaryFacts, CaseFacts}
 use Rattle.model.proofs.ListLaws.{true-or-false, and-intro, and-left, and-right, or-left, mem-at, at-mem, all-intro, all-elim, all-agree, all-below, below-all}
 use Rattle.model.proofs.TreeLaws.{length-asDocument}
 use Rattle.model.proofs.Fitting.{rooted-rule}
 use Rattle.model.proofs.CaseFacts.{between-facts, summary-facts}
 use Rattle.model.proofs.Renumbering.{renumbering-self, renumbering-after, renumbering-back, renumbered-length, fields-back, root-back, summary-rooted}
-use Rattle.model.proofs.RenumberedTables.{renumbered-arity, renumbered-holders, renumbered-result, renumbered-fits, renumbered-summary-facts, renumbered-pattern-facts}
+use Rattle.model.proofs.RenumberedTables.{renumbered-arity, renumbered-holders, renumbered-result, renumbered-fits, renumbered-summary-facts}
 
 -- each table of the case is a rooted tree
 pub record CaseTrees (c : Case) : Type 0 where

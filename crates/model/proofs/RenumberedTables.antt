@@ -1,20 +1,19 @@
 -- What a renumbering keeps of selections and of outlines: a selection's results in every volume, which volumes fit an outline, the rules of both,
 -- and how many placements there are, because an embedding goes along with its nodes, both ways. Assumes nothing.
 use Prim.Native.Nat.{ℕ, _≤_, _<_}
-use mathlib.Core.Path.{_≡_, refl, sym, ap, _∙_, subst}
-use mathlib.Core.Bool.{Bool, true}
+use mathlib.Core.Path.{_≡_, sym, ap, _∙_, subst}
 use mathlib.Core.Logic.{_↔_}
-use mathlib.Core.List.{List, [], _∷_, List·Memᴰ}
+use mathlib.Core.List.{List, [], List·Memᴰ}
 use native.Mathlib.Omega.{arith}
 use lib.Dec.{eqb, ltb}
 use lib.ListN.{length, getD}
 use lib.Seq.{ext-getD}
 use Rattle.model.specs.Lists.{countOf}
-use Rattle.model.specs.Tree.{Document, IsTree, parentOf, labelOf, Child, LabelPath, Hom}
-use Rattle.model.specs.Summary.{Summary, SummaryRecord, noSummaryRecord, asDocument, summaryParent, summaryLabel, StrongEdge, OnPath, Fits}
-use Rattle.model.specs.Pattern.{Pattern, PatternRecord, noPatternRecord, IsPatternTree, arity, Embeds, Result, ResultOfSome, Contained, Carries}
+use Rattle.model.specs.Tree.{Document, IsTree, Hom}
+use Rattle.model.specs.Summary.{Summary, asDocument, summaryLabel, StrongEdge, OnPath, Fits}
+use Rattle.model.specs.Pattern.{Pattern, PatternRecord, IsPatternTree, arity, Embeds, Result, Carries}
 use Rattle.model.specs.Embeddings.{imageIn, summaryEmbeddings, Precedes}
-use Rattle.model.specs.Renumbering.{patternOthers, SummaryRenumbering, PatternRenumbering}
+use Rattle.model.specs.Renumbering.{SummaryRenumbering, PatternRenumbering}
 use Rattle.model.specs.Facts.{SummaryFacts, PatternFacts}
 use Rattle.model.proofs.TreeLaws.{length-asDocument, hom-embeds}
 use Rattle.model.proofs.Paths.{hom-label-path}

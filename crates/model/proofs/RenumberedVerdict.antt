@@ -1,6 +1,6 @@
 -- What a renumbering keeps of a verdict whose limit is at least the number of placements: with as many placements it is "included" of both cases or
 -- "not included" of both, by inclusion, which is kept, and "included" tries every one. Assumes nothing.
-use Prim.Native.Nat.{ℕ, _≤_, _<_}
+use Prim.Native.Nat.{ℕ, _≤_}
 use mathlib.Core.Path.{_≡_, refl, sym, ap, _∙_, subst}
 use mathlib.Core.Logic.{_⊎_, inl, inr}
 use mathlib.Core.List.{List, [], _∷_, _++_}

@@ -3,15 +3,15 @@
 -- Assumes nothing.
 use Prim.Native.Nat.{ℕ, _≤_, _<_}
 use mathlib.Core.Path.{_≡_, refl, sym, ap, ap₂, _∙_, subst}
-use mathlib.Core.Bool.{Bool, true}
-use mathlib.Core.List.{List, [], _∷_, List·Memᴰ}
+use mathlib.Core.Bool.{Bool}
+use mathlib.Core.List.{List, [], _∷_}
 use native.Mathlib.Omega.{arith}
 use lib.ListN.{length, getD, length-map, List·getD-map}
 use Rattle.model.specs.Lists.{countOf}
 use Rattle.model.specs.Tree.{Rooted, DocumentRecord, IsTree}
 use Rattle.model.specs.Summary.{Summary, SummaryRecord, noSummaryRecord, withoutStrong, asDocument, summaryParent, summaryLabel}
 use Rattle.model.specs.Pattern.{Pattern, PatternRecord, noPatternRecord}
-use Rattle.model.specs.Renumbering.{Renumbering, summaryOthers, patternOthers, SummaryRenumbering, PatternRenumbering}
+use Rattle.model.specs.Renumbering.{Renumbering, patternOthers, SummaryRenumbering, PatternRenumbering}
 use Rattle.model.specs.Normal.{asPattern}
 use Rattle.model.proofs.TreeLaws.{length-asDocument, rooted-inside}
 use Rattle.model.proofs.Counting.{pigeonhole}
