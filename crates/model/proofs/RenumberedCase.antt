@@ -43,8 +43,8 @@ case-trees {c} f =
 
 -- ---- itself, one after another, there and back
 
-pub case-self : (c : Case) → CaseRenumbering c c
-case-self c =
+pub case-renumbering-self : (c : Case) → CaseRenumbering c c
+case-renumbering-self c =
     record {
       summary = renumbering-self (c .summary);
       first = renumbering-self (c .first);
@@ -52,8 +52,8 @@ case-self c =
       members = λ i h. renumbering-self (getD (c .members) i []);
     }
 
-pub case-after : {c d e : Case} → CaseRenumbering c d → CaseRenumbering d e → CaseRenumbering c e
-case-after r s =
+pub case-renumbering-after : {c d e : Case} → CaseRenumbering c d → CaseRenumbering d e → CaseRenumbering c e
+case-renumbering-after r s =
     record {
       summary = renumbering-after (r .summary) (s .summary);
       first = renumbering-after (r .first) (s .first);
@@ -61,8 +61,8 @@ case-after r s =
       members = λ i h. renumbering-after (r .members i h) (s .members i (subst (λ (n : ℕ). i < n) (r .count) h));
     }
 
-pub case-back : {c d : Case} → CaseTrees c → CaseRenumbering c d → CaseRenumbering d c
-case-back {c} {d} t r =
+pub case-renumbering-back : {c d : Case} → CaseTrees c → CaseRenumbering c d → CaseRenumbering d c
+case-renumbering-back {c} {d} t r =
     record {
       summary = renumbering-back (r .summary) (summary-rooted (c .summary) (t .summary));
       first = renumbering-back (r .first) (t .first);
@@ -88,7 +88,7 @@ contained-on {c} {d} r f g h W fit rs k =
 
 pub renumbered-contained : {c d : Case} → CaseRenumbering c d → CaseFacts c → CaseFacts d
     → Contained (c .summary) (c .first) (c .members) ↔ Contained (d .summary) (d .first) (d .members)
-renumbered-contained r f g = (λ h. contained-on r f g h, λ h. contained-on (case-back (case-trees f) r) g f h)
+renumbered-contained r f g = (λ h. contained-on r f g h, λ h. contained-on (case-renumbering-back (case-trees f) r) g f h)
 
 -- ---- the outline's questions
 

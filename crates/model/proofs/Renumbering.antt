@@ -175,7 +175,7 @@ module _ {P Q : Pattern} (r : PatternRenumbering P Q) where
 
 -- ---- an outline read as a selection
 
-abbrev readAs : SummaryRecord → PatternRecord
+abbrev pub readAs : SummaryRecord → PatternRecord
 readAs r = record { parent = r .parent; label = r .label; edge = r .strong; position = 0 }
 
 module _ (S : Summary) where
