@@ -51,6 +51,9 @@ pub mod WriteBack
 pub mod RenumberedBytes
 pub mod RenumberedVerdict
 pub mod Moving
+pub mod Ordering
+pub mod Preorder
+pub mod Gathering
 pub mod Demands
 pub mod Printed
 pub mod OrderPrinted
