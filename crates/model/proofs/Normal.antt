@@ -1,23 +1,27 @@
 -- One way of writing: two selections, outlines or cases are written alike exactly when a renumbering turns one into the other. What is
 -- written is a renumbering of what is given, and the given tables decide what is written only up to renumbering. Assumes nothing.
-use Prim.Native.Nat.{ℕ, _≤_, _<_}
+use Prim.Native.Nat.{ℕ, _+_, _*_, _≤_, _<_}
 use mathlib.Core.Path.{_≡_, refl, sym, ap, _∙_, subst}
 use mathlib.Core.Logic.{_↔_}
-use mathlib.Core.List.{List, [], map, map-map, map-id, List·Memᴰ, head-eq-of-cons-eq, tail-eq-of-cons-eq}
+use mathlib.Core.List.{List, [], _∷_, _++_, map, flatMap, map-map, map-id, append-nil, List·Memᴰ, List·Memᴰ·head, List·Memᴰ·tail, head-eq-of-cons-eq, tail-eq-of-cons-eq}
 use native.Mathlib.Omega.{arith}
-use lib.ListN.{length, getD, length-map, List·getD-map}
+use lib.ListN.{length, getD, length-map, length-append, List·getD-map}
+use borrow.Author.Tests.{leb-true, le-leb}
 use lib.Seq.{ext-getD}
+use Rattle.model.specs.Limits.{minBuffer, maxPattern, summaryWidth, patternWidth}
 use Rattle.model.specs.Tree.{Rooted, IsTree}
 use Rattle.model.specs.Summary.{SummaryRecord, Summary, noSummaryRecord, asDocument}
 use Rattle.model.specs.Pattern.{PatternRecord, Pattern, noPatternRecord, position, IsPatternTree}
 use Rattle.model.specs.Facts.{SummaryFacts, CaseFacts}
-use Rattle.model.specs.Bytes.{AreBytes, Case, caseOf, encodeCase}
-use Rattle.model.specs.Questions.{refusal, caseQuestions}
+use Rattle.model.specs.Bytes.{AreBytes, Case, caseOf, summaryRecordAt, patternRecordAt, summaryFields, patternFields, sectionFields, setFields, caseFields, encodeCase}
+use Rattle.model.specs.Questions.{Question, ask, refusal, bufferLargeEnough, caseQuestions}
 use Rattle.model.specs.Renumbering.{SummaryRenumbering, PatternRenumbering, CaseRenumbering}
-use Rattle.model.specs.Normal.{listed, tableOf, byLabel, bySubtree, normalPattern, readAs, readBack, asPattern, asSummary, normalSummary, normalCase, normalised}
+use Rattle.model.specs.Normal.{listed, tableOf, byLabel, bySubtree, normalPattern, readAs, readBack, asPattern, asSummary, normalSummary, normalCase, normaliseRefusal, normalised}
 use Rattle.model.proofs.ListLaws.{mem-at, at-mem, getD-map, map-agree}
-use Rattle.model.proofs.Refusals.{AllYes}
-use Rattle.model.proofs.CaseFacts.{case-accepted}
+use Rattle.model.proofs.Refusals.{AllYes, refusal-none}
+use Rattle.model.proofs.CaseFacts.{case-accepted, all-asked}
+use Rattle.model.proofs.Bytes.{whole-case, length-bytes, pattern-readable, summary-readable, length-section}
+use Rattle.model.proofs.WriteBack.{encode-case}
 use Rattle.model.proofs.Renumbering.{renumbering-after, renumbering-back, record-asPattern, length-asPattern, summary-renumbering, pattern-renumbering, summary-rooted, rooted-summary, pattern-position, fields-back}
 use Rattle.model.proofs.RenumberedCase.{CaseTrees, case-trees, case-renumbering-after, case-renumbering-back}
 use Rattle.model.proofs.RenumberedBytes.{RenumberedBytes, renumbered-bytes}
@@ -159,3 +163,53 @@ unfolding normalised
 normal-twice b s q =
     let n = normal-bytes b s q in
     sym (alike-exact b (normalised b) s (n .bytes) q (n .again) .1 (n .renumbered))
+
+-- ---- the call
+
+-- an accepted call
+pub record NormaliseFacts (b : List ℕ) (bufferBytes : ℕ) : Type 0 where
+  pub asked : AllYes (caseQuestions b)
+  pub buffer : minBuffer ≤ bufferBytes
+
+pub accepted-normalise : (b : List ℕ) (bufferBytes : ℕ) → normaliseRefusal b bufferBytes ≡ 0 → NormaliseFacts b bufferBytes
+unfolding normaliseRefusal bufferLargeEnough
+accepted-normalise b bufferBytes e =
+    let y = all-asked b (ask 2 (bufferLargeEnough bufferBytes) ∷ []) [] (omega arith, tt) tt (ap (λ (qs : List Question). refusal (ask 2 (bufferLargeEnough bufferBytes) ∷ qs)) (append-nil (caseQuestions b)) ∙ e) in
+    record { asked = y .1; buffer = leb-true minBuffer bufferBytes (y .0 .0) }
+
+pub normalise-accepted : (b : List ℕ) (bufferBytes : ℕ) → AllYes (caseQuestions b) → minBuffer ≤ bufferBytes → normaliseRefusal b bufferBytes ≡ 0
+unfolding normaliseRefusal bufferLargeEnough
+normalise-accepted b bufferBytes y h = refusal-none (ask 2 (bufferLargeEnough bufferBytes) ∷ caseQuestions b) (le-leb minBuffer bufferBytes h, y)
+
+-- an accepted case has at most 1 + 3 × 64 fields, 1 + 4 × 16, and 1 + 8 × (1 + 4 × 16)
+members-small : (Qs : List Pattern) → ((Q : Pattern) → List·Memᴰ Q Qs → length Q ≤ maxPattern) → length (flatMap (sectionFields patternFields) Qs) ≤ 65 * length Qs
+unfolding flatMap
+members-small [] h = omega arith
+members-small (Q ∷ Qs) h =
+    let a : length (sectionFields patternFields Q ++ flatMap (sectionFields patternFields) Qs) ≡ length (sectionFields patternFields Q) + length (flatMap (sectionFields patternFields) Qs) =
+    length-append (sectionFields patternFields Q) (flatMap (sectionFields patternFields) Qs) in
+    let b : length (sectionFields patternFields Q) ≡ 1 + patternWidth * length Q = length-section patternRecordAt patternFields patternWidth pattern-readable Q in
+    let c : length Q ≤ maxPattern = h Q (List·Memᴰ·head refl) in
+    let d : length (flatMap (sectionFields patternFields) Qs) ≤ 65 * length Qs = members-small Qs (λ R m. h R (List·Memᴰ·tail m)) in
+    omega arith
+
+pub case-small : (b : List ℕ) → AreBytes b → AllYes (caseQuestions b) → length b ≤ minBuffer
+unfolding encodeCase caseFields sectionFields
+case-small b s q =
+    let k = case-accepted b q in
+    let c : Case = caseOf b in
+    let f = k .facts in
+    let whole : encodeCase c ≡ b = encode-case b s (whole-case b .1 (k .whole)) in
+    let e : length (encodeCase c) ≡ 2 * length (caseFields c) = length-bytes (caseFields c) in
+    let n : length b ≡ length (encodeCase c) = ap length (sym whole) in
+    let x : length (caseFields c) ≡ length (sectionFields summaryFields (c .summary)) + length (sectionFields patternFields (c .first) ++ setFields (c .members)) =
+    length-append (sectionFields summaryFields (c .summary)) (sectionFields patternFields (c .first) ++ setFields (c .members)) in
+    let y : length (sectionFields patternFields (c .first) ++ setFields (c .members)) ≡ length (sectionFields patternFields (c .first)) + length (setFields (c .members)) =
+    length-append (sectionFields patternFields (c .first)) (setFields (c .members)) in
+    let u : length (sectionFields summaryFields (c .summary)) ≡ 1 + summaryWidth * length (c .summary) = length-section summaryRecordAt summaryFields summaryWidth summary-readable (c .summary) in
+    let v : length (sectionFields patternFields (c .first)) ≡ 1 + patternWidth * length (c .first) = length-section patternRecordAt patternFields patternWidth pattern-readable (c .first) in
+    let w : length (flatMap (sectionFields patternFields) (c .members)) ≤ 65 * length (c .members) = members-small (c .members) (λ Q m. f .members Q m .size) in
+    let g = f .summarySize in
+    let h = f .firstSize in
+    let i = f .fewMembers in
+    omega arith
