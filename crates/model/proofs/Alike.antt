@@ -21,7 +21,7 @@ use Rattle.model.proofs.ListLaws.{map-agree}
 use Rattle.model.proofs.Ascending.{ascending-keep, ascending-upFrom, ascending-map}
 use Rattle.model.proofs.TreeLaws.{length-asDocument}
 use Rattle.model.proofs.Renumbering.{root-back, renumbered-not-root, parent-of, label-of, summary-rooted, length-asPattern, record-asPattern}
-use Rattle.model.proofs.Ordering.{after-same, after-less, after-greater, subtree-order, Distinct, Matched, ordered-agree, ordered-matched}
+use Rattle.model.proofs.Ordering.{after-same, after-less, after-greater, subtree-order, Distinct, Matched, ordered-ascends, ordered-agree, ordered-matched}
 use Rattle.model.proofs.Preorder.{none-or-some, depth-root, depth-child, child-elim, child-intro, child-later, preorder-whole, rows-flat}
 
 -- children stand in the order of their numbers, so each once
@@ -182,3 +182,11 @@ module _ (S : Summary) (f : SummaryFacts S) where
   pub by-label-alike : listed byLabel (asPattern S) ≡ listed bySubtree (asPattern S)
   unfolding listed
   by-label-alike = ap (entries read) (preorder-same (length read) 0 (summary-tree .inhabited) (omega arith))
+
+-- ---- siblings in their order
+
+-- the children's subtrees go by what is written of them, of a selection
+pub siblings-ascend : (P : Pattern) (i : ℕ) → Ascending (λ a b. bySubtree (entries P a) (entries P b) ≡ true) (ordered (byWritten bySubtree P) (map (preorder bySubtree (length P) P) (childrenOf P i)))
+siblings-ascend P i =
+    ordered-ascends (byWritten bySubtree P) (λ a b. subtree-order .total (entries P a) (entries P b)) (λ a b c. subtree-order .trans (entries P a) (entries P b) (entries P c))
+    (map (preorder bySubtree (length P) P) (childrenOf P i))

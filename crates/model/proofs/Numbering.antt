@@ -318,11 +318,11 @@ table-tree es z =
     record {
       inhabited = omega arith;
       root = root;
-      earlier = λ i p h. subst (λ (r : PatternRecord). r .parent < i) (sym (table-record es i (omega arith))) (last-below es (getD es i noEntry .depth - 1) i p);
+      earlier = λ i p h. subst (λ (r : PatternRecord). r .parent < i) (sym (table-record es i (omega arith))) (last-below es _ i p);
     }
   where
     root : patternParent (tableOf es) 0 ≡ 0
-    root = ap (λ (r : PatternRecord). r .parent) (table-record es 0 z) ∙ last-none es (getD es 0 noEntry .depth - 1)
+    root = ap (λ (r : PatternRecord). r .parent) (table-record es 0 z) ∙ last-none es _
 
 module _ (P : Pattern) (t : IsPatternTree P) where
   -- the list of entries in preorder
