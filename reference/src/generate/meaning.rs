@@ -527,5 +527,5 @@ fn the_cases_to_be_written_are_of_all_kinds() {
     let whole = |case: &Case| case.outline.len() == 64 && case.bytes().len() == 1_558;
     let again = |case: &Case| normal(case) == case.bytes();
     assert!(of(&whole) > 200 && of(&again) > 50 && of(&|case| !again(case)) > 1_000);
-    assert!(all.iter().filter(|vector| vector.refusal() == 2).count() > 300);
+    assert!(all.iter().filter(|vector| vector.refusal() == 2).count() > 20);
 }

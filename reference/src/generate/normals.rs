@@ -29,8 +29,8 @@ pub fn normals(seed: u64, count: usize) -> Vec<Vector> {
             2 => altered(&mut prng, &plan),
             _ => drawn(&mut prng),
         };
-        let length = least_length(NORMALISE);
-        plan.length = [length, length, length + 1, length + 904, length - 1][prng.below(5)];
+        plan.length = least_length(NORMALISE) + [0, 0, 1, 904][prng.below(4)];
+        plan.length -= u64::from(prng.percent(4));
         all.push(plan.vector());
     }
     all
