@@ -1,6 +1,6 @@
 -- Laws of lists compared at the first difference, and of lists put in order: what is put in order does not depend on the order in which it
 -- came. Assumes nothing.
-use Prim.Native.Nat.{ℕ, zero, suc, _+_, _≤_, _<_}
+use Prim.Native.Nat.{ℕ, suc, _+_, _≤_, _<_}
 use mathlib.Core.Path.{_≡_, refl, sym, ap, ap₂, _∙_, subst}
 use mathlib.Core.Bool.{Bool, true, false, true≢false, false≢true}
 use mathlib.Core.Logic.{_⊎_, inl, inr, _↔_}
@@ -151,6 +151,10 @@ subtree-order =
 -- ---- put in order
 
 module _ {A : Type 0} (by : A → A → Bool) where
+  placed-end : {x : A} → placed by x [] ≡ x ∷ []
+  unfolding placed
+  placed-end = refl
+
   pub placed-first : (x y : A) (ys : List A) → by x y ≡ true → placed by x (y ∷ ys) ≡ x ∷ y ∷ ys
   unfolding placed
   placed-first x y ys e = rw (e, placed) refl
@@ -190,6 +194,49 @@ module _ {A : Type 0} (by : A → A → Bool) where
       go : (y ≡ x) ⊎ List·Memᴰ y (ordered by xs) → (List·Memᴰ y (ordered by xs) → List·Memᴰ y xs) → List·Memᴰ y (x ∷ xs)
       go (inl e) rest = List·Memᴰ·head e
       go (inr n) rest = List·Memᴰ·tail (rest n)
+
+  -- and what stood in it, and x, still stand
+  placed-intro : (x y : A) (ys : List A) → (y ≡ x) ⊎ List·Memᴰ y ys → List·Memᴰ y (placed by x ys)
+  unfolding placed
+  placed-intro x y [] (inl e) = List·Memᴰ·head e
+  placed-intro x y [] (inr m) = absurd (List·Memᴰ·not-nil m)
+  placed-intro x y (z ∷ zs) s = go (by x z) s (λ q. placed-intro x y zs q)
+    where
+      at : (y ≡ x) ⊎ List·Memᴰ y (z ∷ zs) → List·Memᴰ y (x ∷ z ∷ zs)
+      at (inl e) = List·Memᴰ·head e
+      at (inr m) = List·Memᴰ·tail m
+
+      among : (y ≡ z) ⊎ List·Memᴰ y zs → ((y ≡ x) ⊎ List·Memᴰ y zs → List·Memᴰ y (placed by x zs)) → List·Memᴰ y (z ∷ placed by x zs)
+      among (inl e) rest = List·Memᴰ·head e
+      among (inr m) rest = List·Memᴰ·tail (rest (inr m))
+
+      later : (y ≡ x) ⊎ List·Memᴰ y (z ∷ zs) → ((y ≡ x) ⊎ List·Memᴰ y zs → List·Memᴰ y (placed by x zs)) → List·Memᴰ y (z ∷ placed by x zs)
+      later (inl e) rest = List·Memᴰ·tail (rest (inl e))
+      later (inr m) rest = among (List·Memᴰ·cases-cons m) rest
+
+      go : (t : Bool) → (y ≡ x) ⊎ List·Memᴰ y (z ∷ zs) → ((y ≡ x) ⊎ List·Memᴰ y zs → List·Memᴰ y (placed by x zs))
+          → List·Memᴰ y (elim t as (λ _. List A) [ true ↦ x ∷ z ∷ zs | false ↦ z ∷ placed by x zs ])
+      go true q rest = at q
+      go false q rest = later q rest
+
+  pub ordered-intro : (y : A) (xs : List A) → List·Memᴰ y xs → List·Memᴰ y (ordered by xs)
+  unfolding ordered
+  ordered-intro y [] m = m
+  ordered-intro y (x ∷ xs) m = placed-intro x y (ordered by xs) (go (List·Memᴰ·cases-cons m) (λ p. ordered-intro y xs p))
+    where
+      go : (y ≡ x) ⊎ List·Memᴰ y xs → (List·Memᴰ y xs → List·Memᴰ y (ordered by xs)) → (y ≡ x) ⊎ List·Memᴰ y (ordered by xs)
+      go (inl e) rest = inl e
+      go (inr n) rest = inr (rest n)
+
+  -- what ascends already stays as it is
+  pub ordered-already : (xs : List A) → Ascending (λ x y. by x y ≡ true) xs → ordered by xs ≡ xs
+  unfolding ordered
+  ordered-already [] a = refl
+  ordered-already (x ∷ xs) a = ap (placed by x) (ordered-already xs (a .1)) ∙ first xs (a .0)
+    where
+      first : (ys : List A) → ((y : A) → List·Memᴰ y ys → by x y ≡ true) → placed by x ys ≡ x ∷ ys
+      first [] h = placed-end
+      first (y ∷ ys) h = placed-first x y ys (h y (List·Memᴰ·head refl))
 
   -- it is neither more nor less
   placed-length : (x : A) (ys : List A) → length (placed by x ys) ≡ suc (length ys)

@@ -141,6 +141,12 @@ normalSummary S = asSummary (tableOf (listed byLabel (asPattern S)))
 unfoldable pub normalCase : Case → Case
 normalCase c = record { summary = normalSummary (c .summary); first = normalPattern (c .first); members = map normalPattern (c .members) }
 
+-- every tree of a case is in preorder, siblings in their order: so gone through, its nodes are 0, 1, 2 and so on
+pub record InOrder (c : Case) : Type 0 where
+  pub summary : preorder byLabel (length (c .summary)) (asPattern (c .summary)) 0 ≡ upFrom 0 (length (c .summary))
+  pub first : preorder bySubtree (length (c .first)) (c .first) 0 ≡ upFrom 0 (length (c .first))
+  pub members : (i : ℕ) → i < length (c .members) → preorder bySubtree (length (getD (c .members) i [])) (getD (c .members) i []) 0 ≡ upFrom 0 (length (getD (c .members) i []))
+
 -- ---- The call
 
 -- 2 to 8, with 14 right after 4
