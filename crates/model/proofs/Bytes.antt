@@ -4,8 +4,8 @@
 use Prim.Native.Nat.{ℕ, zero, suc, _+_, _-_, _*_, _/_, _%_, _≤_, _<_}
 use mathlib.Core.Path.{_≡_, refl, sym, ap, ap₂, _∙_, subst}
 use mathlib.Core.Bool.{Bool, true, false, false≢true}
-use mathlib.Core.Logic.{_↔_}
-use mathlib.Core.List.{List, [], _∷_, _++_, map, flatMap, List·Memᴰ, List·Memᴰ·head, List·Memᴰ·tail}
+use mathlib.Core.Logic.{_⊎_, inl, inr, _↔_}
+use mathlib.Core.List.{List, [], _∷_, _++_, map, flatMap, List·Memᴰ, List·Memᴰ·head, List·Memᴰ·tail, List·Memᴰ·append-cases}
 use native.Mathlib.Omega.{arith}
 use native.Mathlib.Nat.{not-suc-le-zero, le-of-suc-le-suc, add-zero, zero-add, add-assoc, zero-lt-suc, mul-div-right}
 use lib.Dec.{eqb, leb, lit<}
@@ -99,6 +99,17 @@ whole-case b = (
 -- every number of the list fits a field
 abbrev pub FitFields : List ℕ → Type 0
 FitFields fs = (f : ℕ) → List·Memᴰ f fs → f < 65_536
+
+pub fit-append : (xs ys : List ℕ) → FitFields xs → FitFields ys → FitFields (xs ++ ys)
+fit-append xs ys f g x m = go (List·Memᴰ·append-cases xs m)
+  where
+    go : List·Memᴰ x xs ⊎ List·Memᴰ x ys → x < 65_536
+    go (inl k) = f x k
+    go (inr k) = g x k
+
+pub fit-next : (x : ℕ) (xs : List ℕ) → x < 65_536 → FitFields xs → FitFields (x ∷ xs)
+fit-next x xs l f y (List·Memᴰ·head e) = subst (λ (z : ℕ). z < 65_536) (sym e) l
+fit-next x xs l f y (List·Memᴰ·tail m) = f y m
 
 pub length-bytes : (fs : List ℕ) → length (bytesOf fs) ≡ 2 * length fs
 unfolding bytesOf flatMap fieldBytes

@@ -4,7 +4,7 @@ use Prim.Native.Nat.{ℕ, zero, suc, _+_, _≤_, _<_}
 use mathlib.Core.Path.{_≡_, refl, sym, ap, _∙_}
 use mathlib.Core.Bool.{Bool, true, false}
 use mathlib.Core.Logic.{_⊎_, inl, inr, _≢_}
-use mathlib.Core.List.{List, [], _∷_}
+use mathlib.Core.List.{List, [], _∷_, _++_}
 use native.Mathlib.Omega.{arith}
 use native.Mathlib.Nat.{not-suc-le-zero, le-of-suc-le-suc, add-zero, zero-add}
 use lib.Dec.{eqb, ltb}
@@ -28,6 +28,16 @@ module _ {A : Type 0} (test : A → Bool) where
       go : (test x ≡ true) ⊎ (test x ≡ false) → countOf test xs ≤ countOf test (x ∷ xs)
       go (inl y) = let e = count-yes x xs y in omega arith
       go (inr n) = let e = count-no x xs n in omega arith
+
+  pub count-append : (xs ys : List A) → countOf test (xs ++ ys) ≡ countOf test xs + countOf test ys
+  unfolding countOf
+  count-append [] ys = sym (zero-add (countOf test ys))
+  count-append (x ∷ xs) ys = go (test x) (count-append xs ys)
+    where
+      go : (t : Bool) → countOf test (xs ++ ys) ≡ countOf test xs + countOf test ys
+          → (elim t as (λ _. ℕ) [ true ↦ suc (countOf test (xs ++ ys)) | false ↦ countOf test (xs ++ ys) ]) ≡ (elim t as (λ _. ℕ) [ true ↦ suc (countOf test xs) | false ↦ countOf test xs ]) + countOf test ys
+      go true e = omega arith
+      go false e = e
 
   -- where an element passes, the count is not 0
   pub count-some : (xs : List A) (d : A) (i : ℕ) → i < length xs → test (getD xs i d) ≡ true → 1 ≤ countOf test xs

@@ -2,6 +2,7 @@ pub mod ListLaws
 pub mod KeepLaws
 pub mod Ascending
 pub mod Counting
+pub mod Distinct
 pub mod Masks
 pub mod TreeLaws
 pub mod TreeChoice
@@ -13,6 +14,8 @@ pub mod ReturnNodes
 pub mod Results
 pub mod Carrying
 pub mod Removing
+pub mod Renumbering
+pub mod RenumberedTables
 pub mod Chains
 pub mod Laid
 pub mod Built
@@ -34,6 +37,7 @@ pub mod Bytes
 pub mod Refusals
 pub mod CountLaws
 pub mod CaseFacts
+pub mod RenumberedCase
 pub mod CallFacts
 pub mod Calls
 pub mod Text
@@ -44,7 +48,14 @@ pub mod Sets
 pub mod ReadBack
 pub mod StruckBack
 pub mod WriteBack
+pub mod RenumberedBytes
+pub mod RenumberedVerdict
 pub mod Moving
+pub mod Ordering
+pub mod Preorder
+pub mod Gathering
+pub mod Numbering
+pub mod Alike
 pub mod Demands
 pub mod Printed
 pub mod OrderPrinted

@@ -4,8 +4,8 @@
 use Prim.Native.Nat.{ℕ, zero, suc, _+_, _-_, _*_, _≤_, _<_}
 use mathlib.Core.Path.{_≡_, refl, sym, ap, ap₂, _∙_, subst}
 use mathlib.Core.Bool.{true, _&&_}
-use mathlib.Core.Logic.{_⊎_, inl, inr, _≢_}
-use mathlib.Core.List.{List, [], _∷_, _++_, append-nil, List·Memᴰ, List·Memᴰ·head, List·Memᴰ·tail, List·Memᴰ·append-cases}
+use mathlib.Core.Logic.{_≢_}
+use mathlib.Core.List.{List, [], _∷_, _++_, append-nil, List·Memᴰ}
 use native.Mathlib.Omega.{arith}
 use native.Mathlib.Nat.{zero-add, le-refl}
 use lib.ListN.{length, getD, length-append}
@@ -20,7 +20,7 @@ use Rattle.model.specs.OldForm.{OldCase, oldWidth, oldRecordAt, oldRecor
 use Rattle.model.specs.Moving.{goesBack, upgradeRefusal, downgradeRefusal, upgraded, downgraded, movedAccepted, movedCall, upgradeCall, downgradeCall}
 use Rattle.model.specs.Demands.{Upgraded, Downgraded}
 use Rattle.model.proofs.ListLaws.{and-left, and-right, all-elim, mem-at, length-map-upFrom, getD-map-upFrom}
-use Rattle.model.proofs.Bytes.{FitFields, length-bytes, length-section, summary-readable, old-readable, member-first, member-next, whole-set-ends, whole-case, case-back, case-whole}
+use Rattle.model.proofs.Bytes.{FitFields, fit-append, fit-next, length-bytes, length-section, summary-readable, old-readable, member-first, member-next, whole-set-ends, whole-case, case-back, case-whole}
 use Rattle.model.proofs.Refusals.{AllYes, refusal-none, accepted-all-yes, all-yes-append}
 use Rattle.model.proofs.CaseFacts.{between-facts, all-asked}
 use Rattle.model.proofs.Calls.{chosen-accepted, chosen-refused}
@@ -112,17 +112,6 @@ module _ (c : OldCase) where
     old-small = omega (arith, length-bytes (oldFields c), fields-few)
 
 -- ---- old to new
-
-fit-append : (xs ys : List ℕ) → FitFields xs → FitFields ys → FitFields (xs ++ ys)
-fit-append xs ys f g x m = go (List·Memᴰ·append-cases xs m)
-  where
-    go : List·Memᴰ x xs ⊎ List·Memᴰ x ys → x < 65_536
-    go (inl k) = f x k
-    go (inr k) = g x k
-
-fit-next : (x : ℕ) (xs : List ℕ) → x < 65_536 → FitFields xs → FitFields (x ∷ xs)
-fit-next x xs l f y (List·Memᴰ·head e) = subst (λ (z : ℕ). z < 65_536) (sym e) l
-fit-next x xs l f y (List·Memᴰ·tail m) = f y m
 
 module _ (b : List ℕ) (small : AreBytes b) where
   module _ (whole : oldWhole b ≡ true) (counts : oldCountsInRange (oldCaseOf b) ≡ true) where

@@ -1,7 +1,7 @@
 -- What "not included" shows reads back: the section and the list stand where a reader takes them, all their numbers fit a field
 -- (a label is a field of the case, whose bytes are below 256), so decoding gives the document and the result; these pass questions
 -- 10 and 11, and as a counter-example they answer the calls. Assumes nothing.
-use Prim.Native.Nat.{ℕ, zero, suc, _+_, _-_, _*_, _%_, _≤_, _<_}
+use Prim.Native.Nat.{ℕ, suc, _+_, _-_, _*_, _%_, _≤_, _<_}
 use mathlib.Core.Path.{_≡_, refl, sym, ap, ap₂, _∙_, subst}
 use mathlib.Core.Bool.{Bool, true, false}
 use mathlib.Core.Logic.{_⊎_, inl, inr}
@@ -26,7 +26,7 @@ use Rattle.model.specs.Calls.{TestAnswer, yesAnswer, noAnswer, fitsCall,
 use Rattle.model.specs.Facts.{PatternFacts, MemberFacts, CaseFacts}
 use Rattle.model.specs.Demands.{ReadsBack}
 use Rattle.model.proofs.ListLaws.{mem-at, true-or-false, and-intro, below-all, all-intro, length-map-upFrom, getD-map-upFrom}
-use Rattle.model.proofs.TreeLaws.{length-asDocument}
+use Rattle.model.proofs.TreeLaws.{rooted-inside, length-asDocument}
 use Rattle.model.proofs.Fitting.{rooted-rule, fits-exact}
 use Rattle.model.proofs.ReturnNodes.{length-returnNodes, return-inside}
 use Rattle.model.proofs.Results.{result-exact}
@@ -70,8 +70,7 @@ fields-fit W n h f (List·Memᴰ·tail m) = records-fit W h f m
 
 -- a tree's parents are its nodes
 pub parent-inside : (W : Document) → IsTree W → (i : ℕ) → i < length W → parentOf W i < length W
-parent-inside W t zero h = subst (λ (x : ℕ). x < length W) (sym (t .root)) (t .inhabited)
-parent-inside W t (suc i) h = let k = t .earlier (suc i) (omega arith) h in omega arith
+parent-inside W t = rooted-inside t
 
 -- ---- a canonical document
 

@@ -60,6 +60,11 @@ child-and-test x y c e = and-intro (child-test c) (eq-eqb x y e)
 pub rooted-lt : {n : ℕ} {parent : ℕ → ℕ} {a b : ℕ} → Rooted n parent → 0 < b → b < n → parent b ≡ a → a < b
 rooted-lt {b = b} t p h e = subst (λ (x : ℕ). x < b) e (t .earlier b p h)
 
+-- and its nodes' parents are its nodes
+pub rooted-inside : {n : ℕ} {parent : ℕ → ℕ} → Rooted n parent → (i : ℕ) → i < n → parent i < n
+rooted-inside {n} t zero h = subst (λ (x : ℕ). x < n) (sym (t .root)) (t .inhabited)
+rooted-inside t (suc i) h = let k = t .earlier (suc i) (omega arith) h in omega arith
+
 pub child-lt : {W : Document} {a b : ℕ} → IsTree W → Child W a b → a < b
 child-lt t c = rooted-lt t (c .notRoot) (c .inside) (c .isParent)
 
