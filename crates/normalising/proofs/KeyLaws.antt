@@ -44,7 +44,7 @@ ltb-agree a b x y f g =
     (true-or-false (ltb a b))
 
 -- equal or not
-same-or-other : {C : Type 0} (a b : ℕ) → (a ≡ b → C) → ((a ≡ b → ⊥) → C) → C
+pub same-or-other : {C : Type 0} (a b : ℕ) → (a ≡ b → C) → ((a ≡ b → ⊥) → C) → C
 same-or-other {C} a b f g = ⊎-elim (λ (t : eqb a b ≡ true). f (eqb-true a b t)) (λ (t : eqb a b ≡ false). g (eqb-false a b t)) (true-or-false (eqb a b))
 
 -- one number after another decides

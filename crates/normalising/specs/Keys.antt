@@ -36,3 +36,8 @@ pub record Joins (rows after : List ℕ) (k n p m : ℕ) : Type 0 where
   pub size : length after ≡ 4096
   pub row : entriesOf (rowOf after p (m + n)) ≡ joined (entriesOf (rowOf rows k n)) (entriesOf (rowOf rows p m))
   pub others : (i j : ℕ) → (i ≡ p → ⊥) → j ≤ 64 → rowOf after i j ≡ rowOf rows i j
+
+-- few keys, each at a small depth
+pub record Shallow (ks : List ℕ) : Type 0 where
+  pub few : length ks ≤ 64
+  pub depths : (i : ℕ) → i < length ks → entryOf (getD ks i 0) .depth < 64

@@ -3,3 +3,5 @@
 
 mod keys;
 mod rows;
+mod gather;
+mod write;

@@ -1,63 +1,15 @@
+-- `normalising::keys::node_key` meets its contract: the key holds the fields of the node's record. Assumes nothing.
 use borrow.Author.Needs.{needs}
+use Rattle.normalising.proofs.TableLaws.{node-narrow, node-wide}
 use Rattle.normalising.proofs.keys.node_key.Statement.{statement}
 use Rattle.normalising.proofs.keys.node_key.Tie as tie
-use Rattle.normalising.proofs.keys.node_key.Reads as reads
-use Rattle.normalising.proofs.keys.node_key.Lts as lts
-use Rattle.format.proofs.field.wide64.Reads as wide64-reads
-use Rattle.format.proofs.records.record_field.Reads as record-field-reads
-use Rattle.normalising.proofs.keys.key.Reads as key-reads
 
--- src/keys.rt:43:24
-record-field-requires : tie.Need-record-field-requires
-record-field-requires c κs = search needs
-
--- src/keys.rt:43:9
-wide64-requires : tie.Need-wide64-requires
-wide64-requires c κs = search needs
-
--- src/keys.rt:44:23
-record-field-requires-2 : tie.Need-record-field-requires-2
-record-field-requires-2 c κs = search needs
-
--- src/keys.rt:44:9
-wide64-requires-2 : tie.Need-wide64-requires-2
-wide64-requires-2 c κs = search needs
-
--- src/keys.rt:46:9
-key-requires : tie.Need-key-requires
-key-requires c κs = search needs
-
--- src/keys.rt:46:9
 returns : tie.Need-returns
-returns c = search needs
+returns c = let s = c .before .before .before .before .before .before .before in node-narrow _ _ _ _ (s .pre .2) (c .before .before .before .before .wide64 .ensures) (c .before .before .before .before .before .record-field .ensures .0) (c .before .before .wide642 .ensures) (c .before .before .before .record-field2 .ensures .0) (c .before .if1 .taken) (c .key .ensures)
 
--- src/keys.rt:48:27
-record-field-requires-3 : tie.Need-record-field-requires-3
-record-field-requires-3 c κs = search needs
-
--- src/keys.rt:48:9
-wide64-requires-3 : tie.Need-wide64-requires-3
-wide64-requires-3 c κs = search needs
-
--- src/keys.rt:49:5
-key-requires-2 : tie.Need-key-requires-2
-key-requires-2 c κs = search needs
-
--- src/keys.rt:39:1
 returns-2 : tie.Need-returns-2
-returns-2 c = search needs
+returns-2 c = let s = c .before .before .before .before .before .before .before .before .before in node-wide _ _ _ _ (s .pre .2) (c .before .before .before .before .before .before .wide64 .ensures) (c .before .before .before .before .before .before .before .record-field .ensures .0) (c .before .before .before .before .wide642 .ensures) (c .before .before .before .before .before .record-field2 .ensures .0) (c .before .before .before .if1 .left) (c .before .wide643 .ensures) (c .before .before .record-field3 .ensures .0) (c .key2 .ensures)
 
 pub node-key-spec : {M : Type 1} → statement M
 node-key-spec =
-    tie.close
-    (tie.spec
-    record-field-requires
-    wide64-requires
-    record-field-requires-2
-    wide64-requires-2
-    key-requires
-    returns
-    record-field-requires-3
-    wide64-requires-3
-    key-requires-2
-    returns-2)
+    tie.close (tie.spec (λ c κs. search needs) (λ c κs. search needs) (λ c κs. search needs) (λ c κs. search needs) (λ c κs. search needs) returns (λ c κs. search needs) (λ c κs. search needs) (λ c κs. search needs) returns-2)
