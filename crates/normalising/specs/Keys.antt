@@ -1,0 +1,43 @@
+-- What is written of a node as one number, its key; and rows of keys, 64 to a row.
+use Prim.Native.Nat.{ℕ, _*_, _+_, _/_, _%_, _≤_, _<_}
+use mathlib.Core.Path.{_≡_}
+use mathlib.Core.List.{List, map}
+use lib.ListN.{length, getD, take, drop}
+use Rattle.model.specs.Normal.{Entry}
+use Rattle.model.specs.Gathering.{joined}
+
+-- the entry that a key holds, 16 bits each but for the depth, which stands highest
+unfoldable pub entryOf : ℕ → Entry
+entryOf k =
+    record {
+      depth = k / 281_474_976_710_656;
+      label = k / 4_294_967_296 % 65_536;
+      edge = k / 65_536 % 65_536;
+      position = k % 65_536;
+    }
+
+abbrev pub entriesOf : List ℕ → List Entry
+entriesOf ks = map entryOf ks
+
+-- the first n keys of row i
+abbrev pub rowOf : List ℕ → ℕ → ℕ → List ℕ
+rowOf rows i n = take n (drop (64 * i) rows)
+
+-- a row k of n keys can go into row p of m
+pub record Joinable (rows : List ℕ) (k n p m : ℕ) : Type 0 where
+  pub size : length rows ≡ 4096
+  pub below : p < k
+  pub inside : k < 64
+  pub some : 0 < n
+  pub room : m + n ≤ 64
+
+-- and has gone into it; the others stay
+pub record Joins (rows after : List ℕ) (k n p m : ℕ) : Type 0 where
+  pub size : length after ≡ 4096
+  pub row : entriesOf (rowOf after p (m + n)) ≡ joined (entriesOf (rowOf rows k n)) (entriesOf (rowOf rows p m))
+  pub others : (i j : ℕ) → (i ≡ p → ⊥) → j ≤ 64 → rowOf after i j ≡ rowOf rows i j
+
+-- few keys, each at a small depth
+pub record Shallow (ks : List ℕ) : Type 0 where
+  pub few : length ks ≤ 64
+  pub depths : (i : ℕ) → i < length ks → entryOf (getD ks i 0) .depth < 64

@@ -1,0 +1,55 @@
+-- A section of records of three or four fields read as a selection: an outline's have no position.
+use Prim.Native.Nat.{ℕ, _+_, _*_, _≤_, _<_}
+use mathlib.Core.Bool.{true, false}
+use mathlib.Core.Path.{_≡_}
+use mathlib.Core.List.{List}
+use lib.Dec.{ltb}
+use lib.ListN.{length, take, getD}
+use Rattle.model.specs.Limits.{maxSummary, summaryWidth, patternWidth}
+use Rattle.model.specs.Pattern.{PatternRecord, Pattern, IsPatternTree}
+use Rattle.model.specs.Bytes.{field, section, patternFields, WholeSection}
+use Rattle.model.specs.Normal.{Entry, entryAt}
+use Rattle.normalising.specs.Keys.{entryOf}
+
+-- the record of that width that begins at field `at`
+unfoldable pub readAt : ℕ → List ℕ → ℕ → PatternRecord
+readAt width b at =
+    record {
+      parent = field b at;
+      label = field b (at + 1);
+      edge = field b (at + 2);
+      position = elim (ltb summaryWidth width) [ true ↦ field b (at + 3) | false ↦ 0 ];
+    }
+
+-- the table whose count is field `at`
+abbrev pub tableAt : ℕ → List ℕ → ℕ → Pattern
+tableAt width b at = section (readAt width) width b at
+
+-- a record's fields, as many as the width
+abbrev pub fieldsOf : ℕ → PatternRecord → List ℕ
+fieldsOf width r = take width (patternFields r)
+
+-- an entry with a parent
+abbrev pub recordWith : ℕ → Entry → PatternRecord
+recordWith p e = record { parent = p; label = e .label; edge = e .edge; position = e .position }
+
+-- records have three fields or four
+pub record Width (width : ℕ) : Type 0 where
+  pub least : summaryWidth ≤ width
+  pub most : width ≤ patternWidth
+
+-- the section is whole and its table a tree of few enough nodes
+pub record TableGiven (width : ℕ) (b : List ℕ) (at : ℕ) : Type 0 where
+  pub fields : Width width
+  pub whole : WholeSection width b at
+  pub tree : IsPatternTree (tableAt width b at)
+  pub few : length (tableAt width b at) ≤ maxSummary
+
+-- the first key of each row is its node's
+pub record Loaded (P : Pattern) (rows : List ℕ) (n : ℕ) : Type 0 where
+  pub size : length rows ≡ 4096
+  pub keys : (i : ℕ) → i < n → entryOf (getD rows (64 * i) 0) ≡ entryAt P i
+
+-- what is written of a record's node at that depth
+abbrev pub entryWith : ℕ → PatternRecord → Entry
+entryWith d r = record { depth = d; label = r .label; edge = r .edge; position = r .position }
