@@ -4,7 +4,7 @@ use Prim.Native.Nat.{ℕ, zero, suc, _<_}
 use mathlib.Core.Path.{_≡_, refl, sym, _∙_, subst}
 use mathlib.Core.Bool.{Bool, true, false}
 use mathlib.Core.Logic.{_⊎_, inl, inr, _↔_}
-use mathlib.Core.List.{List, [], _∷_, _++_, flatMap, List·Memᴰ, List·Memᴰ·head, List·Memᴰ·tail, List·Memᴰ·not-nil, List·Memᴰ·cases-cons, List·Memᴰ·append-cases}
+use mathlib.Core.List.{List, [], _∷_, _++_, map, flatMap, Memᴰ·of-map, List·Memᴰ, List·Memᴰ·head, List·Memᴰ·tail, List·Memᴰ·not-nil, List·Memᴰ·cases-cons, List·Memᴰ·append-cases}
 use Rattle.model.specs.Lists.{upFrom, keep, Ascending}
 use Rattle.model.proofs.ListLaws.{upFrom-mem, keep-elim, flat-elim}
 
@@ -68,3 +68,11 @@ ascending-flat {A} {B} R Q f (x ∷ xs) a each across =
   where
     after : (b c : B) → List·Memᴰ b (f x) → (y : A) × List·Memᴰ y xs × List·Memᴰ c (f y) → Q b c
     after b c m r = across x (r .0) b c (a .0 (r .0) (r .1)) m (r .2)
+
+-- images of what ascends
+pub ascending-map : {A B : Type 0} (R : A → A → Type 0) (Q : B → B → Type 0) (f : A → B) (xs : List A) → ((x y : A) → List·Memᴰ x xs → List·Memᴰ y xs → R x y → Q (f x) (f y)) → Ascending R xs → Ascending Q (map f xs)
+ascending-map R Q f [] h a = tt
+ascending-map {A} {B} R Q f (x ∷ xs) h a = (
+  λ y m. (let w = Memᴰ·of-map f xs m in subst (Q (f x)) (w .2) (h x (w .0) (List·Memᴰ·head refl) (List·Memᴰ·tail (w .1)) (a .0 (w .0) (w .1)))),
+  ascending-map R Q f xs (λ u v m n r. h u v (List·Memᴰ·tail m) (List·Memᴰ·tail n) r) (a .1),
+)

@@ -198,6 +198,10 @@ pub case-accepted : (b : List ℕ) → AllYes (caseQuestions b) → AcceptedCase
 unfolding caseQuestions caseWhole
 case-accepted b y = record { whole = whole-case b .0 (y .0); facts = all-yes-case b y }
 
+-- the case questions by themselves
+pub case-all-yes : (b : List ℕ) → refusal (caseQuestions b) ≡ 0 → AllYes (caseQuestions b)
+case-all-yes b e = accepted-all-yes (caseQuestions b) (numbered-case b) e
+
 -- the case questions between others: all are answered yes
 pub all-asked : (b : List ℕ) (before after : List Question) → Numbered before → Numbered after → refusal (before ++ (caseQuestions b ++ after)) ≡ 0
     → AllYes before × AllYes (caseQuestions b) × AllYes after

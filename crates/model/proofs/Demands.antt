@@ -27,8 +27,11 @@ use Rattle.model.specs.Calls.{kindIncluded, kindNotIncluded, kindStopped
 use Rattle.model.specs.Striking.{childless, mayGo, verdictWithout, Struck, strikeAll, MinimiseOutcome, minimiseAccepted, minimiseCall, talliedMinimise}
 use Rattle.model.specs.Runs.{Call, ofOne, ofOther, given, after, receipts, talliesAfter, callsOf, receivedBy}
 use Rattle.model.specs.Facts.{SummaryFacts, PatternFacts, MemberFacts, CaseFacts}
-use Rattle.model.specs.Moving.{upgradeRefusal, downgradeRefusal, upgraded, downgraded, movedCall, upgradeCall, downgradeCall}
-use Rattle.model.specs.Demands.{TestTold, FitsTold, ResultTold, NodesTold, PathsTold, LayoutTold, SomeCounterExample, AllEmbeddingsPass, SomeEmbeddingFails, Shown, ReadsBack, Demand3, FitsAnswered, ResultAnswered, NodesAnswered, PathsAnswered, LayoutAnswered, ChargedAnswered, VerdictAnswered, TalliedAnswered, MayGo, Shortened, StruckTold, MinimiseAnswered, TalliedMinimised, Separated, Summed, MoveAnswered, UpgradeAnswered, DowngradeAnswered}
+use Rattle.model.specs.Moving.{upgradeRefusal, downgradeRefusal, upgraded, downgraded, movedAccepted, movedCall, upgradeCall, downgradeCall}
+use Rattle.model.specs.Normal.{normaliseRefusal, normalised, normaliseCall}
+use Rattle.model.specs.Demands.{TestTold, FitsTold, ResultTold, NodesTold, PathsTold, LayoutTold, SomeCounterExample, AllEmbeddingsPass, SomeEmbeddingFails, Shown, ReadsBack, Demand3, FitsAnswered, ResultAnswered, NodesAnswered, PathsAnswered, LayoutAnswered, ChargedAnswered, VerdictAnswered, TalliedAnswered, MayGo, Shortened, StruckTold, MinimiseAnswered, TalliedMinimised, Separated, Summed, MoveAnswered, UpgradeAnswered, DowngradeAnswered, Normalised, NormaliseAnswered}
+use Rattle.model.proofs.Normal.{accepted-normalise, normalise-accepted, normal-bytes, alike-exact, normal-twice, case-small}
+use Rattle.model.proofs.RenumberedVerdict.{same-kind}
 use Rattle.model.proofs.ListLaws.{and-intro, below-all, length-map-upFrom, getD-map-upFrom}
 use Rattle.model.proofs.ReturnNodes.{length-returnNodes}
 use Rattle.model.proofs.Results.{result-exact, nodes-at-exact, nodes-at-ascending, path-mask-exact, path-mask-beyond, path-count-ones}
@@ -37,14 +40,14 @@ use Rattle.model.proofs.Decision.{placed as placed-listed, listed-fits,
 use Rattle.model.proofs.Verdict.{Included, IsIncluded, IsNotIncluded, IsStopped, judge-included, judge-not-included, judge-stopped, few-included, few-not-included, more-stopped, more-never-included, not-included-iff, stopped-iff, included-or-not, not-or-stopped, verdict-judge, verdict-tried, verdict-shown}
 use Rattle.model.proofs.Refusals.{AllYes}
 use Rattle.model.proofs.CallFacts.{accepted-verdict, accepted-minimise, accepted-fits, accepted-result, accepted-nodes, accepted-paths, accepted-layout}
-use Rattle.model.proofs.CaseFacts.{selected-facts, labels-some}
+use Rattle.model.proofs.CaseFacts.{selected-facts, labels-some, case-all-yes}
 use Rattle.model.proofs.Calls.{verdict-refused, verdict-accepted, minimise-refused, minimise-accepted, fits-refused, fits-accepted, result-refused, result-accepted, nodes-refused, nodes-accepted, paths-refused, paths-accepted, layout-refused, layout-accepted, length-counted, verdict-length}
 use Rattle.model.proofs.Bytes.{FitFields, front-none, length-document}
 use Rattle.model.proofs.Runs.{VerdictRun, verdict-joins, MinimiseRun, minimise-joins, separated, summed}
 use Rattle.model.proofs.Removing.{not-root, no-position, no-children}
 use Rattle.model.proofs.StruckBack.{struck-back}
 use Rattle.model.proofs.Striking.{LoopFacts, all-facts, struck-shortened, few-verdicts, each-limited}
-use Rattle.model.proofs.Moving.{moved-refused, upgrade-moved, downgrade-moved}
+use Rattle.model.proofs.Moving.{moved-accepted, moved-refused, upgrade-moved, downgrade-moved}
 use Rattle.model.proofs.ReadBack.{label-small, canonical-labels, canonical-fields, reads-back}
 
 -- ---- Demand 2: fits, results, nodes at a position and paths are told exactly by the definitions
@@ -489,6 +492,35 @@ upgrade-answered b small before e = move-answered (upgradeRefusal b (length befo
 
 pub downgrade-answered : (b : List ℕ) → AreBytes b → (before : List ℕ) {o : CountOutcome} → o ≡ downgradeCall b before → DowngradeAnswered b before o
 downgrade-answered b small before e = move-answered (downgradeRefusal b (length before)) (downgraded b) before (downgrade-moved b small before) e
+
+-- ---- One way of writing a case
+
+-- an accepted call keeps what document 02 asks of it
+pub normalise-demand : (b : List ℕ) → AreBytes b → (before : List ℕ) → normaliseRefusal b (length before) ≡ 0 → Normalised b before (normaliseCall b before)
+unfolding movedAccepted normalised
+normalise-demand b small before e =
+    let f = accepted-normalise b (length before) e in
+    let n = normal-bytes b small (f .asked) in
+    let w : List ℕ = normalised b in
+    let q : normaliseCall b before ≡ movedAccepted w before = moved-accepted (normaliseRefusal b (length before)) w before e in
+    let few : length b ≤ minBuffer = case-small b small (f .asked) in
+    let room = f .buffer in
+    record {
+      accepted = ap (λ (o : CountOutcome). o .answer .refused) q;
+      count = ap (λ (o : CountOutcome). o .answer .count) q ∙ n .size;
+      size = n .size;
+      whole = omega arith;
+      buffer = ap (λ (o : CountOutcome). o .buffer) q;
+      again = n .accepted;
+      renumbered = n .renumbered;
+      alike = λ a s k. alike-exact a b s small (case-all-yes a k) (f .asked);
+      twice = λ lent h. moved-accepted (normaliseRefusal w (length lent)) (normalised w) lent (normalise-accepted w (length lent) (n .again) h) ∙ ap (λ (x : List ℕ). movedAccepted x lent) (normal-twice b small (f .asked));
+      sameKind = λ L caller tally buffer k l.
+          same-kind b w L caller tally buffer (n .again) (n .renumbered) k l (demand-3 b small L caller tally buffer k) (λ x. demand-3 w (n .bytes) L caller tally buffer x);
+    }
+
+pub normalise-answered : (b : List ℕ) → AreBytes b → (before : List ℕ) {o : CountOutcome} → o ≡ normaliseCall b before → NormaliseAnswered b before o
+normalise-answered b small before e = move-answered (normaliseRefusal b (length before)) (normalised b) before (normalise-demand b small before) e
 
 -- ---- What is lent keeps its length: what a call writes fits
 

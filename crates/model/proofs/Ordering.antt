@@ -215,6 +215,21 @@ count-placed {A} test by x (l ∷ ls) = go (by x l) (count-placed test by x ls)
         let b : countOf test (l ++ flatten ls) ≡ countOf test l + countOf test (flatten ls) = count-append test l (flatten ls) in
         omega arith
 
+-- two ways of comparing that agree on each element and every later one
+module _ {A : Type 0} (by like : A → A → Bool) where
+  placed-agree : (x : A) (ys : List A) → ((y : A) → List·Memᴰ y ys → by x y ≡ like x y) → placed by x ys ≡ placed like x ys
+  unfolding placed
+  placed-agree x [] h = refl
+  placed-agree x (y ∷ ys) h =
+      ap (λ (b : Bool). elim b as (λ _. List A) [ true ↦ x ∷ y ∷ ys | false ↦ y ∷ placed by x ys ]) (h y (List·Memᴰ·head refl))
+      ∙ ap (λ (l : List A). elim (like x y) as (λ _. List A) [ true ↦ x ∷ y ∷ ys | false ↦ y ∷ l ]) (placed-agree x ys (λ z m. h z (List·Memᴰ·tail m)))
+
+  pub ordered-agree : (xs : List A) → Ascending (λ x y. by x y ≡ like x y) xs → ordered by xs ≡ ordered like xs
+  unfolding ordered
+  ordered-agree [] a = refl
+  ordered-agree (x ∷ xs) a =
+      placed-agree x (ordered by xs) (λ y m. a .0 y (ordered-elim by y xs m)) ∙ ap (placed like x) (ordered-agree xs (a .1))
+
 -- keys in place of elements
 module _ {A B : Type 0} (key : A → B) (by : B → B → Bool) where
   pub placed-map : (x : A) (ys : List A) → map key (placed (λ a b. by (key a) (key b)) x ys) ≡ placed by (key x) (map key ys)

@@ -12,7 +12,7 @@ use Rattle.model.specs.Tree.{Rooted, DocumentRecord, IsTree}
 use Rattle.model.specs.Summary.{Summary, SummaryRecord, noSummaryRecord, withoutStrong, asDocument, summaryParent, summaryLabel}
 use Rattle.model.specs.Pattern.{Pattern, PatternRecord, noPatternRecord}
 use Rattle.model.specs.Renumbering.{Renumbering, patternOthers, SummaryRenumbering, PatternRenumbering}
-use Rattle.model.specs.Normal.{asPattern}
+use Rattle.model.specs.Normal.{readAs, asPattern}
 use Rattle.model.proofs.TreeLaws.{length-asDocument, rooted-inside}
 use Rattle.model.proofs.Counting.{pigeonhole}
 use Rattle.model.proofs.Distinct.{passing, count-passing, passing-distinct, passing-elim, passing-intro, no-longer}
@@ -174,9 +174,6 @@ module _ {P Q : Pattern} (r : PatternRenumbering P Q) where
   pattern-position i h = field-of 2 (r .fields i h)
 
 -- ---- an outline read as a selection
-
-abbrev pub readAs : SummaryRecord → PatternRecord
-readAs r = record { parent = r .parent; label = r .label; edge = r .strong; position = 0 }
 
 module _ (S : Summary) where
   pub length-asPattern : length (asPattern S) ≡ length S

@@ -115,11 +115,17 @@ unfoldable pub normalPattern : Pattern → Pattern
 normalPattern P = tableOf (listed bySubtree P)
 
 -- an outline read as a selection: strong stands in the edge's place, and there are no positions; and back
+abbrev pub readAs : SummaryRecord → PatternRecord
+readAs r = record { parent = r .parent; label = r .label; edge = r .strong; position = 0 }
+
+abbrev pub readBack : PatternRecord → SummaryRecord
+readBack r = record { parent = r .parent; label = r .label; strong = r .edge }
+
 abbrev pub asPattern : Summary → Pattern
-asPattern S = map (λ (r : SummaryRecord). record { parent = r .parent; label = r .label; edge = r .strong; position = 0 }) S
+asPattern S = map readAs S
 
 abbrev pub asSummary : Pattern → Summary
-asSummary P = map (λ (r : PatternRecord). record { parent = r .parent; label = r .label; strong = r .edge }) P
+asSummary P = map readBack P
 
 -- an outline as it is written
 unfoldable pub normalSummary : Summary → Summary

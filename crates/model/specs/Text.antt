@@ -19,6 +19,7 @@ use Rattle.model.specs.Questions.{verdictRefusal, minimiseRefusal}
 use Rattle.model.specs.Calls.{tallyOf}
 use Rattle.model.specs.Striking.{Struck, strikeAll}
 use Rattle.model.specs.Moving.{upgradeRefusal, downgradeRefusal, upgraded, downgraded}
+use Rattle.model.specs.Normal.{normaliseRefusal, normalised}
 
 -- the characters' codes
 abbrev pub ascii : String → List ℕ
@@ -130,18 +131,21 @@ orderPrinted b =
       | false ↦ refusedText (orderRefusal b)
     ]
 
--- what a program that moves a case writes, and where: the moved case's bytes to standard output, 1, and nothing else; or a refusal's line to
+-- what a program that writes a case writes, and where: the written case's bytes to standard output, 1, and nothing else; or a refusal's line to
 -- standard error, 2, and nothing else
 pub record Told : Type 0 where
   pub stream : ℕ
   pub bytes : List ℕ
 
 unfoldable pub told : ℕ → List ℕ → Told
-told refused moved = elim (eqb refused 0) [ true ↦ record { stream = 1; bytes = moved } | false ↦ record { stream = 2; bytes = refusedText refused } ]
+told refused written = elim (eqb refused 0) [ true ↦ record { stream = 1; bytes = written } | false ↦ record { stream = 2; bytes = refusedText refused } ]
 
--- for a case from standard input: old to new, and new to old
+-- for a case from standard input: old to new, new to old, and in its one way of writing
 unfoldable pub upgradeTold : List ℕ → Told
 upgradeTold b = told (upgradeRefusal b minBuffer) (upgraded b)
 
 unfoldable pub downgradeTold : List ℕ → Told
 downgradeTold b = told (downgradeRefusal b minBuffer) (downgraded b)
+
+unfoldable pub normaliseTold : List ℕ → Told
+normaliseTold b = told (normaliseRefusal b minBuffer) (normalised b)
