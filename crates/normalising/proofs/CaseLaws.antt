@@ -1,6 +1,7 @@
 -- The sections of a case one after another: the set's members in their order, and the whole case. Assumes nothing.
 use Prim.Native.Nat.{ℕ, suc, _+_, _*_, _≤_, _<_}
 use mathlib.Core.Path.{_≡_, refl, sym, ap, ap₂, _∙_, subst}
+use mathlib.Core.Bool.{true}
 use mathlib.Core.List.{List, [], _∷_, _++_, map, flatMap, append-nil, append-assoc}
 use native.Mathlib.Omega.{arith}
 use native.Mathlib.Numerals.{add-one}
@@ -8,7 +9,7 @@ use lib.ListN.{length, getD, take, drop, length-map, length-append}
 use lib.Seq.{sets, sets-eq, length-sets, take-suc, take-all, length-take-le}
 use Rattle.model.specs.Limits.{summaryWidth, patternWidth}
 use Rattle.model.specs.Pattern.{Pattern}
-use Rattle.model.specs.Bytes.{Case, field, fieldBytes, bytesOf, patternFields, sectionFields, setFields, sectionEnd, firstAt, setAt, memberAt, setOf, caseOf, caseFields, encodeCase, writtenAtFront, WholeSection, AreBytes}
+use Rattle.model.specs.Bytes.{Case, field, fieldBytes, bytesOf, patternFields, sectionFields, setFields, sectionEnd, firstAt, setAt, memberAt, setOf, caseOf, caseFields, encodeCase, writtenAtFront, isWholeCase, AreBytes}
 use Rattle.model.specs.Facts.{AcceptedCase}
 use Rattle.model.specs.Normal.{normalPattern, normalSummary, normalCase, normalised}
 use Rattle.model.proofs.ListLaws.{getD-map}
@@ -101,14 +102,32 @@ module _ {b : List ℕ} {on : ℕ} where
 
 -- ---- the case
 
+-- stores keep a length
+pub stored-twice : (out : List ℕ) (i : ℕ) (vs : List ℕ) (j : ℕ) (ws : List ℕ) {o₁ o₂ : List ℕ} → o₁ ≡ sets out i vs → o₂ ≡ sets o₁ j ws → length o₂ ≡ length out
+stored-twice out i vs j ws {o₁} {o₂} p q = ap length q ∙ length-sets o₁ j ws ∙ ap length p ∙ length-sets out i vs
+
 module _ {b : List ℕ} (a : AcceptedCase b) where
-  -- every section stands inside
-  pub sections-inside : (2 * sectionEnd summaryWidth b 0 ≤ length b) × (2 * sectionEnd patternWidth b (firstAt b) ≤ length b)
-  sections-inside = (a .whole .summary .records, a .whole .first .records)
+  -- the case has some bytes, and every section stands inside and has room in an out as long
+  pub case-some : 1 < length b
+  case-some = omega (arith, a .whole .summary .count)
+
+  pub case-whole : isWholeCase b ≡ true
+  case-whole = whole-case b .1 (a .whole)
+
+  pub summary-fits : (out : List ℕ) → length b ≤ length out → 2 * sectionEnd summaryWidth b 0 ≤ length out
+  summary-fits out room = omega (arith, a .whole .summary .records)
+
+  pub first-fits : {first : ℕ} → first ≡ firstAt b → (out : List ℕ) (at : ℕ) (vs : List ℕ) {o : List ℕ} → length b ≤ length out → o ≡ sets out at vs → TableGiven patternWidth b first × (2 * sectionEnd patternWidth b first ≤ length o)
+  first-fits {first} e out at vs {o} room p =
+      let g : TableGiven patternWidth b first = subst (TableGiven patternWidth b) (sym e) (pattern-given b (firstAt b) (given-first a)) in
+      (g, omega (arith, g .whole .records, ap length p ∙ length-sets out at vs))
+
+  pub set-given : {set : ℕ} → set ≡ setAt b → SetGiven b set
+  set-given e = subst (SetGiven b) (sym e) (given-set a)
 
   pub normal-size : AreBytes b → length (normalised b) ≡ length b
   unfolding normalised
-  normal-size small = sym (renumbered-size (case-renumbers (caseOf b) (a .facts))) ∙ ap length (encode-case b small (whole-case b .1 (a .whole)))
+  normal-size small = sym (renumbered-size (case-renumbers (caseOf b) (a .facts))) ∙ ap length (encode-case b small case-whole)
 
   pub case-written : AreBytes b → (out : List ℕ) → length b ≤ length out → {first set : ℕ} → first ≡ firstAt b → set ≡ setAt b → {o₁ o₂ o₃ : List ℕ}
       → o₁ ≡ sets out 0 (bytesOf (normalFields summaryWidth b 0)) → o₂ ≡ sets o₁ (2 * first) (bytesOf (normalFields patternWidth b first)) → o₃ ≡ sets o₂ (2 * set) (bytesOf (setFields (written b set)))
