@@ -1,0 +1,22 @@
+-- `normalising::trees::write_tree` meets its contract: row 0 is the list, whose records follow the count. Assumes nothing.
+use borrow.Author.Needs.{needs}
+use denote.Ref.{now}
+use Rattle.normalising.proofs.SectionLaws.{keys-inside, keys-count, keys-shallow, records-fit, section-written}
+use Rattle.normalising.proofs.trees.write_tree.Statement.{statement}
+use Rattle.normalising.proofs.trees.write_tree.Tie as tie
+
+slice-reshare-prefix-write-records : tie.Need-slice-reshare-prefix-write-records
+slice-reshare-prefix-write-records c = keys-inside (c .before .before .before .before .before .before .before .before .before .before .before .before .before .before .before .before .pre .0) (c .before .before .before .before .field .ensures .0) (c .before .before .before .before .before .before .before .gather .ensures)
+
+slice-aggregate-write-records : tie.Need-slice-aggregate-write-records
+slice-aggregate-write-records c = keys-count (c .before .before .before .before .before .before .before .before .before .before .before .before .before .before .before .before .before .pre .0) (c .before .before .before .before .before .field .ensures .0) (c .before .before .before .before .before .before .before .before .gather .ensures)
+
+write-records-requires : tie.Need-write-records-requires
+write-records-requires c κs = let s = c .before .before .before .before .before .before .before .before .before .before .before .before .before .before .before .before .before .before in (keys-shallow (c .before .before .before .before .before .before .before .before .before .before .before .before .before .before .before .before .before .before .pre .0) (c .before .before .before .before .before .before .field .ensures .0) (c .before .before .before .before .before .before .before .before .before .gather .ensures), s .pre .0 .fields, records-fit (c .before .before .before .before .before .before .before .before .before .before .before .before .before .before .before .before .before .before .pre .0) (c .before .before .before .before .before .before .field .ensures .0) (c .before .before .before .before .before .before .before .before .before .gather .ensures) (now (s .args .out)) (c .before .before .before .before .put-field .ensures) (s .pre .2))
+
+returns : tie.Need-returns
+returns c = let s = c .before .before .before .before .before .before .before .before .before .before .before .before .before .before .before .before .before .before .before .before .before in (c .before .before .before .before .before .before .before .before .before .before .before .before .gather .ensures .size, section-written (c .before .before .before .before .before .before .before .before .before .before .before .before .before .before .before .before .before .before .before .before .before .pre .0) (c .before .before .before .before .before .before .before .before .before .field .ensures .0) (c .before .before .before .before .before .before .before .before .before .before .before .before .gather .ensures) (now (s .args .out)) (c .before .before .before .before .before .before .before .put-field .ensures) (c .before .before .write-records .ensures))
+
+pub write-tree-spec : {M : Type 1} → statement M
+write-tree-spec =
+    tie.close (tie.spec (λ c κs. search needs) (λ c κs. search needs) (λ c κs. search needs) (λ c. search needs) (λ c κs. search needs) slice-reshare-prefix-write-records slice-aggregate-write-records (λ c. search needs) write-records-requires (λ c. search needs) (λ c. search needs) returns)
