@@ -54,73 +54,24 @@ pub fn altered_case(prng: &mut Prng, case: &Case) -> Option<Case> {
 /// numbers; letters stand for 2, 3 and so on.
 pub fn fixed() -> Vec<Vector> {
     const NUMBERINGS: usize = 3;
-    let (a, b, c) = (2, 3, 4);
-    let of = |rows: &[SelectionRow]| over_root([&[HEAD], rows].concat());
-    let child = |parent, label| [parent, label, CHILD, 0];
-    let below = |parent, label| [parent, label, DESCENDANT, 0];
+    let (r, a, b, c) = (ROOT, 2, 3, 4);
     let plans = [
         // Depth decides: r(a(b(r)), a(b,c)).
-        of(&[
-            child(0, a),
-            child(1, b),
-            child(2, ROOT),
-            child(0, a),
-            child(4, b),
-            child(4, c),
-        ]),
+        of(&[(0, a), (1, b), (2, r), (0, a), (4, b), (4, c)]),
         // Prefixes: r(a(b(c)), a(b), a).
-        of(&[
-            child(0, a),
-            child(1, b),
-            child(2, c),
-            child(0, a),
-            child(4, b),
-            child(0, a),
-        ]),
+        of(&[(0, a), (1, b), (2, c), (0, a), (4, b), (0, a)]),
         // Ordered within first: r(a(c), a(c,b)).
-        of(&[
-            child(0, a),
-            child(1, c),
-            child(0, a),
-            child(3, c),
-            child(3, b),
-        ]),
-        // Label before edge before position, and labels by number.
-        of(&[
-            child(0, b),
-            below(0, a),
-            [0, a, CHILD, 2],
-            child(0, a),
-            child(0, 0),
-        ]),
-        of(&[
-            child(0, 256),
-            child(0, 255),
-            child(0, u16::MAX),
-            child(0, 0),
-            child(0, 1),
-        ]),
+        of(&[(0, a), (1, c), (0, a), (3, c), (3, b)]),
+        // Labels by number, with any label first.
+        of(&[(0, 256), (0, 255), (0, u16::MAX), (0, 0), (0, 1)]),
+        label_edge_position(),
         // Equal ones, and all but one equal.
-        of(&[
-            child(0, a),
-            child(1, b),
-            child(0, a),
-            child(3, b),
-            child(0, a),
-            child(5, b),
-        ]),
+        of(&[(0, a), (1, b), (0, a), (3, b), (0, a), (5, b)]),
         heap(None),
         heap(Some(15)),
         heap(Some(8)),
         two_chains(),
-        outline_alone(vec![
-            [0, ROOT, 0],
-            [0, b, 1],
-            [0, a, 0],
-            [2, c, 1],
-            [1, b, 1],
-            [1, a, 0],
-        ]),
+        outline_alone(&[[0, b, 1], [0, a, 0], [2, c, 1], [1, b, 1], [1, a, 0]]),
         ordered_set(),
         whole(|t| t.saturating_sub(1)),
         whole(|_| 0),
@@ -152,7 +103,29 @@ fn over_root(first: Vec<SelectionRow>) -> Plan {
     plan(vec![[0, ROOT, 0]], first.clone(), vec![first; 2])
 }
 
-fn outline_alone(outline: Vec<OutlineRow>) -> Plan {
+/// Child edges below the root, each node by its parent and label.
+fn of(nodes: &[(u16, u16)]) -> Plan {
+    let row = |&(parent, label): &(u16, u16)| [parent, label, CHILD, 0];
+    let mut rows = vec![HEAD];
+    rows.extend(nodes.iter().map(row));
+    over_root(rows)
+}
+
+/// The label decides before the edge, and that before the position.
+fn label_edge_position() -> Plan {
+    let mut rows = vec![HEAD];
+    rows.extend([
+        [0, 3, CHILD, 0],
+        [0, 2, DESCENDANT, 0],
+        [0, 2, CHILD, 2],
+        [0, 2, CHILD, 0],
+    ]);
+    over_root(rows)
+}
+
+/// The outline of these nodes below the root.
+fn outline_alone(nodes: &[OutlineRow]) -> Plan {
+    let outline = [&[[0, ROOT, 0]], nodes].concat();
     plan(outline, vec![HEAD], vec![vec![HEAD]])
 }
 
@@ -232,10 +205,8 @@ fn large(prng: &mut Prng) -> Plan {
         trees::hold_positions(prng, &mut rows, k);
         rows
     };
-    let (first, set) = (
-        selection(),
-        (0..SET_SELECTIONS).map(|_| selection()).collect(),
-    );
+    let first = selection();
+    let set = (0..SET_SELECTIONS).map(|_| selection()).collect();
     Plan {
         outline,
         first,
