@@ -56,8 +56,10 @@ pub fn fixed() -> Vec<Vector> {
     const NUMBERINGS: usize = 3;
     let (r, a, b, c) = (ROOT, 2, 3, 4);
     let plans = [
-        // Depth decides: r(a(b(r)), a(b,c)).
+        // Depth decides: r(a(b(r)), a(b,c)); and alone: r(a(b(c)), a(b,c)).
         of(&[(0, a), (1, b), (2, r), (0, a), (4, b), (4, c)]),
+        of(&[(0, a), (1, b), (2, c), (0, a), (4, b), (4, c)]),
+        of(&[(0, a), (1, a), (2, a), (0, a), (4, a), (4, a)]),
         // Prefixes: r(a(b(c)), a(b), a).
         of(&[(0, a), (1, b), (2, c), (0, a), (4, b), (0, a)]),
         // Ordered within first: r(a(c), a(c,b)).
@@ -247,8 +249,9 @@ fn said_again(prng: &mut Prng, size: usize, labels: usize, edges: usize) -> Vec<
     let mut rows: Vec<SelectionRow> = vec![[0, ROOT, CHILD, 0]];
     let reach = [1, 2, SELECTION_NODES][prng.below(3)];
     while rows.len() < size {
-        let twin = prng.below(rows.len());
-        if twin > 0 && prng.percent(50) {
+        // The lower the number, the more there often is below.
+        let twin = prng.below(rows.len()).min(prng.below(rows.len()));
+        if twin > 0 && rows.len() > 3 && prng.percent(40) {
             copy(prng, &mut rows, twin, size);
         } else {
             let parent = rows.len() - 1 - prng.below(reach.min(rows.len()));
@@ -259,8 +262,9 @@ fn said_again(prng: &mut Prng, size: usize, labels: usize, edges: usize) -> Vec<
     rows
 }
 
-/// The subtree of a node again beside it, as far as the size goes, now and then
-/// with another label at its last node.
+/// The subtree of a node again beside it, as far as the size goes, often with its
+/// last node altered: another label or edge, or one step higher, which leaves all
+/// but the depths alike.
 fn copy(prng: &mut Prng, rows: &mut Vec<SelectionRow>, from: usize, size: usize) {
     let mut twins = vec![None; rows.len()];
     let before = rows.len();
@@ -276,10 +280,13 @@ fn copy(prng: &mut Prng, rows: &mut Vec<SelectionRow>, from: usize, size: usize)
             rows.push([parent, label, edge, 0]);
         }
     }
-    if prng.percent(30) {
-        if let Some(last) = rows[before..].last_mut() {
-            last[1] += 1;
-        }
+    let last = rows.len() - 1;
+    let above = usize::from(rows[last][0]);
+    match prng.below(5) {
+        0 => rows[last][1] += 1,
+        1 => rows[last][2] ^= 1,
+        2 | 3 if above > before => rows[last][0] = rows[above][0],
+        _ => {}
     }
 }
 
@@ -306,7 +313,8 @@ fn altered(prng: &mut Prng, plan: &Plan) -> Plan {
     plan.clone()
 }
 
-/// One field changed, two nodes' fields exchanged, or two members.
+/// One field changed, two nodes' fields exchanged, a node one step higher, or two
+/// members exchanged.
 fn stroke(prng: &mut Prng, plan: &mut Plan) {
     let chosen = prng.below(plan.set.len() + 2);
     match chosen {
@@ -334,12 +342,13 @@ fn outline_stroke(prng: &mut Prng, rows: &mut [OutlineRow]) {
 
 fn selection_stroke(prng: &mut Prng, rows: &mut [SelectionRow]) {
     let (q, other) = (low(prng, rows.len()), prng.below(rows.len()));
-    match prng.below(6) {
+    match prng.below(7) {
         0 => rows[q][1] = [0, rows[other][1], rows[q][1] ^ 1][prng.below(3)],
         1 if q > 0 => rows[q][2] ^= 1,
         2 => exchange(rows, q, other, 3),
         3 => exchange(rows, q, other, 1),
         4 => exchange(rows, q, other, 0),
+        5 => rows[q][0] = rows[usize::from(rows[q][0])][0],
         _ if q > 0 => rows[q][0] = prng.below(q) as u16,
         _ => exchange(rows, q, other, 3),
     }
