@@ -144,7 +144,7 @@ module _ (P : Pattern) (t : IsPatternTree P) where
           let o = Memᴰ·of-map (preorder bySubtree (length P) P) (childrenOf P i) (ordered-elim (byWritten bySubtree P) (l .0) blocks (l .1)) in
           rest (o .0) (o .1) (subst (λ (y : List ℕ). List·Memᴰ x y) (sym (o .2)) (l .2))
 
-  node-inside : (k : ℕ) → k < length order → getD order k 0 < length P
+  pub node-inside : (k : ℕ) → k < length order → getD order k 0 < length P
   node-inside k h = inside-within (length P) 0 (getD order k 0) (t .inhabited) (omega arith) (mem-at order k 0 h)
 
   -- the place of a node

@@ -7,8 +7,8 @@ use lib.Dec.{ltb}
 use lib.ListN.{length, take, getD}
 use Rattle.model.specs.Limits.{maxSummary, summaryWidth, patternWidth}
 use Rattle.model.specs.Pattern.{PatternRecord, Pattern, IsPatternTree}
-use Rattle.model.specs.Bytes.{field, section, patternFields, WholeSection}
-use Rattle.model.specs.Normal.{Entry, entryAt}
+use Rattle.model.specs.Bytes.{field, section, patternFields, sectionFields, WholeSection}
+use Rattle.model.specs.Normal.{Entry, entryAt, normalPattern}
 use Rattle.normalising.specs.Keys.{entryOf}
 
 -- the record of that width that begins at field `at`
@@ -28,6 +28,10 @@ tableAt width b at = section (readAt width) width b at
 -- a record's fields, as many as the width
 abbrev pub fieldsOf : ℕ → PatternRecord → List ℕ
 fieldsOf width r = take width (patternFields r)
+
+-- the fields of the section whose count is field `at`, as it is written
+abbrev pub normalFields : ℕ → List ℕ → ℕ → List ℕ
+normalFields width b at = sectionFields (fieldsOf width) (normalPattern (tableAt width b at))
 
 -- an entry with a parent
 abbrev pub recordWith : ℕ → Entry → PatternRecord

@@ -1,81 +1,16 @@
+-- `normalising::write::put_record` meets its contract: three fields, and a fourth where records have one. Assumes nothing.
 use borrow.Author.Needs.{needs}
+use denote.Ref.{now}
+use Rattle.normalising.proofs.RecordLaws.{record-narrow, record-wide}
 use Rattle.normalising.proofs.write.put_record.Statement.{statement}
 use Rattle.normalising.proofs.write.put_record.Tie as tie
-use Rattle.normalising.proofs.write.put_record.Reads as reads
-use Rattle.normalising.proofs.write.put_record.Lts as lts
-use Rattle.format.proofs.write.put_field.Reads as put-field-reads
 
--- src/write.rt:24:5
-put-field-requires : tie.Need-put-field-requires
-put-field-requires c κs = search needs
-
--- src/write.rt:25:20
-add-put-field : tie.Need-add-put-field
-add-put-field c = search needs
-
--- src/write.rt:25:28
-cast-put-field : tie.Need-cast-put-field
-cast-put-field c = search needs
-
--- src/write.rt:25:5
-put-field-requires-2 : tie.Need-put-field-requires-2
-put-field-requires-2 c κs = search needs
-
--- src/write.rt:26:20
-add-put-field-2 : tie.Need-add-put-field-2
-add-put-field-2 c = search needs
-
--- src/write.rt:26:28
-cast-put-field-2 : tie.Need-cast-put-field-2
-cast-put-field-2 c = search needs
-
--- src/write.rt:26:5
-put-field-requires-3 : tie.Need-put-field-requires-3
-put-field-requires-3 c κs = search needs
-
--- src/write.rt:28:9
-same-length : tie.Need-same-length
-same-length c = search needs
-
--- src/write.rt:28:9
 returns : tie.Need-returns
-returns c = search needs
+returns c = let s = c .before .before .before .before .before .before .before .before .before .before .before .before .before .before in record-narrow (now (s .args .out)) (s .args .at) (s .args .parent) (s .args .key) (s .pre .0) (c .before .before .before .before .before .before .before .before .before .before .before .put-field .ensures) (c .before .before .before .before .before .before .before .put-field2 .ensures) (c .before .before .before .put-field3 .ensures) (c .if1 .taken)
 
--- src/write.rt:30:20
-add-put-field-3 : tie.Need-add-put-field-3
-add-put-field-3 c = search needs
-
--- src/write.rt:30:28
-cast-put-field-3 : tie.Need-cast-put-field-3
-cast-put-field-3 c = search needs
-
--- src/write.rt:30:5
-put-field-requires-4 : tie.Need-put-field-requires-4
-put-field-requires-4 c κs = search needs
-
--- src/write.rt:20:1
-same-length-2 : tie.Need-same-length-2
-same-length-2 c = search needs
-
--- src/write.rt:20:1
 returns-2 : tie.Need-returns-2
-returns-2 c = search needs
+returns-2 c = let s = c .before .before .before .before .before .before .before .before .before .before .before .before .before .before .before .before .before .before in record-wide (now (s .args .out)) (s .args .at) (s .args .parent) (s .args .key) (s .pre .0) (c .before .before .before .before .before .before .before .before .before .before .before .before .before .before .before .put-field .ensures) (c .before .before .before .before .before .before .before .before .before .before .before .put-field2 .ensures) (c .before .before .before .before .before .before .before .put-field3 .ensures) (c .before .before .before .before .if1 .left) (c .before .before .put-field4 .ensures)
 
 pub put-record-spec : {M : Type 1} → statement M
 put-record-spec =
-    tie.close
-    (tie.spec
-    put-field-requires
-    add-put-field
-    cast-put-field
-    put-field-requires-2
-    add-put-field-2
-    cast-put-field-2
-    put-field-requires-3
-    same-length
-    returns
-    add-put-field-3
-    cast-put-field-3
-    put-field-requires-4
-    same-length-2
-    returns-2)
+    tie.close (tie.spec (λ c κs. search needs) (λ c. search needs) (λ c. search needs) (λ c κs. search needs) (λ c. search needs) (λ c. search needs) (λ c κs. search needs) (λ c. search needs) returns (λ c. search needs) (λ c. search needs) (λ c κs. search needs) (λ c. search needs) returns-2)

@@ -1,117 +1,55 @@
+-- `normalising::write::write_records` meets its contract: before turn k the first k records are written, and the table holds the last entry of each depth. Assumes nothing.
 use borrow.Author.Needs.{needs}
+use Prim.Native.Nat.{_-_}
+use native.Mathlib.Omega.{arith}
+use denote.Ref.{now}
+use lib.ListN.{length}
+use Rattle.normalising.proofs.RecordLaws.{Writing, writing-start, record-room, depth-inside, writing-step, writing-end}
 use Rattle.normalising.proofs.write.write_records.Statement.{statement}
 use Rattle.normalising.proofs.write.write_records.Tie as tie
-use Rattle.normalising.proofs.write.write_records.Reads as reads
-use Rattle.normalising.proofs.write.write_records.Lts as lts
-use Rattle.format.proofs.field.index64.Reads as index64-reads
-use Rattle.normalising.proofs.keys.depth_of.Reads as depth-of-reads
-use Rattle.normalising.proofs.write.above.Reads as above-reads
-use Rattle.normalising.proofs.write.put_record.Reads as put-record-reads
 
 abbrev Inv-loop : tie.InvT-loop
-Inv-loop keys width out₀ at n last₀ k₀ out last k = ?
+Inv-loop keys width out₀ at n last₀ k₀ out last k = Writing keys width at out₀ out last k
 
 abbrev μ-loop : tie.MeasureT-loop
-μ-loop keys width out₀ at n last₀ k₀ out last k = ?
+μ-loop keys width out₀ at n last₀ k₀ out last k = n - k
 
--- src/write.rt:51:5
 loop-holds : tie.Need-loop-holds Inv-loop μ-loop
-loop-holds c = search needs
+loop-holds c = writing-start _ _ _ _
 
--- src/write.rt:52:19
-mul-key : tie.Need-mul-key Inv-loop μ-loop
-mul-key c = search needs
-
--- src/write.rt:52:19
-shared-slice-read-key : tie.Need-shared-slice-read-key Inv-loop μ-loop
-shared-slice-read-key c = search needs
-
--- src/write.rt:53:29
-depth-of-requires : tie.Need-depth-of-requires Inv-loop μ-loop
-depth-of-requires c κs = search needs
-
--- src/write.rt:53:13
-index64-requires : tie.Need-index64-requires Inv-loop μ-loop
-index64-requires c κs = search needs
-
--- src/write.rt:54:13
-above-requires : tie.Need-above-requires Inv-loop μ-loop
-above-requires c κs = search needs
-
--- src/write.rt:55:30
 mul-put-record : tie.Need-mul-put-record Inv-loop μ-loop
-mul-put-record c = search needs
+mul-put-record c = let s = c .before .before .before .before .before .before .before .before .before in let z = c .before .before .before .before .before .before .loop .inv .size in let r = record-room (s .args .width) (c .before .before .before .before .before .before .loop .k) (length (now (s .args .keys))) (s .args .at) (c .before .before .before .before .before .loop-test .taken) (s .pre .2) in record { fits = omega arith }
 
--- src/write.rt:55:25
 add-put-record : tie.Need-add-put-record Inv-loop μ-loop
-add-put-record c = search needs
+add-put-record c = let s = c .before .before .before .before .before .before .before .before .before in let z = c .before .before .before .before .before .before .loop .inv .size in let r = record-room (s .args .width) (c .before .before .before .before .before .before .loop .k) (length (now (s .args .keys))) (s .args .at) (c .before .before .before .before .before .loop-test .taken) (s .pre .2) in omega arith
 
--- src/write.rt:55:48
 mul-put-record-2 : tie.Need-mul-put-record-2 Inv-loop μ-loop
-mul-put-record-2 c = search needs
+mul-put-record-2 c = let d = depth-inside (c .before .before .before .before .before .before .before .before .before .pre .0) (c .before .before .before .before .before .before .before .before .before .pre .1) (c .before .before .before .before .before .before .loop .inv) (c .before .before .before .before .before .loop-test .taken) (c .before .before .before .depth-of .ensures .0) (c .before .before .index64 .ensures) (c .before .above .ensures) in record { fits = omega (arith, d .1) }
 
--- src/write.rt:55:48
 array-read-put-record : tie.Need-array-read-put-record Inv-loop μ-loop
-array-read-put-record c = search needs
+array-read-put-record c = depth-inside (c .before .before .before .before .before .before .before .before .before .pre .0) (c .before .before .before .before .before .before .before .before .before .pre .1) (c .before .before .before .before .before .before .loop .inv) (c .before .before .before .before .before .loop-test .taken) (c .before .before .before .depth-of .ensures .0) (c .before .before .index64 .ensures) (c .before .above .ensures) .1
 
--- src/write.rt:55:9
 put-record-requires : tie.Need-put-record-requires Inv-loop μ-loop
-put-record-requires c κs = search needs
+put-record-requires c κs = let s = c .before .before .before .before .before .before .before .before .before in let z = c .before .before .before .before .before .before .loop .inv .size in let r = record-room (s .args .width) (c .before .before .before .before .before .before .loop .k) (length (now (s .args .keys))) (s .args .at) (c .before .before .before .before .before .loop-test .taken) (s .pre .2) in (s .pre .1, omega arith)
 
--- src/write.rt:56:23
 cast-last : tie.Need-cast-last Inv-loop μ-loop
-cast-last c = search needs
+cast-last c = let d = depth-inside (c .before .before .before .before .before .before .before .before .before .before .before .before .pre .0) (c .before .before .before .before .before .before .before .before .before .before .before .before .pre .1) (c .before .before .before .before .before .before .before .before .before .loop .inv) (c .before .before .before .before .before .before .before .before .loop-test .taken) (c .before .before .before .before .before .before .depth-of .ensures .0) (c .before .before .before .before .before .index64 .ensures) (c .before .before .before .before .above .ensures) in record { fits = omega (arith, d .2) }
 
--- src/write.rt:56:9
 mul-last : tie.Need-mul-last Inv-loop μ-loop
-mul-last c = search needs
+mul-last c = let d = depth-inside (c .before .before .before .before .before .before .before .before .before .before .before .before .pre .0) (c .before .before .before .before .before .before .before .before .before .before .before .before .pre .1) (c .before .before .before .before .before .before .before .before .before .loop .inv) (c .before .before .before .before .before .before .before .before .loop-test .taken) (c .before .before .before .before .before .before .depth-of .ensures .0) (c .before .before .before .before .before .index64 .ensures) (c .before .before .before .before .above .ensures) in record { fits = omega (arith, d .0) }
 
--- src/write.rt:56:9
 array-write-last : tie.Need-array-write-last Inv-loop μ-loop
-array-write-last c = search needs
+array-write-last c = depth-inside (c .before .before .before .before .before .before .before .before .before .before .before .before .pre .0) (c .before .before .before .before .before .before .before .before .before .before .before .before .pre .1) (c .before .before .before .before .before .before .before .before .before .loop .inv) (c .before .before .before .before .before .before .before .before .loop-test .taken) (c .before .before .before .before .before .before .depth-of .ensures .0) (c .before .before .before .before .before .index64 .ensures) (c .before .before .before .before .above .ensures) .0
 
--- src/write.rt:51:9
-add-k : tie.Need-add-k Inv-loop μ-loop
-add-k c = search needs
-
--- src/write.rt:51:5
-loop-less : tie.Need-loop-less Inv-loop μ-loop
-loop-less c = search needs
-
--- src/write.rt:51:5
 loop-again : tie.Need-loop-again Inv-loop μ-loop
-loop-again c = search needs
+loop-again c = writing-step (c .before .before .before .before .before .before .before .before .before .before .before .before .pre .0) (c .before .before .before .before .before .before .before .before .before .before .before .before .pre .1) (c .before .before .before .before .before .before .before .before .before .loop .inv) (c .before .before .before .before .before .before .before .before .loop-test .taken) (c .before .before .before .before .before .before .depth-of .ensures .0) (c .before .before .before .before .before .index64 .ensures) (c .before .before .before .before .above .ensures) (c .before .before .put-record .ensures)
 
--- src/write.rt:44:1
 same-length : tie.Need-same-length Inv-loop μ-loop
-same-length c = search needs
+same-length c = c .before .loop .inv .size
 
--- src/write.rt:44:1
 returns : tie.Need-returns Inv-loop μ-loop
-returns c = search needs
+returns c = writing-end (c .before .loop .inv) (c .loop-test .left)
 
 pub write-records-spec : {M : Type 1} → statement M
 write-records-spec =
-    tie.close
-    (tie.spec
-    Inv-loop
-    μ-loop
-    loop-holds
-    mul-key
-    shared-slice-read-key
-    depth-of-requires
-    index64-requires
-    above-requires
-    mul-put-record
-    add-put-record
-    mul-put-record-2
-    array-read-put-record
-    put-record-requires
-    cast-last
-    mul-last
-    array-write-last
-    add-k
-    loop-less
-    loop-again
-    same-length
-    returns)
+    tie.close (tie.spec Inv-loop μ-loop loop-holds (λ c. search needs) (λ c. search needs) (λ c κs. search needs) (λ c κs. search needs) (λ c κs. search needs) mul-put-record add-put-record mul-put-record-2 array-read-put-record put-record-requires cast-last mul-last array-write-last (λ c. search needs) (λ c. search needs) loop-again same-length returns)
