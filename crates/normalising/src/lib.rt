@@ -24,7 +24,7 @@ ghost use Prim.Native.Nat.{_*_, _≤_};
 ghost use lib.ListN.{length};
 ghost use lib.Seq.{sets};
 ghost use Rattle.model.specs.Limits.{minBuffer};
-ghost use Rattle.model.specs.Bytes.{bytesOf, setFields, setOf, setEnd, writtenAtFront};
+ghost use Rattle.model.specs.Bytes.{bytesOf, setFields, setOf, writtenAtFront};
 ghost use Rattle.model.specs.Facts.{AcceptedCase};
 ghost use Rattle.model.specs.Normal.{normalPattern, normaliseRefusal, normalised};
 ghost use Rattle.model.specs.Demands.{NormaliseAnswered};
@@ -33,7 +33,7 @@ ghost use Rattle.moving.specs.Answers.{movedOf};
 
 // The set whose count is field `on`, at the same place of out: its members keep their order.
 fn write_set(case: &[u8], on: usize, rows: &mut [u64], out: &mut [u8])
-    requires { ⌜ SetGiven (now case) on × (length (now rows) ≡ 4096) × (2 * setEnd (now case) on ≤ length (now out)) ⌝ }
+    requires { ⌜ SetGiven (now case) on × (length (now rows) ≡ 4096) × (length (now case) ≤ length (now out)) ⌝ }
     ensures { λ _. ⌜ (length (now (rows .exit)) ≡ 4096) × (now (out .exit)
         ≡ sets (now (out .entry)) (2 * on) (bytesOf (setFields (map normalPattern (setOf (now (case .entry)) on))))) ⌝ }
 {

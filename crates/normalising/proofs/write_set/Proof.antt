@@ -1,87 +1,61 @@
+-- `normalising::write_set` meets its contract: before each turn the members before it are written, in their order. Assumes nothing.
 use borrow.Author.Needs.{needs}
+use Prim.Native.Nat.{ℕ, _-_, _≤_, _<_, _*_}
+use mathlib.Core.Path.{_≡_, sym, ap, _∙_}
+use native.Mathlib.Omega.{arith}
+use denote.Ref.{now}
+use lib.ListN.{length}
+use lib.Seq.{length-sets}
+use Rattle.model.specs.Bytes.{setOf, fieldBytes}
+use Rattle.normalising.proofs.CaseLaws.{Members, members-start, member-table, member-inside, members-step, members-end}
 use Rattle.normalising.proofs.write_set.Statement.{statement}
 use Rattle.normalising.proofs.write_set.Tie as tie
-use Rattle.normalising.proofs.write_set.Reads as reads
-use Rattle.normalising.proofs.write_set.Lts as lts
-use Rattle.format.proofs.sections.pattern_end.Reads as pattern-end-reads
-use Rattle.format.proofs.set.set_count.Reads as set-count-reads
-use Rattle.format.proofs.write.put_field.Reads as put-field-reads
-use Rattle.normalising.proofs.trees.write_tree.Reads as write-tree-reads
 
 abbrev Inv-loop : tie.InvT-loop
-Inv-loop case on rows₀ out₀ n at₀ counter₀ rows out at counter = ?
+Inv-loop case on rows₀ out₀ n at₀ counter₀ rows out at counter = Members case on rows out₀ out at counter
 
 abbrev μ-loop : tie.MeasureT-loop
-μ-loop case on rows₀ out₀ n at₀ counter₀ rows out at counter = ?
+μ-loop case on rows₀ out₀ n at₀ counter₀ rows out at counter = n - counter
 
--- src/lib.rt:40:9
-set-count-requires : tie.Need-set-count-requires Inv-loop μ-loop
-set-count-requires c κs = search needs
+-- the count goes into out, which keeps its length
+counted-size : (c : tie.After-out Inv-loop μ-loop) → length (c .before .put-field .last .0) ≡ length (now (c .before .before .before .before .before .before .before .args .out))
+counted-size c = ap length (c .before .put-field .ensures) ∙ length-sets (now (c .before .before .before .before .before .before .before .args .out)) (2 * c .before .before .before .before .before .before .before .args .on) (fieldBytes (c .before .before .before .set-count .result))
 
--- src/lib.rt:41:24
+-- one member more
+more : (c : tie.In-loop Inv-loop μ-loop) → c .before .loop .counter < length (setOf (now (c .before .before .before .before .before .before .before .before .before .before .args .case)) (c .before .before .before .before .before .before .before .before .before .before .args .on))
+more c = omega (arith, c .loop-test .taken, c .before .before .before .before .before .before .set-count .ensures .0)
+
+-- the case has room in out
+room : (c : tie.At-loop Inv-loop μ-loop) → length (now (c .before .before .before .before .before .before .before .before .before .args .case)) ≤ length (c .before .before .before .put-field .last .0)
+room c = omega (arith, counted-size (c .before .before), c .before .before .before .before .before .before .before .before .before .pre .2)
+
 cast-put-field : tie.Need-cast-put-field Inv-loop μ-loop
-cast-put-field c = search needs
+cast-put-field c = record { fits = omega (arith, c .before .set-count .ensures .1) }
 
--- src/lib.rt:41:5
 put-field-requires : tie.Need-put-field-requires Inv-loop μ-loop
-put-field-requires c κs = search needs
+put-field-requires c κs = let s = c .before .before .before .before .before in omega (arith, s .pre .0 .whole .count, s .pre .2)
 
--- src/lib.rt:42:18
-add-at : tie.Need-add-at Inv-loop μ-loop
-add-at c = search needs
-
--- src/lib.rt:43:5
 loop-holds : tie.Need-loop-holds Inv-loop μ-loop
-loop-holds c = search needs
+loop-holds c = let s = c .before .before .before .before .before .before .before .before in members-start (now (s .args .rows)) _ (s .pre .1)
 
--- src/lib.rt:44:9
 write-tree-requires : tie.Need-write-tree-requires Inv-loop μ-loop
-write-tree-requires c κs = search needs
+write-tree-requires c κs = let s = c .before .before .before .before .before .before .before .before .before .before .before .before in (member-table (c .before .before .before .before .before .before .before .before .before .before .before .before .pre .0) (c .before .before .before .loop .inv) (more (c .before .before)), c .before .before .before .loop .inv .lent, member-inside (c .before .before .before .before .before .before .before .before .before .before .before .before .pre .0) (c .before .before .before .loop .inv) (more (c .before .before)) (room (c .before .before .before)) .1)
 
--- src/lib.rt:45:9
 pattern-end-requires : tie.Need-pattern-end-requires Inv-loop μ-loop
-pattern-end-requires c κs = search needs
+pattern-end-requires c κs = member-inside (c .before .before .before .before .before .before .before .before .before .before .before .before .before .before .before .before .before .pre .0) (c .before .before .before .before .before .before .before .before .loop .inv) (more (c .before .before .before .before .before .before .before)) (room (c .before .before .before .before .before .before .before .before)) .0
 
--- src/lib.rt:43:9
-add-counter : tie.Need-add-counter Inv-loop μ-loop
-add-counter c = search needs
-
--- src/lib.rt:43:5
-loop-less : tie.Need-loop-less Inv-loop μ-loop
-loop-less c = search needs
-
--- src/lib.rt:43:5
 loop-again : tie.Need-loop-again Inv-loop μ-loop
-loop-again c = search needs
+loop-again c = members-step (c .before .before .before .before .before .before .before .before .before .before .before .before .before .before .before .before .before .before .pre .0) (c .before .before .before .before .before .before .before .before .before .loop .inv) (more (c .before .before .before .before .before .before .before .before)) (c .before .before .before .before .before .write-tree .ensures) (c .pattern-end .ensures)
 
--- src/lib.rt:35:1
 same-length : tie.Need-same-length Inv-loop μ-loop
-same-length c = search needs
+same-length c = c .before .loop .inv .lent ∙ sym (c .before .before .before .before .before .before .before .before .before .before .pre .1)
 
--- src/lib.rt:35:1
 same-length-2 : tie.Need-same-length-2 Inv-loop μ-loop
-same-length-2 c = search needs
+same-length-2 c = c .before .loop .inv .size ∙ counted-size (c .before .before .before)
 
--- src/lib.rt:35:1
 returns : tie.Need-returns Inv-loop μ-loop
-returns c = search needs
+returns c = members-end (now (c .before .before .before .before .before .before .before .before .before .before .args .out)) (c .before .before .before .before .before .before .set-count .ensures .0) (c .before .before .before .before .put-field .ensures) (c .before .loop .inv) (c .loop-test .left)
 
 pub write-set-spec : {M : Type 1} → statement M
 write-set-spec =
-    tie.close
-    (tie.spec
-    Inv-loop
-    μ-loop
-    set-count-requires
-    cast-put-field
-    put-field-requires
-    add-at
-    loop-holds
-    write-tree-requires
-    pattern-end-requires
-    add-counter
-    loop-less
-    loop-again
-    same-length
-    same-length-2
-    returns)
+    tie.close (tie.spec Inv-loop μ-loop (λ c κs. search needs) cast-put-field put-field-requires (λ c. search needs) loop-holds write-tree-requires pattern-end-requires (λ c. search needs) (λ c. search needs) loop-again same-length same-length-2 returns)
