@@ -17,7 +17,7 @@ use laying::laid::laid_out;
 use moving::answers::Moved;
 use moving::downgrade::downgrade_call;
 use moving::upgrade::upgrade_call;
-use normalising::normalise::normalise_call;
+use normalising::normalise_call;
 ghost use mathlib.Core.Path.{_≡_};
 ghost use Rattle.deciding.specs.Outcome.{valuesOf};
 ghost use Rattle.model.specs.Demands.{VerdictAnswered, TalliedAnswered, FitsAnswered, ResultAnswered, NodesAnswered, PathsAnswered, LayoutAnswered, UpgradeAnswered, DowngradeAnswered, NormaliseAnswered};

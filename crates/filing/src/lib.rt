@@ -3,7 +3,7 @@
 use moving::answers::Moved;
 use moving::downgrade::downgrade_call;
 use moving::upgrade::upgrade_call;
-use normalising::normalise::normalise_call;
+use normalising::normalise_call;
 use text::line::line;
 ghost use Prim.Native.Nat.{_≤_, _<_};
 ghost use lib.ListN.{length};

@@ -16,7 +16,7 @@ use laying::laid::NodeRecord;
 use laying::laid::laid_out;
 use moving::downgrade::downgrade_call;
 use moving::upgrade::upgrade_call;
-use normalising::normalise::normalise_call;
+use normalising::normalise_call;
 use read::Head;
 use striking::minimise_call;
 
