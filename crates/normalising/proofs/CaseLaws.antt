@@ -92,12 +92,11 @@ module _ {b : List ℕ} {on : ℕ} where
       let Qs : List Pattern = written b on in
       let m : length Qs ≡ length (setOf b on) = length-map (setOf b on) normalPattern in
       let all : take i Qs ≡ Qs = take-all i Qs (omega arith) in
-      let there : 2 * (on + 1) ≡ 2 * on + 2 = omega arith in
-      (
+      let there : 2 * (on + 1) ≡ 2 * on + 2 = omega arith in (
         w .lent,
         w .bytes ∙ ap (λ (l : List Pattern). sets counting (2 * (on + 1)) (bytesOf (memberFields l))) all
-        ∙ ap₂ (λ (o : List ℕ) (j : ℕ). sets o j (bytesOf (memberFields Qs))) (put ∙ ap (λ (k : ℕ). sets out₀ (2 * on) (fieldBytes k)) (e ∙ sym m)) there
-        ∙ sym (sets-append out₀ (2 * on) (fieldBytes (length Qs)) (bytesOf (memberFields Qs)))
+            ∙ ap₂ (λ (o : List ℕ) (j : ℕ). sets o j (bytesOf (memberFields Qs))) (put ∙ ap (λ (k : ℕ). sets out₀ (2 * on) (fieldBytes k)) (e ∙ sym m)) there
+            ∙ sym (sets-append out₀ (2 * on) (fieldBytes (length Qs)) (bytesOf (memberFields Qs))),
       )
 
 -- ---- the case

@@ -104,9 +104,9 @@ apart i p ne =
     ⊎-elim (λ (t : ltb i p ≡ true). inl (ltb-true i p t))
     (λ (t : ltb i p ≡ false). let h : p ≤ i = ltb-false i p t in inr (strict i p ne h))
     (true-or-false (ltb i p))
-    where
-      strict : (i p : ℕ) → (i ≡ p → ⊥) → p ≤ i → p < i
-      strict i p ne h = omega arith
+  where
+    strict : (i p : ℕ) → (i ≡ p → ⊥) → p ≤ i → p < i
+    strict i p ne h = omega arith
 
 map-take : {A B : Type 0} (f : A → B) (n : ℕ) (l : List A) → map f (take n l) ≡ take n (map f l)
 map-take f zero l = refl
@@ -165,7 +165,7 @@ module _ {rows : List ℕ} {k n p m : ℕ} (j : Joinable rows k n p m) where
 
   module _ {at : ℕ}
       (placed : (at ≡ placeIn (entriesOf (take (64 * k + n - 64 * k) (drop (64 * k) rows))) (entriesOf (take (64 * p + m - 64 * p) (drop (64 * p) rows))))
-          × (at ≤ length (take (64 * p + m - 64 * p) (drop (64 * p) rows)))) where
+      × (at ≤ length (take (64 * p + m - 64 * p) (drop (64 * p) rows)))) where
     -- the place stands inside the row
     pub inside-row : at ≤ m
     inside-row = omega (arith, placed .1, ap length (row-part p m), row-length p m (omega (arith, j .below, j .inside)) (omega (arith, j .room)))

@@ -5,32 +5,31 @@ use crate::records::{Case, OutlineNode, SelectionNode};
 
 /// The set keeps its order, so member is matched with member.
 pub fn alike(one: &Case, other: &Case) -> bool {
-    let selections = |a: &[SelectionNode], b: &[SelectionNode]| match_all(a, b, &selection_nodes);
-    match_all(&one.outline, &other.outline, &outline_nodes)
-        && selections(&one.first, &other.first)
-        && one.set.len() == other.set.len()
-        && one
-            .set
-            .iter()
-            .zip(&other.set)
-            .all(|(a, b)| selections(a, b))
+    let selections = |case: &Case| {
+        let all = [&case.first].into_iter().chain(&case.set);
+        all.map(|nodes| selection_tree(nodes)).collect::<Vec<_>>()
+    };
+    let (ours, theirs) = (selections(one), selections(other));
+    match_trees(&outline_tree(&one.outline), &outline_tree(&other.outline))
+        && ours.len() == theirs.len()
+        && ours.iter().zip(&theirs).all(|(a, b)| match_trees(a, b))
 }
 
-/// A tree's nodes as parents and what else they have.
+/// A tree's nodes: of each its parent and what else it has.
 type Tree<N> = Vec<(usize, N)>;
 
-fn outline_nodes(nodes: &[OutlineNode]) -> Tree<(u16, bool)> {
+fn outline_tree(nodes: &[OutlineNode]) -> Tree<(u16, bool)> {
     let node = |node: &OutlineNode| (node.parent, (node.label, node.strong));
     nodes.iter().map(node).collect()
 }
 
-fn selection_nodes(nodes: &[SelectionNode]) -> Tree<(u16, bool, usize)> {
+fn selection_tree(nodes: &[SelectionNode]) -> Tree<(u16, bool, usize)> {
     let own = |node: &SelectionNode| (node.label, node.descendant, node.position);
     nodes.iter().map(|node| (node.parent, own(node))).collect()
 }
 
-fn match_all<T, N: PartialEq>(one: &[T], other: &[T], tree: &dyn Fn(&[T]) -> Tree<N>) -> bool {
-    one.len() == other.len() && match_below(&tree(one), 0, &tree(other), 0)
+fn match_trees<N: PartialEq>(one: &Tree<N>, other: &Tree<N>) -> bool {
+    one.len() == other.len() && match_below(one, 0, other, 0)
 }
 
 /// Whether the two subtrees are one but for their numbers. Each child takes the

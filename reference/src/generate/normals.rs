@@ -54,73 +54,26 @@ pub fn altered_case(prng: &mut Prng, case: &Case) -> Option<Case> {
 /// numbers; letters stand for 2, 3 and so on.
 pub fn fixed() -> Vec<Vector> {
     const NUMBERINGS: usize = 3;
-    let (a, b, c) = (2, 3, 4);
-    let of = |rows: &[SelectionRow]| over_root([&[HEAD], rows].concat());
-    let child = |parent, label| [parent, label, CHILD, 0];
-    let below = |parent, label| [parent, label, DESCENDANT, 0];
+    let (r, a, b, c) = (ROOT, 2, 3, 4);
     let plans = [
-        // Depth decides: r(a(b(r)), a(b,c)).
-        of(&[
-            child(0, a),
-            child(1, b),
-            child(2, ROOT),
-            child(0, a),
-            child(4, b),
-            child(4, c),
-        ]),
+        // Depth decides: r(a(b(r)), a(b,c)); and alone: r(a(b(c)), a(b,c)).
+        of(&[(0, a), (1, b), (2, r), (0, a), (4, b), (4, c)]),
+        of(&[(0, a), (1, b), (2, c), (0, a), (4, b), (4, c)]),
+        of(&[(0, a), (1, a), (2, a), (0, a), (4, a), (4, a)]),
         // Prefixes: r(a(b(c)), a(b), a).
-        of(&[
-            child(0, a),
-            child(1, b),
-            child(2, c),
-            child(0, a),
-            child(4, b),
-            child(0, a),
-        ]),
+        of(&[(0, a), (1, b), (2, c), (0, a), (4, b), (0, a)]),
         // Ordered within first: r(a(c), a(c,b)).
-        of(&[
-            child(0, a),
-            child(1, c),
-            child(0, a),
-            child(3, c),
-            child(3, b),
-        ]),
-        // Label before edge before position, and labels by number.
-        of(&[
-            child(0, b),
-            below(0, a),
-            [0, a, CHILD, 2],
-            child(0, a),
-            child(0, 0),
-        ]),
-        of(&[
-            child(0, 256),
-            child(0, 255),
-            child(0, u16::MAX),
-            child(0, 0),
-            child(0, 1),
-        ]),
+        of(&[(0, a), (1, c), (0, a), (3, c), (3, b)]),
+        // Labels by number, with any label first.
+        of(&[(0, 256), (0, 255), (0, u16::MAX), (0, 0), (0, 1)]),
+        label_edge_position(),
         // Equal ones, and all but one equal.
-        of(&[
-            child(0, a),
-            child(1, b),
-            child(0, a),
-            child(3, b),
-            child(0, a),
-            child(5, b),
-        ]),
+        of(&[(0, a), (1, b), (0, a), (3, b), (0, a), (5, b)]),
         heap(None),
         heap(Some(15)),
         heap(Some(8)),
         two_chains(),
-        outline_alone(vec![
-            [0, ROOT, 0],
-            [0, b, 1],
-            [0, a, 0],
-            [2, c, 1],
-            [1, b, 1],
-            [1, a, 0],
-        ]),
+        outline_alone(&[[0, b, 1], [0, a, 0], [2, c, 1], [1, b, 1], [1, a, 0]]),
         ordered_set(),
         whole(|t| t.saturating_sub(1)),
         whole(|_| 0),
@@ -152,7 +105,29 @@ fn over_root(first: Vec<SelectionRow>) -> Plan {
     plan(vec![[0, ROOT, 0]], first.clone(), vec![first; 2])
 }
 
-fn outline_alone(outline: Vec<OutlineRow>) -> Plan {
+/// Child edges below the root, each node by its parent and label.
+fn of(nodes: &[(u16, u16)]) -> Plan {
+    let row = |&(parent, label): &(u16, u16)| [parent, label, CHILD, 0];
+    let mut rows = vec![HEAD];
+    rows.extend(nodes.iter().map(row));
+    over_root(rows)
+}
+
+/// The label decides before the edge, and that before the position.
+fn label_edge_position() -> Plan {
+    let mut rows = vec![HEAD];
+    rows.extend([
+        [0, 3, CHILD, 0],
+        [0, 2, DESCENDANT, 0],
+        [0, 2, CHILD, 2],
+        [0, 2, CHILD, 0],
+    ]);
+    over_root(rows)
+}
+
+/// The outline of these nodes below the root.
+fn outline_alone(nodes: &[OutlineRow]) -> Plan {
+    let outline = [&[[0, ROOT, 0]], nodes].concat();
     plan(outline, vec![HEAD], vec![vec![HEAD]])
 }
 
@@ -232,10 +207,8 @@ fn large(prng: &mut Prng) -> Plan {
         trees::hold_positions(prng, &mut rows, k);
         rows
     };
-    let (first, set) = (
-        selection(),
-        (0..SET_SELECTIONS).map(|_| selection()).collect(),
-    );
+    let first = selection();
+    let set = (0..SET_SELECTIONS).map(|_| selection()).collect();
     Plan {
         outline,
         first,
@@ -276,8 +249,9 @@ fn said_again(prng: &mut Prng, size: usize, labels: usize, edges: usize) -> Vec<
     let mut rows: Vec<SelectionRow> = vec![[0, ROOT, CHILD, 0]];
     let reach = [1, 2, SELECTION_NODES][prng.below(3)];
     while rows.len() < size {
-        let twin = prng.below(rows.len());
-        if twin > 0 && prng.percent(50) {
+        // The lower the number, the more there often is below.
+        let twin = prng.below(rows.len()).min(prng.below(rows.len()));
+        if twin > 0 && rows.len() > 3 && prng.percent(40) {
             copy(prng, &mut rows, twin, size);
         } else {
             let parent = rows.len() - 1 - prng.below(reach.min(rows.len()));
@@ -288,8 +262,9 @@ fn said_again(prng: &mut Prng, size: usize, labels: usize, edges: usize) -> Vec<
     rows
 }
 
-/// The subtree of a node again beside it, as far as the size goes, now and then
-/// with another label at its last node.
+/// The subtree of a node again beside it, as far as the size goes, often with its
+/// last node altered: another label or edge, or one step higher, which leaves all
+/// but the depths alike.
 fn copy(prng: &mut Prng, rows: &mut Vec<SelectionRow>, from: usize, size: usize) {
     let mut twins = vec![None; rows.len()];
     let before = rows.len();
@@ -305,10 +280,13 @@ fn copy(prng: &mut Prng, rows: &mut Vec<SelectionRow>, from: usize, size: usize)
             rows.push([parent, label, edge, 0]);
         }
     }
-    if prng.percent(30) {
-        if let Some(last) = rows[before..].last_mut() {
-            last[1] += 1;
-        }
+    let last = rows.len() - 1;
+    let above = usize::from(rows[last][0]);
+    match prng.below(5) {
+        0 => rows[last][1] += 1,
+        1 => rows[last][2] ^= 1,
+        2 | 3 if above > before => rows[last][0] = rows[above][0],
+        _ => {}
     }
 }
 
@@ -335,7 +313,8 @@ fn altered(prng: &mut Prng, plan: &Plan) -> Plan {
     plan.clone()
 }
 
-/// One field changed, two nodes' fields exchanged, or two members.
+/// One field changed, two nodes' fields exchanged, a node one step higher, or two
+/// members exchanged.
 fn stroke(prng: &mut Prng, plan: &mut Plan) {
     let chosen = prng.below(plan.set.len() + 2);
     match chosen {
@@ -363,12 +342,13 @@ fn outline_stroke(prng: &mut Prng, rows: &mut [OutlineRow]) {
 
 fn selection_stroke(prng: &mut Prng, rows: &mut [SelectionRow]) {
     let (q, other) = (low(prng, rows.len()), prng.below(rows.len()));
-    match prng.below(6) {
+    match prng.below(7) {
         0 => rows[q][1] = [0, rows[other][1], rows[q][1] ^ 1][prng.below(3)],
         1 if q > 0 => rows[q][2] ^= 1,
         2 => exchange(rows, q, other, 3),
         3 => exchange(rows, q, other, 1),
         4 => exchange(rows, q, other, 0),
+        5 => rows[q][0] = rows[usize::from(rows[q][0])][0],
         _ if q > 0 => rows[q][0] = prng.below(q) as u16,
         _ => exchange(rows, q, other, 3),
     }

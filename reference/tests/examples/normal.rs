@@ -101,6 +101,9 @@ fn outline_goes(from: &str, to: &str) {
 fn the_deeper_entry_is_the_greater() {
     assert_eq!(shuffles(&rows("r^(a(b(r)),a(b,c))")).len(), 40);
     selection_goes("r^(a(b(r)),a(b,c))", "r^(a(b,c),a(b(r)))");
+    // Where all but the depth is alike.
+    selection_goes("r^(a(b(c)),a(b,c))", "r^(a(b,c),a(b(c)))");
+    selection_goes("r^(a(a(a)),a(a,a))", "r^(a(a,a),a(a(a)))");
     // The label does not matter there, nor does anything after it.
     selection_goes("r^(a(b(0)),a(b,c(c)))", "r^(a(b,c(c)),a(b(0)))");
     selection_goes("r^(a(0(0),b),a(0,b))", "r^(a(0,b),a(0(0),b))");

@@ -24,10 +24,10 @@ add-put-record : tie.Need-add-put-record Inv-loop μ-loop
 add-put-record c = let s = c .before .before .before .before .before .before .before .before .before in let z = c .before .before .before .before .before .before .loop .inv .size in let r = record-room (s .args .width) (c .before .before .before .before .before .before .loop .k) (length (now (s .args .keys))) (s .args .at) (c .before .before .before .before .before .loop-test .taken) (s .pre .2) in omega arith
 
 mul-put-record-2 : tie.Need-mul-put-record-2 Inv-loop μ-loop
-mul-put-record-2 c = let d = depth-inside (c .before .before .before .before .before .before .before .before .before .pre .0) (c .before .before .before .before .before .before .before .before .before .pre .1) (c .before .before .before .before .before .before .loop .inv) (c .before .before .before .before .before .loop-test .taken) (c .before .before .before .depth-of .ensures .0) (c .before .before .index64 .ensures) (c .before .above .ensures) in record { fits = omega (arith, d .1) }
+mul-put-record-2 c = let d = depth-inside (c .before .before .before .before .before .before .before .before .before .pre .0) (c .before .before .before .before .before .before .before .before .before .pre .1) (c .before .before .before .before .before .before .loop .inv) (c .before .before .before .before .before .loop-test .taken) (c .before .before .before .depth-of .ensures .0) (c .before .before .index64 .ensures) (c .before .above .ensures) in record { fits = omega (arith, d .0, d .1) }
 
 array-read-put-record : tie.Need-array-read-put-record Inv-loop μ-loop
-array-read-put-record c = depth-inside (c .before .before .before .before .before .before .before .before .before .pre .0) (c .before .before .before .before .before .before .before .before .before .pre .1) (c .before .before .before .before .before .before .loop .inv) (c .before .before .before .before .before .loop-test .taken) (c .before .before .before .depth-of .ensures .0) (c .before .before .index64 .ensures) (c .before .above .ensures) .1
+array-read-put-record c = let d = depth-inside (c .before .before .before .before .before .before .before .before .before .pre .0) (c .before .before .before .before .before .before .before .before .before .pre .1) (c .before .before .before .before .before .before .loop .inv) (c .before .before .before .before .before .loop-test .taken) (c .before .before .before .depth-of .ensures .0) (c .before .before .index64 .ensures) (c .before .above .ensures) in omega (arith, d .0, d .1)
 
 put-record-requires : tie.Need-put-record-requires Inv-loop μ-loop
 put-record-requires c κs = let s = c .before .before .before .before .before .before .before .before .before in let z = c .before .before .before .before .before .before .loop .inv .size in let r = record-room (s .args .width) (c .before .before .before .before .before .before .loop .k) (length (now (s .args .keys))) (s .args .at) (c .before .before .before .before .before .loop-test .taken) (s .pre .2) in (s .pre .1, omega arith)
@@ -36,10 +36,10 @@ cast-last : tie.Need-cast-last Inv-loop μ-loop
 cast-last c = let d = depth-inside (c .before .before .before .before .before .before .before .before .before .before .before .before .pre .0) (c .before .before .before .before .before .before .before .before .before .before .before .before .pre .1) (c .before .before .before .before .before .before .before .before .before .loop .inv) (c .before .before .before .before .before .before .before .before .loop-test .taken) (c .before .before .before .before .before .before .depth-of .ensures .0) (c .before .before .before .before .before .index64 .ensures) (c .before .before .before .before .above .ensures) in record { fits = omega (arith, d .2) }
 
 mul-last : tie.Need-mul-last Inv-loop μ-loop
-mul-last c = let d = depth-inside (c .before .before .before .before .before .before .before .before .before .before .before .before .pre .0) (c .before .before .before .before .before .before .before .before .before .before .before .before .pre .1) (c .before .before .before .before .before .before .before .before .before .loop .inv) (c .before .before .before .before .before .before .before .before .loop-test .taken) (c .before .before .before .before .before .before .depth-of .ensures .0) (c .before .before .before .before .before .index64 .ensures) (c .before .before .before .before .above .ensures) in record { fits = omega (arith, d .0) }
+mul-last c = let d = depth-inside (c .before .before .before .before .before .before .before .before .before .before .before .before .pre .0) (c .before .before .before .before .before .before .before .before .before .before .before .before .pre .1) (c .before .before .before .before .before .before .before .before .before .loop .inv) (c .before .before .before .before .before .before .before .before .loop-test .taken) (c .before .before .before .before .before .before .depth-of .ensures .0) (c .before .before .before .before .before .index64 .ensures) (c .before .before .before .before .above .ensures) in record { fits = omega (arith, d .0, d .1) }
 
 array-write-last : tie.Need-array-write-last Inv-loop μ-loop
-array-write-last c = depth-inside (c .before .before .before .before .before .before .before .before .before .before .before .before .pre .0) (c .before .before .before .before .before .before .before .before .before .before .before .before .pre .1) (c .before .before .before .before .before .before .before .before .before .loop .inv) (c .before .before .before .before .before .before .before .before .loop-test .taken) (c .before .before .before .before .before .before .depth-of .ensures .0) (c .before .before .before .before .before .index64 .ensures) (c .before .before .before .before .above .ensures) .0
+array-write-last c = let d = depth-inside (c .before .before .before .before .before .before .before .before .before .before .before .before .pre .0) (c .before .before .before .before .before .before .before .before .before .before .before .before .pre .1) (c .before .before .before .before .before .before .before .before .before .loop .inv) (c .before .before .before .before .before .before .before .before .loop-test .taken) (c .before .before .before .before .before .before .depth-of .ensures .0) (c .before .before .before .before .before .index64 .ensures) (c .before .before .before .before .above .ensures) in omega (arith, d .0, d .1)
 
 loop-again : tie.Need-loop-again Inv-loop μ-loop
 loop-again c = writing-step (c .before .before .before .before .before .before .before .before .before .before .before .before .pre .0) (c .before .before .before .before .before .before .before .before .before .before .before .before .pre .1) (c .before .before .before .before .before .before .before .before .before .loop .inv) (c .before .before .before .before .before .before .before .before .loop-test .taken) (c .before .before .before .before .before .before .depth-of .ensures .0) (c .before .before .before .before .before .index64 .ensures) (c .before .before .before .before .above .ensures) (c .before .before .put-record .ensures)
