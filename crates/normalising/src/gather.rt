@@ -3,7 +3,6 @@
 use crate::rows::join;
 use format::field::field;
 use format::records::record_field;
-ghost use mathlib.Core.Path.{_≡_};
 ghost use Rattle.normalising.specs.Tables.{tableAt, TableGiven, Loaded};
 ghost use Rattle.normalising.specs.Gathers.{Listed};
 ghost use lib.ListN.{length};

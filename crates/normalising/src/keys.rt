@@ -9,7 +9,6 @@ ghost use Prim.Native.Nat.{_*_, _<_};
 ghost use lib.ListN.{length, getD};
 ghost use Rattle.model.specs.Pattern.{noPatternRecord};
 ghost use Rattle.model.specs.Bytes.{field as fieldOf, WholeSection};
-ghost use Rattle.model.specs.Normal.{entryAt};
 ghost use Rattle.normalising.specs.Keys.{entryOf};
 ghost use Rattle.normalising.specs.Tables.{Width, tableAt, TableGiven, Loaded, entryWith};
 

@@ -23,7 +23,6 @@ ghost use mathlib.Core.List.{map};
 ghost use Prim.Native.Nat.{_*_, _≤_};
 ghost use lib.ListN.{length};
 ghost use lib.Seq.{sets};
-ghost use Rattle.model.specs.Limits.{minBuffer};
 ghost use Rattle.model.specs.Bytes.{bytesOf, setFields, setOf, writtenAtFront};
 ghost use Rattle.model.specs.Facts.{AcceptedCase};
 ghost use Rattle.model.specs.Normal.{normalPattern, normaliseRefusal, normalised};
