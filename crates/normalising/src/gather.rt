@@ -1,5 +1,6 @@
 // A tree's rows gathered into its root's, from the last node to the first: when a node's turn comes, all below it stands in its row.
 
+use crate::keys::ROW;
 use crate::rows::join;
 use format::field::field;
 use format::records::record_field;
@@ -13,7 +14,7 @@ pub fn gather(b: &[u8], at: usize, width: usize, rows: &mut [u64])
     ensures { λ _. ⌜ Listed (tableAt width (now (b .entry)) at) (now (rows .exit)) ⌝ }
 {
     let n = field(b, at);
-    let mut sizes = [1usize; 64];
+    let mut sizes = [1usize; ROW];
     for j in 1..n {
         let k = n - j;
         let p = record_field(b, at, width, k, 0);
