@@ -1,4 +1,4 @@
-/* Tree pattern containment under a path summary: the nine calls of the proved library, for C99 and C++ on x86-64.
+/* Tree pattern containment under a path summary: the ten calls of the proved library, for C99 and C++ on x86-64.
  *
  * Link with libcadwezin.a, which `rt staticlib cadwezin` writes to target/staticlib/. It needs memcpy and memset and nothing else.
  *
@@ -175,6 +175,15 @@ struct cadwezin_count_answer cadwezin_downgrade(const uint8_t *case_bytes, size_
  * count 0. At most 132 bytes. */
 struct cadwezin_minimise_answer cadwezin_minimise(const uint8_t *case_bytes, size_t case_length, uint64_t limit, uint64_t caller,
                                                   struct cadwezin_tallies *tallies, uint8_t *answer, size_t answer_length);
+
+/* One way of writing a case: the same bytes for all cases that are one but for the numbers of their nodes. Takes a case and an answer
+ * buffer. Questions 2 to 8. Answers how many bytes are written, as many as the case has, at most 1,558, and writes them to the front of
+ * the answer buffer: the case with the nodes of every tree in preorder. Siblings of the summary go by label. Siblings of a pattern go by
+ * their subtrees: each, with its own siblings in order first, is the list of its nodes in preorder, of each its depth, label, edge and
+ * position; two lists are compared at their first difference, and one that the other begins with goes first. The set keeps its order.
+ * Two accepted cases are written alike exactly when renumbering nodes turns one into the other. What is written is accepted, and
+ * written again it stays as it is; a verdict on it has the same kind where the limit is at least the number of placements. */
+struct cadwezin_count_answer cadwezin_normalise(const uint8_t *case_bytes, size_t case_length, uint8_t *answer, size_t answer_length);
 
 #ifdef __cplusplus
 }

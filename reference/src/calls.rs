@@ -1,4 +1,4 @@
-//! The nine calls, each with its questions in the order that the documents give;
+//! The ten calls, each with its questions in the order that the documents give;
 //! question 14 comes with those about the case, right after question 4, and
 //! question 16 just before question 9.
 //!
@@ -7,6 +7,7 @@
 
 use crate::embedding::{has, is_embedding, Shape};
 use crate::judging::{judge, own_result};
+use crate::normal::normal;
 use crate::old::{old_case, read_old_case, OldCase};
 use crate::records::{
     ask, holder, read_case, read_list, read_volume, section_bytes, selection_row, Case,
@@ -222,13 +223,20 @@ pub fn layout(
 /// many bytes are written. Question 2, then 3 to 8 of the old form.
 pub fn upgrade(case: &[u8], answer: &mut [u8]) -> CountAnswer {
     let old = upgrade_questions(case, answer.len());
-    write_moved(old.map(|old| old.with_set_of_one().bytes()), answer)
+    write_case(old.map(|old| old.with_set_of_one().bytes()), answer)
 }
 
 /// New to old: "another turns a set of one back". Questions 2 to 8, 15.
 pub fn downgrade(case: &[u8], answer: &mut [u8]) -> CountAnswer {
     let old = downgrade_questions(case, answer.len());
-    write_moved(old.map(|old| old.bytes()), answer)
+    write_case(old.map(|old| old.bytes()), answer)
+}
+
+/// One way of writing a case: "A writer (questions 2 to 8) puts every tree in preorder, at the answer
+/// buffer's front." The count is how many bytes are written, as many as the case has.
+pub fn normalise(case: &[u8], answer: &mut [u8]) -> CountAnswer {
+    let case = normalise_questions(case, answer.len());
+    write_case(case.map(|case| normal(&case).bytes()), answer)
 }
 
 /// Striking out: "so the verdict's questions are put, with 120 times the limit in question 9".
@@ -304,6 +312,10 @@ pub fn upgrade_refusal(case: &[u8], answer_len: usize) -> u64 {
 
 pub fn downgrade_refusal(case: &[u8], answer_len: usize) -> u64 {
     refusal(downgrade_questions(case, answer_len))
+}
+
+pub fn normalise_refusal(case: &[u8], answer_len: usize) -> u64 {
+    refusal(normalise_questions(case, answer_len))
 }
 
 pub fn minimise_refusal(
@@ -442,6 +454,11 @@ fn downgrade_questions(case: &[u8], answer_len: usize) -> Result<OldCase, u64> {
     old_case(&case).ok_or(15)
 }
 
+fn normalise_questions(case: &[u8], answer_len: usize) -> Result<Case, u64> {
+    ask(2, answer_len >= ANSWER_BYTES)?;
+    read_case(case)
+}
+
 /// Question 12, as far as it is about the selection.
 fn chosen(case: &Case, selection: u64) -> Result<Vec<SelectionNode>, u64> {
     case.selection(selection).cloned().ok_or(12)
@@ -480,9 +497,9 @@ fn write_shortened(shortened: &Shortened, answer: &mut [u8]) {
     }
 }
 
-/// "each at the front of an answer buffer": at most 648 bytes, with 64, 16 and
-/// 16 records.
-fn write_moved(case: Result<Vec<u8>, u64>, answer: &mut [u8]) -> CountAnswer {
+/// "each at the front of an answer buffer": at most 1,558 bytes, with 64 records
+/// and nine times 16; a case that is moved has 648 at most.
+fn write_case(case: Result<Vec<u8>, u64>, answer: &mut [u8]) -> CountAnswer {
     match case {
         Ok(bytes) => {
             answer[..bytes.len()].copy_from_slice(&bytes);

@@ -1,6 +1,6 @@
 //! `reference verdict`, `reference upgrade`, `reference downgrade`, `reference
-//! minimise`, `reference refusals`, `reference calls` and `reference case N`, each
-//! reading standard input.
+//! normalise`, `reference minimise`, `reference refusals`, `reference calls` and
+//! `reference case N`, each reading standard input.
 
 #![forbid(unsafe_code)]
 
@@ -14,6 +14,7 @@ use std::process::ExitCode;
 const USAGE: &str = "usage: reference verdict < CASE
        reference upgrade < OLD-CASE
        reference downgrade < CASE
+       reference normalise < CASE
        reference minimise < CASE
        reference refusals < VECTORS
        reference calls < VECTORS
@@ -24,8 +25,9 @@ fn main() -> ExitCode {
     let words: Vec<&str> = words.iter().map(String::as_str).collect();
     let output = match words[..] {
         ["verdict"] => input().map(|case| verdict_lines(&case).into_bytes()),
-        ["upgrade"] => input().map(|case| moved(&case, reference::upgrade)),
-        ["downgrade"] => input().map(|case| moved(&case, reference::downgrade)),
+        ["upgrade"] => input().map(|case| written(&case, reference::upgrade)),
+        ["downgrade"] => input().map(|case| written(&case, reference::downgrade)),
+        ["normalise"] => input().map(|case| written(&case, reference::normalise)),
         ["minimise"] => input().map(|case| minimise_lines(&case).into_bytes()),
         ["refusals"] => lines(|vector| vector.refusal().to_string()),
         ["calls"] => lines(|vector| vector.outcome()),
@@ -109,9 +111,9 @@ fn minimise_lines(case: &[u8]) -> String {
     text
 }
 
-/// The case in the other form. A refusal is a line on standard error, since
+/// The case that a call writes. A refusal is a line on standard error, since
 /// standard output has a case or nothing.
-fn moved(case: &[u8], call: fn(&[u8], &mut [u8]) -> CountAnswer) -> Vec<u8> {
+fn written(case: &[u8], call: fn(&[u8], &mut [u8]) -> CountAnswer) -> Vec<u8> {
     let mut answer = vec![0; 4_096];
     let got = call(case, &mut answer);
     if got.refused != 0 {

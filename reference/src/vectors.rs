@@ -12,6 +12,7 @@ pub const LAYOUT: u32 = 6;
 pub const UPGRADE: u32 = 7;
 pub const DOWNGRADE: u32 = 8;
 pub const MINIMISE: u32 = 9;
+pub const NORMALISE: u32 = 10;
 
 /// Lent bytes begin with this; lent table fields with it twice.
 pub const FILLING: u8 = 0xAA;
@@ -67,7 +68,7 @@ impl Vector {
         let case = read_bytes(rest)?;
         let volume = read_bytes(rest)?;
         let list = read_bytes(rest)?;
-        let known = (VERDICT..=MINIMISE).contains(&call) && length <= LENT_MOST;
+        let known = (VERDICT..=NORMALISE).contains(&call) && length <= LENT_MOST;
         known.then_some(Vector {
             call,
             limit,
@@ -103,6 +104,7 @@ impl Vector {
             PATHS => calls::paths_refusal(&self.case, self.selection),
             UPGRADE => calls::upgrade_refusal(&self.case, length),
             DOWNGRADE => calls::downgrade_refusal(&self.case, length),
+            NORMALISE => calls::normalise_refusal(&self.case, length),
             _ => calls::layout_refusal(&self.case, self.selection, &self.list, length),
         }
     }
@@ -153,8 +155,9 @@ impl Vector {
                     got.refused
                 )
             }
-            UPGRADE => self.moved("upgrade", calls::upgrade),
-            DOWNGRADE => self.moved("downgrade", calls::downgrade),
+            UPGRADE => self.written("upgrade", calls::upgrade),
+            DOWNGRADE => self.written("downgrade", calls::downgrade),
+            NORMALISE => self.written("normalise", calls::normalise),
             _ => {
                 let filling = u16::from_le_bytes([FILLING, FILLING]);
                 let record = NodeRecord {
@@ -216,7 +219,8 @@ impl Vector {
         format!("{fields} tried {tried} {}", seen(&answer, answer.len()))
     }
 
-    fn moved(&self, name: &str, call: fn(&[u8], &mut [u8]) -> CountAnswer) -> String {
+    /// The line of a call that writes a case.
+    fn written(&self, name: &str, call: fn(&[u8], &mut [u8]) -> CountAnswer) -> String {
         let mut answer = vec![FILLING; self.length as usize];
         let got = call(&self.case, &mut answer);
         let seen = seen(&answer, answer.len());

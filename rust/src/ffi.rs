@@ -1,4 +1,4 @@
-//! The nine calls as the archive exports them: plain numbers in, answers in C's layout out. The only
+//! The ten calls as the archive exports them: plain numbers in, answers in C's layout out. The only
 //! module with unsafe code.
 //!
 //! Why the calls below are sound: the exported functions are proved for any bytes, any numbers and
@@ -135,6 +135,13 @@ mod archive {
             answer: *mut u8,
             answer_length: usize,
         ) -> MinimiseAnswer;
+
+        pub fn cadwezin_normalise(
+            case: *const u8,
+            case_length: usize,
+            answer: *mut u8,
+            answer_length: usize,
+        ) -> CountAnswer;
     }
 }
 
@@ -253,5 +260,12 @@ pub fn minimise(
             answer.as_mut_ptr(),
             answer.len(),
         )
+    }
+}
+
+pub fn normalise(case: &[u8], answer: &mut [u8]) -> CountAnswer {
+    // SAFETY: as in `verdict`.
+    unsafe {
+        archive::cadwezin_normalise(case.as_ptr(), case.len(), answer.as_mut_ptr(), answer.len())
     }
 }

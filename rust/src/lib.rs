@@ -165,3 +165,13 @@ pub fn minimise(
         tried: got.tried,
     })
 }
+
+/// Writes the case in the one way there is for all cases that are one but for the numbers of their nodes:
+/// every tree in preorder, siblings of the summary by label, siblings of a pattern by their subtrees, the
+/// set in its order. It is written to the front of `answer`, and is the answer, as long as the case. Two
+/// accepted cases are written alike exactly when renumbering nodes turns one into the other; what is
+/// written stays as it is when it is written again. Questions 2 to 8.
+pub fn normalise<'a>(case: &[u8], answer: &'a mut [u8]) -> Result<&'a [u8], Refusal> {
+    let got = ffi::normalise(case, answer);
+    Refusal::or(got.refused, || &answer[..got.count as usize])
+}

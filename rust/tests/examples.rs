@@ -1,11 +1,11 @@
-//! E1 to E10 of document 01 through the library, sets, the old form, callers, striking out, and each
-//! call's way to refuse.
+//! E1 to E10 of document 01 through the library, sets, the old form, callers, striking out, one way of
+//! writing a case, and each call's way to refuse.
 
 use cadwezin::{
-    downgrade, fits, is_result, layout, minimise, nodes_at, nodes_shown, paths, upgrade, verdict,
-    DocumentNode, LeftNode, Minimised, NodeRecord, Pattern, PatternNode, Refusal, Shortened, Shown,
-    ShownNode, SummaryNode, Tallies, Verdict, ANSWER_BYTES, CALLERS, LIMIT_MOST, MEMBERS_MOST,
-    MINIMISE_VERDICTS, TABLE_RECORDS, TALLY_MOST,
+    downgrade, fits, is_result, layout, minimise, nodes_at, nodes_shown, normalise, paths, upgrade,
+    verdict, DocumentNode, LeftNode, Minimised, NodeRecord, Pattern, PatternNode, Refusal,
+    Shortened, Shown, ShownNode, SummaryNode, Tallies, Verdict, ANSWER_BYTES, CALLERS, LIMIT_MOST,
+    MEMBERS_MOST, MINIMISE_VERDICTS, TABLE_RECORDS, TALLY_MOST,
 };
 
 const E1: &[u8] = include_bytes!("../../tests/examples/e1.case");
@@ -21,6 +21,25 @@ const E9: &[u8] = include_bytes!("../../tests/examples/e9.case");
 
 /// /register/entry[date/year][place]//name, where each entry has a date and each date a year.
 const REGISTER: &[u8] = include_bytes!("../../tests/striking/register.case");
+
+/// The same under other numbers, twice, and as it is written in one way; so two other cases.
+const NUMBERED: [[&[u8]; 3]; 3] = [
+    [
+        include_bytes!("../../tests/normal/register-1.case"),
+        include_bytes!("../../tests/normal/register-2.case"),
+        include_bytes!("../../tests/normal/register.normal"),
+    ],
+    [
+        include_bytes!("../../tests/normal/depth-1.case"),
+        include_bytes!("../../tests/normal/depth-2.case"),
+        include_bytes!("../../tests/normal/depth.normal"),
+    ],
+    [
+        include_bytes!("../../tests/normal/set-1.case"),
+        include_bytes!("../../tests/normal/set-2.case"),
+        include_bytes!("../../tests/normal/set.normal"),
+    ],
+];
 
 /// E1 to E9 in the old form and with a set of one.
 const FILED: [(&[u8], &[u8]); 10] = [
@@ -426,6 +445,42 @@ fn striking_out_asks_room_for_120_verdicts() {
     }
 }
 
+#[test]
+fn numbers_alone_do_not_matter() {
+    for cases in NUMBERED {
+        let [.., normal] = cases;
+        for case in cases {
+            let mut answer = [FILLING; ANSWER_BYTES];
+            assert_eq!(normalise(case, &mut answer), Ok(normal));
+            assert!(answer[normal.len()..].iter().all(|&byte| byte == FILLING));
+        }
+    }
+    // Document 01's examples stand in this way already.
+    for (_, case) in FILED {
+        assert_eq!(normalise(case, &mut [FILLING; ANSWER_BYTES + 1]), Ok(case));
+    }
+}
+
+#[test]
+fn the_set_keeps_its_order() {
+    let (child, below) = ([0, 0, 0, 1], [0, 3, 1, 1]);
+    let mut answer = [FILLING; ANSWER_BYTES];
+    for set in [&[child, below][..], &[below, child], &[child, child]] {
+        let case = with_set(set);
+        assert_eq!(normalise(&case, &mut answer), Ok(&case[..]));
+    }
+}
+
+#[test]
+fn the_kind_of_a_verdict_stays() {
+    for case in NUMBERED[0] {
+        assert_eq!(
+            judged(case, LIMIT_MOST, &[]),
+            Verdict::Contained { tried: 2 }
+        );
+    }
+}
+
 /// The number of a refusal.
 fn refused<T: std::fmt::Debug>(got: Result<T, Refusal>) -> u64 {
     got.expect_err("a refusal").number()
@@ -485,6 +540,10 @@ fn refusals_alter_nothing() {
     assert_eq!(refused(downgrade(old, &mut answer)), 3);
     let two = with_set(&[[0, 0, 0, 1]; 2]);
     assert_eq!(refused(downgrade(&two, &mut answer)), 15);
+    assert_eq!(refused(normalise(E6, short)), 2);
+    assert_eq!(refused(normalise(&[], short)), 2);
+    assert_eq!(refused(normalise(old, &mut answer)), 3);
+    assert_eq!(refused(normalise(&with_set(&[]), &mut answer)), 14);
     assert!(answer
         .iter()
         .chain(short.iter())

@@ -1,6 +1,6 @@
-/* The nine calls from C, by include/cadwezin.h: E6 and E10 of document 01, a set of two, E6 out of the old form and back, callers and
- * their tallies, an order that is shortened, empty slices with a null pointer, and refusals, which alter nothing. Prints how many
- * answers were as they should be. */
+/* The ten calls from C, by include/cadwezin.h: E6 and E10 of document 01, a set of two, E6 out of the old form and back, callers and
+ * their tallies, an order that is shortened, one case under three numberings, empty slices with a null pointer, and refusals, which
+ * alter nothing. Prints how many answers were as they should be. */
 #include "cadwezin.h"
 #include <stdio.h>
 #include <stdlib.h>
@@ -29,6 +29,23 @@ static const uint8_t placement[] = {0, 0, 2, 0};
 #define WORDY 4, 0, RECORD(0, 1, 0, 1), RECORD(0, 2, 0, 0), RECORD(1, 3, 0, 0), RECORD(0, 4, 0, 0)
 static const uint8_t order[] = {GRANTED, WORDY, 1, 0, 1, 0, RECORD(0, 1, 0, 1)};
 static const uint8_t left_over[] = {2, 0, RECORD(0, 1, 0, 1), RECORD(0, 4, 0, 0), 2, 0, 2, 0, 1, 0};
+
+/* Summary r(a(b), c), where b is granted; first pattern r(a(b(r)), a(b, c)) with position 1 at the root; the set is r(0, a) and r(a).
+ * NORMAL is how it is written, the others are the same with other numbers. */
+#define SUMMARY_NORMAL 4, 0, 0, 0, 1, 0, 0, 0, 0, 0, 2, 0, 0, 0, 1, 0, 3, 0, 1, 0, 0, 0, 4, 0, 0, 0
+#define SUMMARY_OTHER 4, 0, 0, 0, 1, 0, 0, 0, 0, 0, 4, 0, 0, 0, 0, 0, 2, 0, 0, 0, 2, 0, 3, 0, 1, 0
+#define ROOT RECORD(0, 1, 0, 1)
+#define TREE_NORMAL                                                                                                                   \
+  7, 0, ROOT, RECORD(0, 2, 0, 0), RECORD(1, 3, 0, 0), RECORD(1, 4, 0, 0), RECORD(0, 2, 0, 0), RECORD(4, 3, 0, 0), RECORD(5, 1, 0, 0)
+#define TREE_AS_TYPED                                                                                                                 \
+  7, 0, ROOT, RECORD(0, 2, 0, 0), RECORD(1, 3, 0, 0), RECORD(2, 1, 0, 0), RECORD(0, 2, 0, 0), RECORD(4, 3, 0, 0), RECORD(4, 4, 0, 0)
+#define TREE_BY_LEVELS                                                                                                                \
+  7, 0, ROOT, RECORD(0, 2, 0, 0), RECORD(0, 2, 0, 0), RECORD(1, 4, 0, 0), RECORD(2, 3, 0, 0), RECORD(1, 3, 0, 0), RECORD(4, 1, 0, 0)
+#define SET_NORMAL 2, 0, 3, 0, ROOT, RECORD(0, 0, 1, 0), RECORD(0, 2, 0, 0), 2, 0, ROOT, RECORD(0, 2, 0, 0)
+#define SET_OTHER 2, 0, 3, 0, ROOT, RECORD(0, 2, 0, 0), RECORD(0, 0, 1, 0), 2, 0, ROOT, RECORD(0, 2, 0, 0)
+static const uint8_t normal[] = {SUMMARY_NORMAL, TREE_NORMAL, SET_NORMAL};
+static const uint8_t numbered[][sizeof normal] = {
+    {SUMMARY_NORMAL, TREE_NORMAL, SET_NORMAL}, {SUMMARY_OTHER, TREE_AS_TYPED, SET_OTHER}, {SUMMARY_OTHER, TREE_BY_LEVELS, SET_NORMAL}};
 
 static uint8_t answer[CADWEZIN_ANSWER_BYTES + 1];
 static struct cadwezin_node_record table[CADWEZIN_TABLE_RECORDS + 1];
@@ -140,11 +157,11 @@ static void sets(void) {
   hold(untouched(0, 0), "what the calls about sets leave alone");
 }
 
-/* One call of the two that move a case: what it answers, and what it writes or leaves alone. */
-static void moved(struct cadwezin_count_answer got, uint64_t refused, const uint8_t *wanted, size_t length, const char *what) {
+/* One call of the three that write a case: what it answers, and what it writes or leaves alone. */
+static void written(struct cadwezin_count_answer got, uint64_t refused, const uint8_t *wanted, size_t length, const char *what) {
   hold(got.refused == refused && got.count == length, what);
-  hold(length == 0 || memcmp(answer, wanted, length) == 0, "the case that is moved");
-  hold(untouched(length, 0), "what moving a case leaves alone");
+  hold(length == 0 || memcmp(answer, wanted, length) == 0, "the case that is written");
+  hold(untouched(length, 0), "what writing a case leaves alone");
   fill();
 }
 
@@ -152,17 +169,35 @@ static void moved(struct cadwezin_count_answer got, uint64_t refused, const uint
 static void moves(void) {
   const size_t short_by_one = CADWEZIN_ANSWER_BYTES - 1;
   fill();
-  moved(cadwezin_upgrade(old, sizeof old, answer, sizeof answer), 0, e6, sizeof e6, "an old case");
-  moved(cadwezin_upgrade(old, sizeof old, answer, CADWEZIN_ANSWER_BYTES), 0, e6, sizeof e6, "an old case and the least buffer");
-  moved(cadwezin_downgrade(e6, sizeof e6, answer, sizeof answer), 0, old, sizeof old, "a set of one");
-  moved(cadwezin_downgrade(e6, sizeof e6, answer, CADWEZIN_ANSWER_BYTES), 0, old, sizeof old, "a set of one and the least buffer");
-  moved(cadwezin_upgrade(old, sizeof old, answer, short_by_one), 2, NULL, 0, "an old case and too short a buffer");
-  moved(cadwezin_downgrade(e6, sizeof e6, answer, short_by_one), 2, NULL, 0, "a set of one and too short a buffer");
-  moved(cadwezin_upgrade(e6, sizeof e6, answer, sizeof answer), 3, NULL, 0, "no old case");
-  moved(cadwezin_downgrade(old, sizeof old, answer, sizeof answer), 3, NULL, 0, "an old case that would go back");
-  moved(cadwezin_downgrade(two, sizeof two, answer, sizeof answer), 15, NULL, 0, "a set of two");
-  moved(cadwezin_downgrade(none, sizeof none, answer, sizeof answer), 14, NULL, 0, "a set of none that would go back");
-  moved(cadwezin_upgrade(none, sizeof none, answer, sizeof answer), 4, NULL, 0, "an old case with an empty pattern");
+  written(cadwezin_upgrade(old, sizeof old, answer, sizeof answer), 0, e6, sizeof e6, "an old case");
+  written(cadwezin_upgrade(old, sizeof old, answer, CADWEZIN_ANSWER_BYTES), 0, e6, sizeof e6, "an old case and the least buffer");
+  written(cadwezin_downgrade(e6, sizeof e6, answer, sizeof answer), 0, old, sizeof old, "a set of one");
+  written(cadwezin_downgrade(e6, sizeof e6, answer, CADWEZIN_ANSWER_BYTES), 0, old, sizeof old, "a set of one and the least buffer");
+  written(cadwezin_upgrade(old, sizeof old, answer, short_by_one), 2, NULL, 0, "an old case and too short a buffer");
+  written(cadwezin_downgrade(e6, sizeof e6, answer, short_by_one), 2, NULL, 0, "a set of one and too short a buffer");
+  written(cadwezin_upgrade(e6, sizeof e6, answer, sizeof answer), 3, NULL, 0, "no old case");
+  written(cadwezin_downgrade(old, sizeof old, answer, sizeof answer), 3, NULL, 0, "an old case that would go back");
+  written(cadwezin_downgrade(two, sizeof two, answer, sizeof answer), 15, NULL, 0, "a set of two");
+  written(cadwezin_downgrade(none, sizeof none, answer, sizeof answer), 14, NULL, 0, "a set of none that would go back");
+  written(cadwezin_upgrade(none, sizeof none, answer, sizeof answer), 4, NULL, 0, "an old case with an empty pattern");
+}
+
+/* One case is written alike, whatever the numbers of its nodes are; E6 and the set of two stand in that way already. */
+static void normal_forms(void) {
+  const size_t short_by_one = CADWEZIN_ANSWER_BYTES - 1;
+  fill();
+  for (size_t i = 0; i < COUNT(numbered); i++) {
+    const uint8_t *bytes = numbered[i];
+    written(cadwezin_normalise(bytes, sizeof normal, answer, sizeof answer), 0, normal, sizeof normal, "a case by any numbers");
+    written(cadwezin_normalise(bytes, sizeof normal, answer, CADWEZIN_ANSWER_BYTES), 0, normal, sizeof normal, "and the least buffer");
+    written(cadwezin_normalise(bytes, sizeof normal, answer, short_by_one), 2, NULL, 0, "and too short a buffer");
+    written(cadwezin_normalise(bytes, sizeof normal - 1, answer, sizeof answer), 3, NULL, 0, "and a byte less");
+  }
+  written(cadwezin_normalise(e6, sizeof e6, answer, sizeof answer), 0, e6, sizeof e6, "a set of one in its order");
+  written(cadwezin_normalise(two, sizeof two, answer, sizeof answer), 0, two, sizeof two, "a set of two in its order");
+  written(cadwezin_normalise(old, sizeof old, answer, sizeof answer), 3, NULL, 0, "an old case to be written");
+  written(cadwezin_normalise(none, sizeof none, answer, sizeof answer), 14, NULL, 0, "a set of none to be written");
+  written(cadwezin_normalise(unheld, sizeof unheld, answer, sizeof answer), 8, NULL, 0, "no position and a case to be written");
 }
 
 /* One verdict that is refused or, with 0, accepted; everything else stays, the other seven tallies among it. */
@@ -296,6 +331,10 @@ static void empty(void) {
   hold(count.refused == 2 && count.count == 0, "a set of one without a buffer");
   count = cadwezin_downgrade(NULL, 0, answer, sizeof answer);
   hold(count.refused == 3 && count.count == 0, "nothing to go back");
+  count = cadwezin_normalise(e6, sizeof e6, NULL, 0);
+  hold(count.refused == 2 && count.count == 0, "a case to be written without a buffer");
+  count = cadwezin_normalise(NULL, 0, answer, sizeof answer);
+  hold(count.refused == 3 && count.count == 0, "nothing to be written");
   const struct cadwezin_paths_answer paths = cadwezin_paths(NULL, 0, 1);
   hold(paths.refused == 3, "paths of nothing");
   for (size_t i = 0; i < CADWEZIN_PATTERN_NODES_MOST; i++) {
@@ -311,6 +350,7 @@ int main(void) {
   tallies_of_callers();
   callers();
   strikes();
+  normal_forms();
   empty();
   printf("calls: %u answers from C as they should be\n", held);
   return 0;

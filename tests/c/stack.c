@@ -1,4 +1,4 @@
-/* The stack that each of the nine calls takes. Each call has a stack of its own, painted beforehand, on which it runs with the heaviest
+/* The stack that each of the ten calls takes. Each call has a stack of its own, painted beforehand, on which it runs with the heaviest
  * inputs there are and with every refusal; the lowest byte that has lost its paint tells how far down it went. Each answer is held to
  * what it should be, so that the heavy ways are really taken. Prints a line, and fails above what include/cadwezin.h promises. */
 #define _XOPEN_SOURCE 700
@@ -13,8 +13,9 @@
 #define PAINT 0xC5
 #define SHOWN_MOST 946
 
-enum call { VERDICT, FITS, RESULT, NODES, PATHS, LAYOUT, UPGRADE, DOWNGRADE, MINIMISE, CALLS };
-static const char *const names[CALLS] = {"verdict", "fits", "result", "nodes", "paths", "layout", "upgrade", "downgrade", "minimise"};
+enum call { VERDICT, FITS, RESULT, NODES, PATHS, LAYOUT, UPGRADE, DOWNGRADE, MINIMISE, NORMALISE, CALLS };
+static const char *const names[CALLS] = {"verdict", "fits",    "result",    "nodes",    "paths",
+                                         "layout",  "upgrade", "downgrade", "minimise", "normalise"};
 
 /* Bytes in the making. */
 struct bytes {
@@ -69,6 +70,9 @@ static void make_call(void) {
     asked.refused = got.refused, asked.value = got.count;
   } else if (asked.call == DOWNGRADE) {
     const struct cadwezin_count_answer got = cadwezin_downgrade(given, length, answer, asked.answer_length);
+    asked.refused = got.refused, asked.value = got.count;
+  } else if (asked.call == NORMALISE) {
+    const struct cadwezin_count_answer got = cadwezin_normalise(given, length, answer, asked.answer_length);
     asked.refused = got.refused, asked.value = got.count;
   } else {
     const struct cadwezin_count_answer got =
@@ -335,6 +339,49 @@ static void moved(void) {
   }
 }
 
+/* The parent of a node in trees of several shapes: a star, a line, a heap, two by two, a comb, and branches of three. */
+static unsigned above(unsigned shape, unsigned node) {
+  switch (node == 0 ? 0 : shape) {
+  case 1: return node - 1;
+  case 2: return (node - 1) / 2;
+  case 3: return node - (node > 1 ? 2 - node % 2 : 1);
+  case 4: return node % 3 == 1 ? 0 : node - 1;
+  default: return 0;
+  }
+}
+
+/* A case of the most nodes, 64 and nine times 16, every tree of one shape; the labels of siblings fall, or, in the patterns, all nodes
+ * are alike, so that no comparison ends before the last node. */
+static void put_shape(unsigned shape, int alike) {
+  asked.given.length = 0;
+  put(&asked.given, 64);
+  for (unsigned i = 0; i < 64; i++) {
+    put(&asked.given, above(shape, i));
+    put(&asked.given, 100 - i);
+    put(&asked.given, i % 2);
+  }
+  for (unsigned pattern = 0; pattern <= CADWEZIN_MEMBERS_MOST; pattern++) {
+    if (pattern == 1) {
+      put(&asked.given, CADWEZIN_MEMBERS_MOST);
+    }
+    put(&asked.given, 16);
+    for (unsigned q = 0; q < 16; q++) {
+      put_node(above(shape, q), alike ? 7 : 100 - q, 0, q == (alike ? 15 : 0));
+    }
+  }
+}
+
+static void normal_forms(void) {
+  static const uint64_t length = 2 + 64 * 6 + 2 + 9 * (2 + 16 * 8);
+  ask_whole();
+  for (unsigned shape = 0; shape < 5; shape++) {
+    for (int alike = 0; alike <= 1; alike++) {
+      put_shape(shape, alike);
+      expect(NORMALISE, 0, length, "64 and nine times 16 nodes");
+    }
+  }
+}
+
 /* Alters what is asked so that this question is the first one answered no. */
 static void break_question(unsigned question) {
   uint8_t *second_node = asked.given.at + 2 + 2 * 6, *pattern_root = asked.given.at + 2 + 64 * 6 + 2;
@@ -367,7 +414,8 @@ static void refusals(void) {
   static const unsigned questions[CALLS][12] = {
       {1, 2, 3, 4, 14, 5, 6, 7, 8, 16, 9}, {3, 4, 14, 5, 6, 7, 8, 10}, {3, 4, 14, 5, 6, 7, 8, 10, 12, 11},
       {2, 3, 4, 14, 5, 6, 7, 8, 10, 12},   {3, 4, 14, 5, 6, 7, 8, 12}, {2, 3, 4, 14, 5, 6, 7, 8, 12, 13},
-      {2, 3, 4, 5, 6, 7, 8},               {2, 3, 4, 14, 5, 6, 7, 8, 15}, {1, 2, 3, 4, 14, 5, 6, 7, 8, 16, 9}};
+      {2, 3, 4, 5, 6, 7, 8},               {2, 3, 4, 14, 5, 6, 7, 8, 15}, {1, 2, 3, 4, 14, 5, 6, 7, 8, 16, 9},
+      {2, 3, 4, 14, 5, 6, 7, 8}};
   for (enum call call = 0; call < CALLS; call++) {
     for (const unsigned *question = questions[call]; *question != 0; question++) {
       ask_whole();
@@ -400,6 +448,7 @@ int main(void) {
   struck();
   documents();
   moved();
+  normal_forms();
   refusals();
   printf("stack: %u answers;", held);
   for (enum call call = 0; call < CALLS; call++) {

@@ -17,9 +17,10 @@ use laying::laid::laid_out;
 use moving::answers::Moved;
 use moving::downgrade::downgrade_call;
 use moving::upgrade::upgrade_call;
+use normalising::normalise_call;
 ghost use mathlib.Core.Path.{_≡_};
 ghost use Rattle.deciding.specs.Outcome.{valuesOf};
-ghost use Rattle.model.specs.Demands.{VerdictAnswered, TalliedAnswered, FitsAnswered, ResultAnswered, NodesAnswered, PathsAnswered, LayoutAnswered, UpgradeAnswered, DowngradeAnswered};
+ghost use Rattle.model.specs.Demands.{VerdictAnswered, TalliedAnswered, FitsAnswered, ResultAnswered, NodesAnswered, PathsAnswered, LayoutAnswered, UpgradeAnswered, DowngradeAnswered, NormaliseAnswered};
 ghost use Rattle.calls.specs.Answers.{testOf, nodesOf, pathsOf};
 ghost use Rattle.moving.specs.Answers.{movedOf};
 ghost use Rattle.cadwezin.specs.Table.{recordsIn, layoutOf};
@@ -181,4 +182,13 @@ pub extern "C" fn cadwezin_downgrade(case: &[u8], answer: &mut [u8]) -> Moved
     ensures { λ r. ⌜ DowngradeAnswered (now (case .entry)) (now (answer .entry)) (movedOf r (now (answer .exit))) ⌝ }
 {
     downgrade_call(case, answer)
+}
+
+// The case in its one way of writing, at the front of the answer buffer: two are written alike exactly when renumbering nodes turns one
+// into the other.
+#[no_mangle]
+pub extern "C" fn cadwezin_normalise(case: &[u8], answer: &mut [u8]) -> Moved
+    ensures { λ r. ⌜ NormaliseAnswered (now (case .entry)) (now (answer .entry)) (movedOf r (now (answer .exit))) ⌝ }
+{
+    normalise_call(case, answer)
 }

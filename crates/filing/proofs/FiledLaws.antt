@@ -10,11 +10,12 @@ use Rattle.model.specs.Limits.{minBuffer}
 use Rattle.model.specs.Bytes.{writtenAtFront}
 use Rattle.model.specs.Calls.{CountOutcome}
 use Rattle.model.specs.Moving.{upgradeRefusal, downgradeRefusal, upgraded, downgraded, movedAccepted}
+use Rattle.model.specs.Normal.{normaliseRefusal, normalised}
 use Rattle.model.specs.Text as model
 use Rattle.model.specs.Demands as demands
 use Rattle.model.proofs.Calls.{by-number}
 use Rattle.model.proofs.Moving.{moved-accepted}
-use Rattle.model.proofs.Text.{refused-short, told-refused, told-accepted, upgrade-most, downgrade-most}
+use Rattle.model.proofs.Text.{refused-short, told-refused, told-accepted, upgrade-most, downgrade-most, normalise-most}
 use Rattle.text.specs.Put.{Room, Put}
 use Rattle.text.proofs.PutLaws.{put-front}
 use Rattle.moving.specs.Answers.{movedOf}
@@ -34,18 +35,22 @@ line-filed n p = record { stream = refl; counted = omega (arith, p .ends); bytes
 -- ---- from a call's answer to what is written
 
 -- a call that was lent 4,096 bytes and left `mid`
-module _ (refusal : ℕ → ℕ) (written : List ℕ) {before : List ℕ} (long : length before ≡ minBuffer) {Same : List ℕ → Type 0} {back : List ℕ → List ℕ → CountOutcome} {b : List ℕ}
-    {m : Moved} {mid : List ℕ} (a : demands.MoveAnswered (refusal (length before)) written (demands.Moved Same back b before) before (movedOf m mid)) where
+module _ (refusal : ℕ → ℕ) (written : List ℕ) {before : List ℕ} (long : length before ≡ minBuffer) {Kept : CountOutcome → Type 0} {m : Moved} {mid : List ℕ}
+    (a : demands.MoveAnswered (refusal (length before)) written Kept before (movedOf m mid)) where
+  outcome : refusal (length before) ≡ 0 → movedOf m mid ≡ movedAccepted written before
+  outcome z = a .outcome ∙ moved-accepted (refusal (length before)) written before z
+
   short : refusal (length before) ≤ 15 → m .refused < 100
+  unfolding movedAccepted
   short most =
-      by-number (refusal (length before)) (λ z. omega (arith, a .moved z .accepted))
+      by-number (refusal (length before)) (λ z. omega (arith, ap (λ (o : CountOutcome). o .answer .refused) (outcome z)))
       (λ f. omega (arith, ap (λ (o : CountOutcome). o .answer .refused) (a .demand1 f), most))
 
   -- what the call wrote stands in the array
   accepted : {after : List ℕ} {r : Told} → refusal (length before) ≡ 0 → Answered m mid after r → Filed (record { stream = 1; bytes = written }) before after r
   unfolding movedAccepted
   accepted {after} z h =
-      let o : movedOf m mid ≡ movedAccepted written before = a .outcome ∙ moved-accepted (refusal (length before)) written before z in
+      let o = outcome z in
       let t = h .moved (ap (λ (x : CountOutcome). x .answer .refused) o) in
       record { stream = t .0; counted = t .1 ∙ ap (λ (x : CountOutcome). x .answer .count) o; bytes = t .2 ∙ ap (λ (x : CountOutcome). x .buffer) o }
 
@@ -63,7 +68,7 @@ module _ (refusal : ℕ → ℕ) (written : List ℕ) {before : List ℕ} (long 
       (λ z. subst (λ (t : model.Told). Filed t before after r) (sym (told-accepted (refusal (length before)) written z)) (accepted z h))
       (λ f. subst (λ (t : model.Told). Filed t before after r) (sym (told-refused (refusal (length before)) written f)) (refused f h)))
 
--- ---- the two calls
+-- ---- the three calls
 
 module _ (b : List ℕ) {before : List ℕ} (long : length before ≡ minBuffer) {m : Moved} {mid : List ℕ} where
   pub upgrade-short : demands.UpgradeAnswered b before (movedOf m mid) → m .refused < 100
@@ -79,6 +84,13 @@ module _ (b : List ℕ) {before : List ℕ} (long : length before ≡ minBuffer)
   pub downgrade-filed : {after : List ℕ} {r : Told} → demands.DowngradeAnswered b before (movedOf m mid) → Answered m mid after r → Filed (model.downgradeTold b) before after r
   unfolding model.downgradeTold
   downgrade-filed a = filed (downgradeRefusal b) (downgraded b) long a
+
+  pub normalise-short : demands.NormaliseAnswered b before (movedOf m mid) → m .refused < 100
+  normalise-short a = short (normaliseRefusal b) (normalised b) long a (normalise-most b (length before))
+
+  pub normalise-filed : {after : List ℕ} {r : Told} → demands.NormaliseAnswered b before (movedOf m mid) → Answered m mid after r → Filed (model.normaliseTold b) before after r
+  unfolding model.normaliseTold
+  normalise-filed a = filed (normaliseRefusal b) (normalised b) long a
 
 -- ---- what is told is a part of the array, and the stream's number is a small one
 
@@ -98,3 +110,7 @@ module _ (b : List ℕ) {before after : List ℕ} {r : Told} where
   pub downgrade-stream : Filed (model.downgradeTold b) before after r → r .stream ≤ 2
   unfolding model.downgradeTold
   downgrade-stream h = omega (arith, h .stream, told-stream (downgradeRefusal b minBuffer) (downgraded b))
+
+  pub normalise-stream : Filed (model.normaliseTold b) before after r → r .stream ≤ 2
+  unfolding model.normaliseTold
+  normalise-stream h = omega (arith, h .stream, told-stream (normaliseRefusal b minBuffer) (normalised b))

@@ -1,4 +1,4 @@
--- What a program that moves a case writes: bytes at the front of a lent array, how many they are, and the stream that they go to.
+-- What a program that writes a case writes: bytes at the front of a lent array, how many they are, and the stream that they go to.
 use Prim.Native.Nat.{ℕ}
 use mathlib.Core.Path.{_≡_}
 use mathlib.Core.List.{List}
@@ -14,7 +14,7 @@ pub record Filed (t : model.Told) (before after : List ℕ) (r : Told) : Type 0 
   pub counted : r .count ≡ length (t .bytes)
   pub bytes : after ≡ writtenAtFront (t .bytes) before
 
--- of the answer of a call that left `before`: a refusal's line is written, and what was moved stays as it is
+-- of the answer of a call that left `before`: a refusal's line is written, and a written case stays as it is
 pub record Answered (m : Moved) (before after : List ℕ) (r : Told) : Type 0 where
   pub refused : (m .refused ≡ 0 → ⊥) → Filed (record { stream = 2; bytes = model.refusedText (m .refused) }) before after r
   pub moved : m .refused ≡ 0 → (r .stream ≡ 1) × (r .count ≡ m .count) × (after ≡ before)

@@ -10,7 +10,7 @@ use native.Mathlib.Omega.{arith}
 use lib.Dec.{ltb, leb}
 use lib.ListN.{length, getD}
 use borrow.Author.Tests.{ltb-true, ltb-false, le-leb, lt-leb}
-use Rattle.model.specs.Lists.{upFrom, keep, Ascending}
+use Rattle.model.specs.Lists.{upFrom, Ascending}
 use Rattle.model.specs.Tree.{Child}
 use Rattle.model.specs.Summary.{Summary, asDocument, summaryLabel}
 use Rattle.model.specs.Pattern.{PatternRecord, Pattern, noPatternRecord, patternParent, IsPatternTree}
@@ -20,12 +20,12 @@ use Rattle.model.specs.Normal.{notAfter, ordered, depthOf, Entry, entryA
 use Rattle.model.proofs.ListLaws.{map-agree}
 use Rattle.model.proofs.Ascending.{ascending-keep, ascending-upFrom, ascending-map}
 use Rattle.model.proofs.TreeLaws.{length-asDocument}
-use Rattle.model.proofs.Renumbering.{root-back, renumbered-not-root, parent-of, label-of, summary-rooted, length-asPattern, record-asPattern}
-use Rattle.model.proofs.Ordering.{after-same, after-less, after-greater, subtree-order, Distinct, Matched, ordered-agree, ordered-matched}
+use Rattle.model.proofs.Renumbering.{renumbered-not-root, parent-of, label-of, summary-rooted, length-asPattern, record-asPattern}
+use Rattle.model.proofs.Ordering.{after-same, after-less, after-greater, subtree-order, Distinct, Matched, ordered-ascends, ordered-agree, ordered-matched}
 use Rattle.model.proofs.Preorder.{none-or-some, depth-root, depth-child, child-elim, child-intro, child-later, preorder-whole, rows-flat}
 
 -- children stand in the order of their numbers, so each once
-children-ascend : (P : Pattern) (i : ℕ) → Ascending _<_ (childrenOf P i)
+pub children-ascend : (P : Pattern) (i : ℕ) → Ascending _<_ (childrenOf P i)
 unfolding childrenOf
 children-ascend P i = ascending-keep _<_ (isChildOf P i) (upFrom 0 (length P)) (ascending-upFrom 0 (length P))
 
@@ -56,7 +56,7 @@ module _ {P Q : Pattern} (s : IsPatternTree P) (t : IsPatternTree Q) (r : Patter
           depth-child P s i z h ∙ ap suc (rest (patternParent P i) (omega arith) (omega arith)) ∙ ap (λ (x : ℕ). suc (depthOf Q x)) (sym (r .parents i h))
           ∙ sym (depth-child Q t (r .to i) (renumbered-not-root r i z h) (r .inside i h))
 
-  entry-same : (i : ℕ) → i < length P → entryAt P i ≡ entryAt Q (r .to i)
+  pub entry-same : (i : ℕ) → i < length P → entryAt P i ≡ entryAt Q (r .to i)
   entry-same i h =
       let f = r .fields i h in
       let g = tail-eq-of-cons-eq f in
@@ -64,7 +64,7 @@ module _ {P Q : Pattern} (s : IsPatternTree P) (t : IsPatternTree Q) (r : Patter
       let d : depthOf P i ≡ depthOf Q (r .to i) = depth-within (suc i) i (omega arith) h in
       λ x. record { depth = d x; label = sym (head-eq-of-cons-eq f) x; edge = sym (head-eq-of-cons-eq g) x; position = sym (head-eq-of-cons-eq k) x }
 
-  children-matched : (i : ℕ) → i < length P → Matched (r .to) (childrenOf P i) (childrenOf Q (r .to i))
+  pub children-matched : (i : ℕ) → i < length P → Matched (r .to) (childrenOf P i) (childrenOf Q (r .to i))
   children-matched i h =
       record {
         into = λ c m. (let e = child-elim P i c m in subst (λ (x : ℕ). List·Memᴰ (r .to c) (childrenOf Q x)) (r .parents c (e .1) ∙ ap (r .to) (e .2)) (child-intro Q (r .to c) (renumbered-not-root r c (e .0) (e .1)) (r .inside c (e .1))));
@@ -179,6 +179,17 @@ module _ (S : Summary) (f : SummaryFacts S) where
       (λ c d m l h. sibling-same i c d m l h) (children-ascend read i)))
       ∙ sym (preorder-whole read bySubtree summary-tree i h)
 
+  pub by-label-order : preorder byLabel (length (asPattern S)) (asPattern S) 0 ≡ preorder bySubtree (length (asPattern S)) (asPattern S) 0
+  by-label-order = preorder-same (length read) 0 (summary-tree .inhabited) (omega arith)
+
   pub by-label-alike : listed byLabel (asPattern S) ≡ listed bySubtree (asPattern S)
   unfolding listed
-  by-label-alike = ap (entries read) (preorder-same (length read) 0 (summary-tree .inhabited) (omega arith))
+  by-label-alike = ap (entries read) by-label-order
+
+-- ---- siblings in their order
+
+-- the children's subtrees go by what is written of them, of a selection
+pub siblings-ascend : (P : Pattern) (i : ℕ) → Ascending (λ a b. bySubtree (entries P a) (entries P b) ≡ true) (ordered (byWritten bySubtree P) (map (preorder bySubtree (length P) P) (childrenOf P i)))
+siblings-ascend P i =
+    ordered-ascends (byWritten bySubtree P) (λ a b. subtree-order .total (entries P a) (entries P b)) (λ a b c. subtree-order .trans (entries P a) (entries P b) (entries P c))
+    (map (preorder bySubtree (length P) P) (childrenOf P i))

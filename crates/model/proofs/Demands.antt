@@ -28,9 +28,9 @@ use Rattle.model.specs.Striking.{childless, mayGo, verdictWithout, Struc
 use Rattle.model.specs.Runs.{Call, ofOne, ofOther, given, after, receipts, talliesAfter, callsOf, receivedBy}
 use Rattle.model.specs.Facts.{SummaryFacts, PatternFacts, MemberFacts, CaseFacts}
 use Rattle.model.specs.Moving.{upgradeRefusal, downgradeRefusal, upgraded, downgraded, movedAccepted, movedCall, upgradeCall, downgradeCall}
-use Rattle.model.specs.Normal.{normaliseRefusal, normalised, normaliseCall}
+use Rattle.model.specs.Normal.{InOrder, normaliseRefusal, normalised, normaliseCall}
 use Rattle.model.specs.Demands.{TestTold, FitsTold, ResultTold, NodesTold, PathsTold, LayoutTold, SomeCounterExample, AllEmbeddingsPass, SomeEmbeddingFails, Shown, ReadsBack, Demand3, FitsAnswered, ResultAnswered, NodesAnswered, PathsAnswered, LayoutAnswered, ChargedAnswered, VerdictAnswered, TalliedAnswered, MayGo, Shortened, StruckTold, MinimiseAnswered, TalliedMinimised, Separated, Summed, MoveAnswered, UpgradeAnswered, DowngradeAnswered, Normalised, NormaliseAnswered}
-use Rattle.model.proofs.Normal.{accepted-normalise, normalise-accepted, normal-bytes, alike-exact, normal-twice, case-small}
+use Rattle.model.proofs.Normal.{accepted-normalise, normalise-accepted, normal-bytes, alike-exact, normal-twice, case-order, case-small}
 use Rattle.model.proofs.RenumberedVerdict.{same-kind}
 use Rattle.model.proofs.ListLaws.{and-intro, below-all, length-map-upFrom, getD-map-upFrom}
 use Rattle.model.proofs.ReturnNodes.{length-returnNodes}
@@ -40,7 +40,7 @@ use Rattle.model.proofs.Decision.{placed as placed-listed, listed-fits,
 use Rattle.model.proofs.Verdict.{Included, IsIncluded, IsNotIncluded, IsStopped, judge-included, judge-not-included, judge-stopped, few-included, few-not-included, more-stopped, more-never-included, not-included-iff, stopped-iff, included-or-not, not-or-stopped, verdict-judge, verdict-tried, verdict-shown}
 use Rattle.model.proofs.Refusals.{AllYes}
 use Rattle.model.proofs.CallFacts.{accepted-verdict, accepted-minimise, accepted-fits, accepted-result, accepted-nodes, accepted-paths, accepted-layout}
-use Rattle.model.proofs.CaseFacts.{selected-facts, labels-some, case-all-yes}
+use Rattle.model.proofs.CaseFacts.{selected-facts, labels-some, case-accepted, case-all-yes}
 use Rattle.model.proofs.Calls.{verdict-refused, verdict-accepted, minimise-refused, minimise-accepted, fits-refused, fits-accepted, result-refused, result-accepted, nodes-refused, nodes-accepted, paths-refused, paths-accepted, layout-refused, layout-accepted, length-counted, verdict-length}
 use Rattle.model.proofs.Bytes.{FitFields, front-none, length-document}
 use Rattle.model.proofs.Runs.{VerdictRun, verdict-joins, MinimiseRun, minimise-joins, separated, summed}
@@ -511,6 +511,7 @@ normalise-demand b small before e =
       size = n .size;
       whole = omega arith;
       buffer = ap (λ (o : CountOutcome). o .buffer) q;
+      inOrder = subst InOrder (sym (n .back)) (case-order (caseOf b) (case-accepted b (f .asked) .facts));
       again = n .accepted;
       renumbered = n .renumbered;
       alike = λ a s k. alike-exact a b s small (case-all-yes a k) (f .asked);

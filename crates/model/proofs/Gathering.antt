@@ -5,11 +5,11 @@ use Prim.Native.Nat.{ℕ, zero, suc, _+_, _-_, _≤_, _<_}
 use mathlib.Core.Path.{_≡_, refl, sym, ap, _∙_, subst}
 use mathlib.Core.Bool.{Bool, true, false, _&&_, and-false, true≢false}
 use mathlib.Core.Logic.{_⊎_, inl, inr}
-use mathlib.Core.List.{List, [], _∷_, _++_, map, flatMap, flatten, List·Memᴰ, List·Memᴰ·head, List·Memᴰ·tail, Memᴰ·of-map, append-nil, append-assoc, map-map}
+use mathlib.Core.List.{List, [], _∷_, _++_, map, flatMap, flatten, List·Memᴰ, List·Memᴰ·head, List·Memᴰ·tail, Memᴰ·of-map, map-map}
 use native.Mathlib.Omega.{arith}
 use native.Mathlib.Nat.{add-zero, zero-add}
 use lib.Dec.{eqb, ltb}
-use lib.ListN.{length, getD, take, drop}
+use lib.ListN.{length, getD}
 use borrow.Author.Tests.{eqb-true, eq-eqb, ne-eqb, lt-ltb}
 use Rattle.model.specs.Lists.{upFrom, keep, countOf}
 use Rattle.model.specs.Pattern.{Pattern, patternParent, IsPatternTree}
@@ -19,7 +19,7 @@ use Rattle.model.proofs.ListLaws.{and-intro, and-right, true-or-false, 
 use Rattle.model.proofs.KeepLaws.{keep-in, keep-out}
 use Rattle.model.proofs.Ordering.{after-cases, after-fails, after-same, after-less, after-greater, placed-first, placed-later, ordered-elim, ordered-map, count-placed}
 use Rattle.model.proofs.CountLaws.{count-append}
-use Rattle.model.proofs.Preorder.{depth-child, child-elim, child-later, preorder-whole, Headed, headed, map-flatten}
+use Rattle.model.proofs.Preorder.{depth-child, child-later, preorder-whole, Headed, headed, map-flatten}
 
 -- ---- comparing with the rest of a list
 

@@ -56,6 +56,7 @@ pub mod Preorder
 pub mod Gathering
 pub mod Numbering
 pub mod Alike
+pub mod InOrder
 pub mod Normal
 pub mod Demands
 pub mod Printed

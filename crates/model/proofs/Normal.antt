@@ -9,6 +9,7 @@ use lib.ListN.{length, getD, length-map, length-append, List·getD-map}
 use borrow.Author.Tests.{leb-true, le-leb}
 use lib.Seq.{ext-getD}
 use Rattle.model.specs.Limits.{minBuffer, maxPattern, summaryWidth, patternWidth}
+use Rattle.model.specs.Lists.{upFrom}
 use Rattle.model.specs.Tree.{Rooted, IsTree}
 use Rattle.model.specs.Summary.{SummaryRecord, Summary, noSummaryRecord, asDocument}
 use Rattle.model.specs.Pattern.{PatternRecord, Pattern, noPatternRecord, position, IsPatternTree}
@@ -16,17 +17,19 @@ use Rattle.model.specs.Facts.{SummaryFacts, CaseFacts}
 use Rattle.model.specs.Bytes.{AreBytes, Case, caseOf, summaryRecordAt, patternRecordAt, summaryFields, patternFields, sectionFields, setFields, caseFields, encodeCase}
 use Rattle.model.specs.Questions.{Question, ask, refusal, bufferLargeEnough, caseQuestions}
 use Rattle.model.specs.Renumbering.{SummaryRenumbering, PatternRenumbering, CaseRenumbering}
-use Rattle.model.specs.Normal.{listed, tableOf, byLabel, bySubtree, normalPattern, readAs, readBack, asPattern, asSummary, normalSummary, normalCase, normaliseRefusal, normalised}
-use Rattle.model.proofs.ListLaws.{mem-at, at-mem, getD-map, map-agree}
+use Rattle.model.specs.Normal.{Entry, preorder, tableOf, byLabel, bySubtree, normalPattern, readAs, readBack, asPattern, asSummary, normalSummary, normalCase, InOrder, normaliseRefusal, normalised}
+use Rattle.model.proofs.ListLaws.{at-mem, getD-map, map-agree}
 use Rattle.model.proofs.Refusals.{AllYes, refusal-none}
 use Rattle.model.proofs.CaseFacts.{case-accepted, all-asked}
 use Rattle.model.proofs.Bytes.{whole-case, length-bytes, pattern-readable, summary-readable, length-section}
 use Rattle.model.proofs.WriteBack.{encode-case}
-use Rattle.model.proofs.Renumbering.{renumbering-after, renumbering-back, record-asPattern, length-asPattern, summary-renumbering, pattern-renumbering, summary-rooted, rooted-summary, pattern-position, fields-back}
+use Rattle.model.proofs.Renumbering.{renumbering-after, renumbering-back, record-asPattern, length-asPattern, summary-renumbering, pattern-renumbering, rooted-summary, fields-back}
+use Rattle.model.proofs.RenumberedTables.{renumbered-summary-facts}
 use Rattle.model.proofs.RenumberedCase.{CaseTrees, case-trees, case-renumbering-after, case-renumbering-back}
 use Rattle.model.proofs.RenumberedBytes.{RenumberedBytes, renumbered-bytes}
-use Rattle.model.proofs.Numbering.{normal-renumbers, normal-tree, normal-length}
-use Rattle.model.proofs.Alike.{normal-alike, summary-tree, by-label-alike}
+use Rattle.model.proofs.Numbering.{normal-renumbers, normal-tree}
+use Rattle.model.proofs.Alike.{normal-alike, summary-tree, by-label-order, by-label-alike}
+use Rattle.model.proofs.InOrder.{normal-order}
 
 -- ---- selections
 
@@ -40,7 +43,7 @@ module _ (S : Summary) (f : SummaryFacts S) where
   -- an outline is written as the selection that it reads as
   by-subtree : normalSummary S ≡ asSummary (normalPattern (asPattern S))
   unfolding normalSummary normalPattern
-  by-subtree = ap (λ (es : List _). asSummary (tableOf es)) (by-label-alike S f)
+  by-subtree = ap (λ (es : List Entry). asSummary (tableOf es)) (by-label-alike S f)
 
   abbrev written : Pattern
   written = normalPattern (asPattern S)
@@ -80,6 +83,17 @@ module _ (S : Summary) (f : SummaryFacts S) where
             earlier = λ i z h. subst (λ (r : SummaryRecord). r .parent < i) (sym (read i)) (t .earlier i z (omega arith));
           }
 
+  pub summary-normal-facts : SummaryFacts (normalSummary S)
+  summary-normal-facts = renumbered-summary-facts summary-renumbers f summary-normal-tree
+
+  -- it is in order, by label
+  pub summary-order : preorder byLabel (length (normalSummary S)) (asPattern (normalSummary S)) 0 ≡ upFrom 0 (length (normalSummary S))
+  summary-order =
+      let n : length (asPattern (normalSummary S)) ≡ length (normalSummary S) = length-asPattern (normalSummary S) in
+      let same : asPattern (normalSummary S) ≡ written = ap asPattern by-subtree ∙ reads-again in
+      ap (λ (k : ℕ). preorder byLabel k (asPattern (normalSummary S)) 0) (sym n) ∙ by-label-order (normalSummary S) summary-normal-facts
+      ∙ ap (λ (P : Pattern). preorder bySubtree (length P) P 0) same ∙ normal-order (asPattern S) (summary-tree S f) ∙ ap (λ (P : Pattern). upFrom 0 (length P)) (sym same) ∙ ap (upFrom 0) n
+
 pub summary-alike : (S T : Summary) → SummaryFacts S → SummaryFacts T → SummaryRenumbering S T → normalSummary S ≡ normalSummary T
 summary-alike S T f g r = by-subtree S f ∙ ap asSummary (normal-alike (summary-tree S f) (summary-tree T g) (pattern-renumbering S T r)) ∙ sym (by-subtree T g)
 
@@ -109,6 +123,18 @@ module _ (c : Case) (f : CaseFacts c) where
         members = λ i h. (
             let inside : i < length (c .members) = subst (λ (n : ℕ). i < n) (length-map (c .members) normalPattern) h in
             subst IsPatternTree (sym (member i inside)) (normal-tree (getD (c .members) i []) (case-trees f .members i inside))
+            );
+      }
+
+  pub case-order : InOrder (normalCase c)
+  unfolding normalCase
+  case-order =
+      record {
+        summary = summary-order (c .summary) (f .summary);
+        first = normal-order (c .first) (f .first .tree);
+        members = λ i h. (
+            let inside : i < length (c .members) = subst (λ (n : ℕ). i < n) (length-map (c .members) normalPattern) h in
+            subst (λ (P : Pattern). preorder bySubtree (length P) P 0 ≡ upFrom 0 (length P)) (sym (member i inside)) (normal-order (getD (c .members) i []) (case-trees f .members i inside))
             );
       }
 

@@ -11,12 +11,11 @@ use lib.Dec.{eqb}
 use lib.ListN.{length, getD, drop, length-map, length-drop}
 use borrow.Author.Tests.{eqb-true, eqb-false, eq-eqb, ne-eqb}
 use Rattle.model.specs.Lists.{upFrom, countOf, firstOf}
-use Rattle.model.specs.Tree.{Rooted}
 use Rattle.model.specs.Pattern.{PatternRecord, Pattern, noPatternRecord, patternParent, IsPatternTree}
 use Rattle.model.specs.Renumbering.{patternOthers, PatternRenumbering}
 use Rattle.model.specs.Normal.{ordered, depthOf, Entry, noEntry, entryAt, entries, bySubtree, byWritten, childrenOf, preorder, listed, lastAt, recordOf, tableOf, normalPattern}
 use Rattle.model.specs.Gathering.{gathered}
-use Rattle.model.proofs.ListLaws.{mem-at, at-mem, drop-begins, getD-map, length-map-upFrom, getD-map-upFrom, upFrom-mem, mem-upFrom, first-hit}
+use Rattle.model.proofs.ListLaws.{mem-at, drop-begins, getD-map, length-map-upFrom, getD-map-upFrom, upFrom-mem, mem-upFrom, first-hit}
 use Rattle.model.proofs.Counting.{pigeonhole}
 use Rattle.model.proofs.CountLaws.{some-count, count-once}
 use Rattle.model.proofs.Ordering.{ordered-elim}
@@ -116,7 +115,7 @@ module _ (P : Pattern) (t : IsPatternTree P) where
       omega arith
 
   -- the nodes in preorder
-  abbrev order : List ℕ
+  abbrev pub order : List ℕ
   order = preorder bySubtree (length P) P 0
 
   once : (j : ℕ) → j < length P → countOf (is j) order ≡ 1
@@ -129,7 +128,7 @@ module _ (P : Pattern) (t : IsPatternTree P) where
       ap (countOf (is j)) (sym (gathered-whole P t 0 1 (t .inhabited) (omega arith))) ∙ omega arith
 
   -- and nothing else
-  inside-within : (n i x : ℕ) → i < length P → length P ≤ n + i → List·Memᴰ x (preorder bySubtree (length P) P i) → x < length P
+  pub inside-within : (n i x : ℕ) → i < length P → length P ≤ n + i → List·Memᴰ x (preorder bySubtree (length P) P i) → x < length P
   inside-within zero i x h k m = absurd (omega arith)
   inside-within (suc n) i x h k m =
       go (List·Memᴰ·cases-cons (subst (λ (o : List ℕ). List·Memᴰ x o) (preorder-whole P bySubtree t i h) m))
@@ -318,11 +317,11 @@ table-tree es z =
     record {
       inhabited = omega arith;
       root = root;
-      earlier = λ i p h. subst (λ (r : PatternRecord). r .parent < i) (sym (table-record es i (omega arith))) (last-below es (getD es i noEntry .depth - 1) i p);
+      earlier = λ i p h. subst (λ (r : PatternRecord). r .parent < i) (sym (table-record es i (omega arith))) (last-below es _ i p);
     }
   where
     root : patternParent (tableOf es) 0 ≡ 0
-    root = ap (λ (r : PatternRecord). r .parent) (table-record es 0 z) ∙ last-none es (getD es 0 noEntry .depth - 1)
+    root = ap (λ (r : PatternRecord). r .parent) (table-record es 0 z) ∙ last-none es _
 
 module _ (P : Pattern) (t : IsPatternTree P) where
   -- the list of entries in preorder
@@ -384,6 +383,11 @@ module _ (P : Pattern) (t : IsPatternTree P) where
   pub normal-tree : IsPatternTree (normalPattern P)
   unfolding normalPattern listed
   normal-tree = let s = size in let l = t .inhabited in table-tree es (omega arith)
+
+  -- a node's new number is its place in the list
+  pub normal-place : (k : ℕ) → k < length (order P t) → normal-renumbers .to (getD (order P t) k 0) ≡ k
+  unfolding normal-renumbers
+  normal-place k h = place-back P t k h
 
   pub normal-length : length (normalPattern P) ≡ length P
   unfolding normalPattern listed

@@ -1,15 +1,16 @@
 -- Laws of lists compared at the first difference, and of lists put in order: what is put in order does not depend on the order in which it
 -- came. Assumes nothing.
-use Prim.Native.Nat.{ℕ, zero, suc, _+_, _≤_, _<_}
-use mathlib.Core.Path.{_≡_, refl, sym, ap, _∙_, subst}
+use Prim.Native.Nat.{ℕ, suc, _+_, _≤_, _<_}
+use mathlib.Core.Path.{_≡_, refl, sym, ap, ap₂, _∙_, subst}
 use mathlib.Core.Bool.{Bool, true, false, true≢false, false≢true}
-use mathlib.Core.Logic.{_⊎_, inl, inr}
+use mathlib.Core.Logic.{_⊎_, inl, inr, _↔_}
 use mathlib.Core.List.{List, [], _∷_, _++_, map, flatMap, flatten, List·Memᴰ, List·Memᴰ·head, List·Memᴰ·tail, List·Memᴰ·not-nil, List·Memᴰ·cases-cons, List·Memᴰ·append-cases, Memᴰ·append-left, Memᴰ·append-right, map-append, head-eq-of-cons-eq, tail-eq-of-cons-eq, nil≢cons}
 use native.Mathlib.Omega.{arith}
 use lib.Dec.{eqb, ltb}
+use lib.ListN.{length}
 use borrow.Author.Tests.{eqb-true, eqb-false, eq-eqb, ne-eqb, ltb-true, ltb-false, lt-ltb, le-ltb}
 use Rattle.model.specs.Lists.{Ascending, countOf}
-use Rattle.model.specs.Normal.{notAfter, placed, ordered, Entry, entryNumbers, bySubtree}
+use Rattle.model.specs.Normal.{notAfter, NotAfter, goesOn, differs, placed, ordered, Entry, entryNumbers, bySubtree}
 use Rattle.model.proofs.ListLaws.{by-bool, not-both}
 use Rattle.model.proofs.KeepLaws.{no-members}
 use Rattle.model.proofs.CountLaws.{count-append}
@@ -47,6 +48,36 @@ module _ (x y : ℕ) (xs ys : List ℕ) where
       go : (t : Bool) → eqb x y ≡ t → (elim t as (λ _. Bool) [ true ↦ notAfter xs ys | false ↦ ltb x y ]) ≡ false → (y < x) ⊎ ((x ≡ y) × (notAfter xs ys ≡ false))
       go true q e′ = inr (eqb-true x y q, e′)
       go false q e′ = let l : y ≤ x = ltb-false x y e′ in let ne : (x ≡ y) → ⊥ = eqb-false x y q in inl (omega arith)
+
+-- the test says what it is to say
+pub after-exact : (xs ys : List ℕ) → (notAfter xs ys ≡ true) ↔ NotAfter xs ys
+unfolding notAfter
+after-exact xs ys = (sound xs ys, complete xs ys)
+  where
+    next : (x y : ℕ) (us vs : List ℕ) → x ≡ y → NotAfter us vs → NotAfter (x ∷ us) (y ∷ vs)
+    next x y us vs e (goesOn rest q) = goesOn rest (cc (sym e, q))
+    next x y us vs e (differs front k l ks ls p q h) = differs (x ∷ front) k l ks ls (ap (λ (zs : List ℕ). x ∷ zs) p) (cc (sym e, q)) h
+
+    sound : (us vs : List ℕ) → notAfter us vs ≡ true → NotAfter us vs
+    sound [] vs e = goesOn vs refl
+    sound (x ∷ us) [] e = absurd (false≢true e)
+    sound (x ∷ us) (y ∷ vs) e = go (after-cases x y us vs e) (λ p. sound us vs p)
+      where
+        go : (x < y) ⊎ ((x ≡ y) × (notAfter us vs ≡ true)) → (notAfter us vs ≡ true → NotAfter us vs) → NotAfter (x ∷ us) (y ∷ vs)
+        go (inl h) rest = differs [] x y us vs refl refl h
+        go (inr p) rest = next x y us vs (p .0) (rest (p .1))
+
+    before : (us rest : List ℕ) → notAfter us (us ++ rest) ≡ true
+    before [] rest = refl
+    before (x ∷ us) rest = after-same x x us (us ++ rest) refl ∙ before us rest
+
+    less : (front : List ℕ) (x y : ℕ) (us vs : List ℕ) → x < y → notAfter (front ++ x ∷ us) (front ++ y ∷ vs) ≡ true
+    less [] x y us vs h = after-less x y us vs h
+    less (z ∷ front) x y us vs h = after-same z z (front ++ x ∷ us) (front ++ y ∷ vs) refl ∙ less front x y us vs h
+
+    complete : (us vs : List ℕ) → NotAfter us vs → notAfter us vs ≡ true
+    complete us vs (goesOn rest q) = ap (notAfter us) q ∙ before us rest
+    complete us vs (differs front x y ks ls p q h) = ap₂ notAfter p q ∙ less front x y ks ls h
 
 -- of two lists one does not come after the other
 pub after-total : (xs ys : List ℕ) → notAfter xs ys ≡ false → notAfter ys xs ≡ true
@@ -120,6 +151,10 @@ subtree-order =
 -- ---- put in order
 
 module _ {A : Type 0} (by : A → A → Bool) where
+  placed-end : {x : A} → placed by x [] ≡ x ∷ []
+  unfolding placed
+  placed-end = refl
+
   pub placed-first : (x y : A) (ys : List A) → by x y ≡ true → placed by x (y ∷ ys) ≡ x ∷ y ∷ ys
   unfolding placed
   placed-first x y ys e = rw (e, placed) refl
@@ -159,6 +194,91 @@ module _ {A : Type 0} (by : A → A → Bool) where
       go : (y ≡ x) ⊎ List·Memᴰ y (ordered by xs) → (List·Memᴰ y (ordered by xs) → List·Memᴰ y xs) → List·Memᴰ y (x ∷ xs)
       go (inl e) rest = List·Memᴰ·head e
       go (inr n) rest = List·Memᴰ·tail (rest n)
+
+  -- and what stood in it, and x, still stand
+  placed-intro : (x y : A) (ys : List A) → (y ≡ x) ⊎ List·Memᴰ y ys → List·Memᴰ y (placed by x ys)
+  unfolding placed
+  placed-intro x y [] (inl e) = List·Memᴰ·head e
+  placed-intro x y [] (inr m) = absurd (List·Memᴰ·not-nil m)
+  placed-intro x y (z ∷ zs) s = go (by x z) s (λ q. placed-intro x y zs q)
+    where
+      at : (y ≡ x) ⊎ List·Memᴰ y (z ∷ zs) → List·Memᴰ y (x ∷ z ∷ zs)
+      at (inl e) = List·Memᴰ·head e
+      at (inr m) = List·Memᴰ·tail m
+
+      among : (y ≡ z) ⊎ List·Memᴰ y zs → ((y ≡ x) ⊎ List·Memᴰ y zs → List·Memᴰ y (placed by x zs)) → List·Memᴰ y (z ∷ placed by x zs)
+      among (inl e) rest = List·Memᴰ·head e
+      among (inr m) rest = List·Memᴰ·tail (rest (inr m))
+
+      later : (y ≡ x) ⊎ List·Memᴰ y (z ∷ zs) → ((y ≡ x) ⊎ List·Memᴰ y zs → List·Memᴰ y (placed by x zs)) → List·Memᴰ y (z ∷ placed by x zs)
+      later (inl e) rest = List·Memᴰ·tail (rest (inl e))
+      later (inr m) rest = among (List·Memᴰ·cases-cons m) rest
+
+      go : (t : Bool) → (y ≡ x) ⊎ List·Memᴰ y (z ∷ zs) → ((y ≡ x) ⊎ List·Memᴰ y zs → List·Memᴰ y (placed by x zs))
+          → List·Memᴰ y (elim t as (λ _. List A) [ true ↦ x ∷ z ∷ zs | false ↦ z ∷ placed by x zs ])
+      go true q rest = at q
+      go false q rest = later q rest
+
+  pub ordered-intro : (y : A) (xs : List A) → List·Memᴰ y xs → List·Memᴰ y (ordered by xs)
+  unfolding ordered
+  ordered-intro y [] m = m
+  ordered-intro y (x ∷ xs) m = placed-intro x y (ordered by xs) (go (List·Memᴰ·cases-cons m) (λ p. ordered-intro y xs p))
+    where
+      go : (y ≡ x) ⊎ List·Memᴰ y xs → (List·Memᴰ y xs → List·Memᴰ y (ordered by xs)) → (y ≡ x) ⊎ List·Memᴰ y (ordered by xs)
+      go (inl e) rest = inl e
+      go (inr n) rest = inr (rest n)
+
+  -- what ascends already stays as it is
+  pub ordered-already : (xs : List A) → Ascending (λ x y. by x y ≡ true) xs → ordered by xs ≡ xs
+  unfolding ordered
+  ordered-already [] a = refl
+  ordered-already (x ∷ xs) a = ap (placed by x) (ordered-already xs (a .1)) ∙ first xs (a .0)
+    where
+      first : (ys : List A) → ((y : A) → List·Memᴰ y ys → by x y ≡ true) → placed by x ys ≡ x ∷ ys
+      first [] h = placed-end
+      first (y ∷ ys) h = placed-first x y ys (h y (List·Memᴰ·head refl))
+
+  -- it is neither more nor less
+  placed-length : (x : A) (ys : List A) → length (placed by x ys) ≡ suc (length ys)
+  unfolding placed
+  placed-length x [] = refl
+  placed-length x (y ∷ ys) = go (by x y) (placed-length x ys)
+    where
+      go : (t : Bool) → length (placed by x ys) ≡ suc (length ys) → length {A = A} (elim t as (λ _. List A) [ true ↦ x ∷ y ∷ ys | false ↦ y ∷ placed by x ys ]) ≡ suc (suc (length ys))
+      go true e = refl
+      go false e = ap suc e
+
+  pub ordered-length : (xs : List A) → length (ordered by xs) ≡ length xs
+  unfolding ordered
+  ordered-length [] = refl
+  ordered-length (x ∷ xs) = placed-length x (ordered by xs) ∙ ap suc (ordered-length xs)
+
+  -- and ascends
+  module _ (total : (x y : A) → by x y ≡ false → by y x ≡ true) (trans : (x y z : A) → by x y ≡ true → by y z ≡ true → by x z ≡ true) where
+    abbrev Goes : A → A → Type 0
+    Goes x y = by x y ≡ true
+
+    placed-ascends : (x : A) (ys : List A) → Ascending Goes ys → Ascending Goes (placed by x ys)
+    unfolding placed
+    placed-ascends x [] a = (λ y m. absurd (List·Memᴰ·not-nil m), tt)
+    placed-ascends x (y ∷ ys) a = go (by x y) refl (placed-ascends x ys (a .1))
+      where
+        first : by x y ≡ true → (z : A) → (z ≡ y) ⊎ List·Memᴰ z ys → Goes x z
+        first q z (inl e) = ap (by x) e ∙ q
+        first q z (inr m) = trans x y z q (a .0 z m)
+
+        later : by x y ≡ false → (z : A) → (z ≡ x) ⊎ List·Memᴰ z ys → Goes y z
+        later q z (inl e) = ap (by y) e ∙ total x y q
+        later q z (inr m) = a .0 z m
+
+        go : (t : Bool) → by x y ≡ t → Ascending Goes (placed by x ys) → Ascending Goes (elim t as (λ _. List A) [ true ↦ x ∷ y ∷ ys | false ↦ y ∷ placed by x ys ])
+        go true q rest = (λ z m. first q z (List·Memᴰ·cases-cons m), a)
+        go false q rest = (λ z m. later q z (placed-elim x z ys m), rest)
+
+    pub ordered-ascends : (xs : List A) → Ascending Goes (ordered by xs)
+    unfolding ordered
+    ordered-ascends [] = tt
+    ordered-ascends (x ∷ xs) = placed-ascends x (ordered by xs) (ordered-ascends xs)
 
   -- two that are put in one after the other, in either order
   module _ (o : Order by) where

@@ -1,17 +1,17 @@
 -- Laws of depth, of children and of a subtree in preorder, without their bounds on steps; and that a subtree's list begins with its root's
 -- entry, all others being deeper. Assumes nothing.
-use Prim.Native.Nat.{ℕ, zero, suc, _+_, _-_, _≤_, _<_}
+use Prim.Native.Nat.{ℕ, zero, suc, _+_, _≤_, _<_}
 use mathlib.Core.Path.{_≡_, refl, sym, ap, _∙_, subst}
-use mathlib.Core.Bool.{Bool, true, false, _&&_}
+use mathlib.Core.Bool.{Bool}
 use mathlib.Core.Logic.{_⊎_, inl, inr}
 use mathlib.Core.List.{List, [], _∷_, _++_, map, flatten, List·Memᴰ, List·Memᴰ·head, List·Memᴰ·tail, List·Memᴰ·not-nil, List·Memᴰ·cases-cons, List·Memᴰ·append-cases, Memᴰ·of-map, map-append, map-map}
 use native.Mathlib.Omega.{arith}
 use lib.Dec.{eqb, ltb}
-use lib.ListN.{length, getD}
+use lib.ListN.{length}
 use borrow.Author.Tests.{eqb-true, eq-eqb, ne-eqb, ltb-true, lt-ltb}
-use Rattle.model.specs.Lists.{upFrom, keep}
+use Rattle.model.specs.Lists.{upFrom}
 use Rattle.model.specs.Pattern.{Pattern, patternParent, IsPatternTree}
-use Rattle.model.specs.Normal.{ordered, depthFrom, depthOf, Entry, entryAt, entries, isChildOf, childrenOf, byWritten, preorder, listed}
+use Rattle.model.specs.Normal.{ordered, depthFrom, depthOf, Entry, entryAt, entries, isChildOf, childrenOf, byWritten, preorder}
 use Rattle.model.proofs.ListLaws.{and-intro, and-left, and-right, map-agree, keep-intro, keep-elim, upFrom-mem, mem-upFrom}
 use Rattle.model.proofs.Ordering.{ordered-elim, ordered-map}
 

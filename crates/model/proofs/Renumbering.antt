@@ -9,7 +9,7 @@ use native.Mathlib.Omega.{arith}
 use lib.ListN.{length, getD, length-map, List·getD-map}
 use Rattle.model.specs.Lists.{countOf}
 use Rattle.model.specs.Tree.{Rooted, DocumentRecord, IsTree}
-use Rattle.model.specs.Summary.{Summary, SummaryRecord, noSummaryRecord, withoutStrong, asDocument, summaryParent, summaryLabel}
+use Rattle.model.specs.Summary.{Summary, noSummaryRecord, withoutStrong, asDocument, summaryParent, summaryLabel}
 use Rattle.model.specs.Pattern.{Pattern, PatternRecord, noPatternRecord}
 use Rattle.model.specs.Renumbering.{Renumbering, patternOthers, SummaryRenumbering, PatternRenumbering}
 use Rattle.model.specs.Normal.{readAs, asPattern}

@@ -20,6 +20,7 @@ use Rattle.model.specs.Bytes.{caseOf}
 use Rattle.model.specs.Striking.{strikeAll}
 use Rattle.model.specs.OldForm.{oldQuestions}
 use Rattle.model.specs.Moving.{upgradeRefusal, downgradeRefusal}
+use Rattle.model.specs.Normal.{normaliseRefusal}
 use Rattle.model.specs.Questions.{Question, refusal, caseQuestions, limitInRange, chargedQuestions, ask, verdictRefusal, minimiseRefusal}
 use Rattle.model.proofs.ListLaws.{true-or-false, length-upFrom, upFrom-mem}
 use Rattle.model.proofs.Refusals.{refusal-yes, refusal-no}
@@ -379,16 +380,16 @@ order-refused-small b = let m = minimise-most b maxLimit programCaller (tallyOf 
 pub first-fits : (words : List ℕ) (n : ℕ) → length words ≤ 12 → n ≤ maxLimit → length (firstLines words n) ≤ maxText
 first-fits words n w h = let e = first-small words n h in omega arith
 
--- ---- what the programs that move a case write
+-- ---- what the programs that write a case write
 
-module _ (refused : ℕ) (moved : List ℕ) where
-  pub told-refused : refused ≢ 0 → told refused moved ≡ record { stream = 2; bytes = refusedText refused }
+module _ (refused : ℕ) (written : List ℕ) where
+  pub told-refused : refused ≢ 0 → told refused written ≡ record { stream = 2; bytes = refusedText refused }
   unfolding told
-  told-refused f = chosen-refused {A = Told} refused (record { stream = 1; bytes = moved }) (record { stream = 2; bytes = refusedText refused }) f
+  told-refused f = chosen-refused {A = Told} refused (record { stream = 1; bytes = written }) (record { stream = 2; bytes = refusedText refused }) f
 
-  pub told-accepted : refused ≡ 0 → told refused moved ≡ record { stream = 1; bytes = moved }
+  pub told-accepted : refused ≡ 0 → told refused written ≡ record { stream = 1; bytes = written }
   unfolding told
-  told-accepted e = chosen-accepted {A = Told} refused (record { stream = 1; bytes = moved }) (record { stream = 2; bytes = refusedText refused }) e
+  told-accepted e = chosen-accepted {A = Told} refused (record { stream = 1; bytes = written }) (record { stream = 2; bytes = refusedText refused }) e
 
 pub upgrade-most : (b : List ℕ) (bufferBytes : ℕ) → upgradeRefusal b bufferBytes ≤ 15
 unfolding upgradeRefusal oldQuestions
@@ -399,3 +400,8 @@ pub downgrade-most : (b : List ℕ) (bufferBytes : ℕ) → downgradeRefusal b b
 unfolding downgradeRefusal caseQuestions
 downgrade-most b bufferBytes =
     refusal-most 15 _ (omega arith, (omega arith, (omega arith, (omega arith, (omega arith, (omega arith, (omega arith, (omega arith, (omega arith, tt)))))))))
+
+pub normalise-most : (b : List ℕ) (bufferBytes : ℕ) → normaliseRefusal b bufferBytes ≤ 15
+unfolding normaliseRefusal caseQuestions
+normalise-most b bufferBytes =
+    refusal-most 15 _ (omega arith, (omega arith, (omega arith, (omega arith, (omega arith, (omega arith, (omega arith, (omega arith, tt))))))))

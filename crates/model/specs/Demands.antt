@@ -21,7 +21,7 @@ use Rattle.model.specs.Striking.{verdictWithout, Struck, strikeAll, Mini
 use Rattle.model.specs.Runs.{Call, receipts, talliesAfter, callsOf, receivedBy, triedOver}
 use Rattle.model.specs.OldForm.{SetOfOne}
 use Rattle.model.specs.Renumbering.{CaseRenumbering}
-use Rattle.model.specs.Normal.{normaliseRefusal, normalised, normaliseCall}
+use Rattle.model.specs.Normal.{InOrder, normaliseRefusal, normalised, normaliseCall}
 use Rattle.model.specs.Moving.{upgradeRefusal, downgradeRefusal, upgraded, downgraded, movedAccepted, movedCall, upgradeCall, downgradeCall}
 
 -- ---- Demand 1
@@ -252,6 +252,8 @@ pub record Normalised (b before : List ℕ) (o : CountOutcome) : Type 0 where
   pub size : length (normalised b) ≡ length b
   pub whole : length b ≤ length before
   pub buffer : o .buffer ≡ writtenAtFront (normalised b) before
+  -- every tree is in preorder, outline siblings by label and selection siblings by their subtrees
+  pub inOrder : InOrder (caseOf (normalised b))
   -- it is an accepted case, and a renumbering of what was given
   pub again : refusal (caseQuestions (normalised b)) ≡ 0
   pub renumbered : CaseRenumbering (caseOf b) (caseOf (normalised b))

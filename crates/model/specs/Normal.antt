@@ -1,8 +1,9 @@
 -- One way of writing a case (document 02, #106): every tree in preorder, siblings in one order, and the whole outcome of the call that
 -- writes it so.
-use Prim.Native.Nat.{ℕ, zero, suc, _-_}
+use Prim.Native.Nat.{ℕ, zero, suc, _-_, _<_}
+use mathlib.Core.Path.{_≡_}
 use mathlib.Core.Bool.{Bool, true, false, _&&_}
-use mathlib.Core.List.{List, [], _∷_, map, flatMap, flatten}
+use mathlib.Core.List.{List, [], _∷_, _++_, map, flatMap, flatten}
 use lib.Dec.{eqb, leb, ltb}
 use lib.ListN.{length, getD}
 use Rattle.model.specs.Lists.{upFrom, keep}
@@ -20,6 +21,11 @@ unfoldable pub notAfter : List ℕ → List ℕ → Bool
 notAfter [] ys = true
 notAfter (x ∷ xs) [] = false
 notAfter (x ∷ xs) (y ∷ ys) = elim (eqb x y) [ true ↦ notAfter xs ys | false ↦ ltb x y ]
+
+-- and declaratively: ys goes on from xs, or xs has the smaller number at the first place where they differ
+pub data NotAfter (xs ys : List ℕ) : Type 0 where
+  goesOn : (rest : List ℕ) → ys ≡ xs ++ rest → NotAfter xs ys
+  differs : (front : List ℕ) (x y : ℕ) (us vs : List ℕ) → xs ≡ front ++ x ∷ us → ys ≡ front ++ y ∷ vs → x < y → NotAfter xs ys
 
 module _ {A : Type 0} (by : A → A → Bool) where
   -- x before the first that it does not come after
@@ -134,6 +140,12 @@ normalSummary S = asSummary (tableOf (listed byLabel (asPattern S)))
 -- a case as it is written: the set keeps its order
 unfoldable pub normalCase : Case → Case
 normalCase c = record { summary = normalSummary (c .summary); first = normalPattern (c .first); members = map normalPattern (c .members) }
+
+-- every tree of a case is in preorder, siblings in their order: so gone through, its nodes are 0, 1, 2 and so on
+pub record InOrder (c : Case) : Type 0 where
+  pub summary : preorder byLabel (length (c .summary)) (asPattern (c .summary)) 0 ≡ upFrom 0 (length (c .summary))
+  pub first : preorder bySubtree (length (c .first)) (c .first) 0 ≡ upFrom 0 (length (c .first))
+  pub members : (i : ℕ) → i < length (c .members) → preorder bySubtree (length (getD (c .members) i [])) (getD (c .members) i []) 0 ≡ upFrom 0 (length (getD (c .members) i []))
 
 -- ---- The call
 

@@ -16,6 +16,7 @@ use laying::laid::NodeRecord;
 use laying::laid::laid_out;
 use moving::downgrade::downgrade_call;
 use moving::upgrade::upgrade_call;
+use normalising::normalise_call;
 use read::Head;
 use striking::minimise_call;
 
@@ -102,6 +103,12 @@ fn run_upgrade(case: &[u8], answer: &mut [u8]) {
 fn run_downgrade(case: &[u8], answer: &mut [u8]) {
     let r = downgrade_call(case, answer);
     print::word(b"downgrade");
+    print_count(r.refused, r.count, answer);
+}
+
+fn run_normalise(case: &[u8], answer: &mut [u8]) {
+    let r = normalise_call(case, answer);
+    print::word(b"normalise");
     print_count(r.refused, r.count, answer);
 }
 
@@ -193,7 +200,11 @@ fn with_buffer(h: Head, case: &[u8], document: &[u8], answer: &mut [u8]) {
         run_downgrade(case, answer);
         return;
     }
-    run_minimise(h, case, answer);
+    if call == 9 {
+        run_minimise(h, case, answer);
+        return;
+    }
+    run_normalise(case, answer);
 }
 
 // A buffer filled with a pattern is lent. A length beyond the room here is cut to it.

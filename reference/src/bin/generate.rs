@@ -1,10 +1,11 @@
 //! `generate boundaries`, `generate stored`, `generate random SEED COUNT`,
 //! `generate cases SEED COUNT`, `generate layouts SEED COUNT`, `generate many SEED
-//! COUNT` and `generate strikes SEED COUNT` write test vectors to standard output.
+//! COUNT`, `generate strikes SEED COUNT` and `generate normals SEED COUNT` write test
+//! vectors to standard output.
 
 #![forbid(unsafe_code)]
 
-use reference::generate::{boundaries, cases, layouts, many, random, stored, strikes};
+use reference::generate::{boundaries, cases, layouts, many, normals, random, stored, strikes};
 use reference::vectors::Vector;
 use std::io::{self, Write};
 use std::process::ExitCode;
@@ -15,7 +16,8 @@ const USAGE: &str = "usage: generate boundaries
        generate cases SEED COUNT
        generate layouts SEED COUNT
        generate many SEED COUNT
-       generate strikes SEED COUNT";
+       generate strikes SEED COUNT
+       generate normals SEED COUNT";
 
 fn main() -> ExitCode {
     let words: Vec<String> = std::env::args().skip(1).collect();
@@ -28,6 +30,7 @@ fn main() -> ExitCode {
         ["layouts", seed, count] => seeded(seed, count, layouts),
         ["many", seed, count] => seeded(seed, count, many),
         ["strikes", seed, count] => seeded(seed, count, strikes),
+        ["normals", seed, count] => seeded(seed, count, normals),
         _ => None,
     };
     match vectors {

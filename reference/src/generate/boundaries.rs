@@ -1,8 +1,9 @@
-//! Every boundary of every question, through all nine calls.
+//! Every boundary of every question, through all ten calls.
 
 use super::callers;
 use super::changes::{changes, lone_changes, long_changes, tallies, Change};
 use super::layouts::layouts;
+use super::normals;
 use super::plan::{questions, OutlineRow, Plan, SelectionRow, CALLS, MOVES, TALLIED};
 use super::strikes;
 use crate::calls::CALLERS;
@@ -32,7 +33,8 @@ pub fn boundaries() -> Vec<Vector> {
 }
 
 /// Few and short enough to be stored: what is not broken or broken singly,
-/// some pairs and cuts, a few layouts, and orders to be shortened.
+/// some pairs and cuts, a few layouts, orders to be shortened, and cases to be
+/// written in one way.
 pub fn stored() -> Vec<Vector> {
     const BYTES: usize = 900;
     const PAIRS: usize = 63;
@@ -50,6 +52,7 @@ pub fn stored() -> Vec<Vector> {
     out.retain(|vector| vector.case.len() + vector.volume.len() < BYTES);
     out.extend(layouts(1, 20));
     out.extend(strikes::fixed());
+    out.extend(normals::fixed());
     let mut out = callers::by_turns(out);
     out.extend(tallies_of_each());
     out

@@ -1,6 +1,9 @@
 //! What the answers mean, tried on random plans: a verdict's answer against
 //! fitting volumes, and the calls against each other.
 
+use super::alike::alike;
+use super::cases;
+use super::normals::{self, altered_case, normals, renumbered_case};
 use super::plan::{put_fields, put_section, Plan, SelectionRow, Set};
 use super::prng::Prng;
 use super::random::{around_embedding, random, result, selections};
@@ -9,7 +12,7 @@ use super::strikes;
 use super::trees;
 use crate::calls::{INCLUDED, NOT_INCLUDED, STOPPED};
 use crate::old::read_old_case;
-use crate::records::{holder, read_case};
+use crate::records::{holder, read_case, Case};
 use crate::trials::{count_placements, each_placement, lay_out};
 use crate::vectors::UPGRADE;
 use crate::*;
@@ -200,14 +203,14 @@ fn with_one_position_the_nodes_are_the_results() {
     assert!(seen > 100);
 }
 
-/// What a call that moves a case writes, or its refusal.
-fn moved(call: fn(&[u8], &mut [u8]) -> CountAnswer, case: &[u8]) -> Result<Vec<u8>, u64> {
+/// What a call that writes a case writes, or its refusal.
+fn written(call: fn(&[u8], &mut [u8]) -> CountAnswer, case: &[u8]) -> Result<Vec<u8>, u64> {
     let mut answer = [0xAA; 4_096];
     let got = call(case, &mut answer);
-    let (written, rest) = answer.split_at(got.count as usize);
+    let (bytes, rest) = answer.split_at(got.count as usize);
     assert!(rest.iter().all(|&byte| byte == 0xAA));
     match got.refused {
-        0 => Ok(written.to_vec()),
+        0 => Ok(bytes.to_vec()),
         refused => Err(refused),
     }
 }
@@ -219,16 +222,16 @@ fn there_and_back_gives_the_same_bytes() {
     let (mut over, mut back) = (0, 0);
     for vector in random(16, 8_000) {
         let case = vector.case;
-        if let Ok(new) = moved(upgrade, &case) {
-            assert_eq!(moved(downgrade, &new), Ok(case.clone()));
+        if let Ok(new) = written(upgrade, &case) {
+            assert_eq!(written(downgrade, &new), Ok(case.clone()));
             assert_eq!(new.len(), case.len() + 2);
             let read = read_old_case(&case).map(|old| old.with_set_of_one());
             assert_eq!(read_case(&new), read);
             over += 1;
         }
-        if let Ok(old) = moved(downgrade, &case) {
-            assert_eq!(moved(upgrade, &old), Ok(case.clone()));
-            assert_eq!(moved(upgrade, &case), Err(3));
+        if let Ok(old) = written(downgrade, &case) {
+            assert_eq!(written(upgrade, &old), Ok(case.clone()));
+            assert_eq!(written(upgrade, &case), Err(3));
             back += 1;
         }
     }
@@ -243,7 +246,7 @@ fn an_old_case_moved_over_is_judged_by_its_second_selection() {
     let mut seen = 0;
     for _ in 0..300 {
         let mut plan = selections(&mut prng).for_call(UPGRADE);
-        let new = moved(upgrade, &plan.case_bytes()).expect("the plan is accepted");
+        let new = written(upgrade, &plan.case_bytes()).expect("the plan is accepted");
         plan.old = false;
         assert_eq!(new, plan.case_bytes());
         let got = verdict(&new, 100, 0, &mut [0; CALLERS], &mut [0; 4_096]);
@@ -400,4 +403,129 @@ fn the_set_does_not_matter_to_striking_out() {
             .collect();
         assert_eq!(struck.plan.minimised(struck.limit), before);
     }
+}
+
+/// The normal form of a case of the generator; the case is accepted.
+fn normal(case: &Case) -> Vec<u8> {
+    written(normalise, &case.bytes()).expect("the case is accepted")
+}
+
+fn drawn_case(prng: &mut Prng) -> Case {
+    read_case(&normals::drawn(prng).case_bytes()).expect("the plan is accepted")
+}
+
+/// "Two accepted cases are written alike exactly when renumbering nodes turns one into the other.
+/// Writing twice changes nothing".
+#[test]
+fn written_alike_exactly_where_numbers_alone_differ() {
+    let mut prng = Prng::new(21);
+    let (mut moved, mut same, mut other) = (0, 0, 0);
+    for _ in 0..1_500 {
+        let case = drawn_case(&mut prng);
+        let bytes = normal(&case);
+        assert_eq!(bytes.len(), case.bytes().len());
+        let read = read_case(&bytes).expect("what is written is accepted");
+        assert!(alike(&read, &case));
+        assert_eq!(normal(&read), bytes);
+        moved += u32::from(bytes != case.bytes());
+        let again = renumbered_case(&mut prng, &case);
+        assert!(alike(&again, &case));
+        assert_eq!(normal(&again), bytes);
+        for _ in 0..4 {
+            let Some(altered) = altered_case(&mut prng, &again) else {
+                continue;
+            };
+            let numbers_alone = alike(&altered, &case);
+            assert_eq!(normal(&altered) == bytes, numbers_alone);
+            same += u32::from(numbers_alone);
+            other += u32::from(!numbers_alone);
+        }
+    }
+    assert!(moved > 800, "{moved} not in order");
+    assert!(
+        same > 300 && other > 2_000,
+        "{same} the same, {other} others"
+    );
+}
+
+/// "every tree in preorder": a node's parent is the one before it or above that.
+#[test]
+fn what_is_written_is_in_preorder() {
+    let mut prng = Prng::new(22);
+    for _ in 0..300 {
+        let read = read_case(&normal(&drawn_case(&mut prng))).expect("it is accepted");
+        let outline: Vec<usize> = read.outline.iter().map(|node| node.parent).collect();
+        let mut all = vec![outline];
+        for nodes in read.set.iter().chain([&read.first]) {
+            all.push(nodes.iter().map(|node| node.parent).collect());
+        }
+        for parents in all {
+            for t in 1..parents.len() {
+                let mut above = t - 1;
+                while above != parents[t] && above > 0 {
+                    above = parents[above];
+                }
+                assert_eq!(above, parents[t]);
+            }
+        }
+        let labels = |t: usize| (read.outline[t].parent, read.outline[t].label);
+        for t in 1..read.outline.len() {
+            for earlier in 1..t {
+                let ((parent, label), (other, before)) = (labels(t), labels(earlier));
+                assert!(parent != other || before < label);
+            }
+        }
+    }
+}
+
+/// "the kind of verdict with a limit of at least the number of placements stays."
+#[test]
+fn the_kind_of_verdict_stays() {
+    const MOST: u64 = 300;
+    let mut prng = Prng::new(23);
+    let (mut included, mut not, mut elsewhere) = (0, 0, 0);
+    for _ in 0..400 {
+        // Of few free nodes, so that the first failure is often not the first trial.
+        let plan = match prng.below(2) {
+            0 => cases::many(&mut prng),
+            _ => normals::drawn(&mut prng),
+        };
+        let case = read_case(&plan.case_bytes()).expect("the plan is accepted");
+        let all = count_placements(&case.outline, &case.first);
+        if all > MOST {
+            continue;
+        }
+        let judged = |bytes: &[u8]| {
+            let got = verdict(bytes, MOST, 0, &mut [0; CALLERS], &mut [0; 4_096]);
+            (got.kind, got.tried)
+        };
+        let (before, after) = (judged(&case.bytes()), judged(&normal(&case)));
+        assert_eq!(before.0, after.0);
+        match before.0 {
+            INCLUDED => assert_eq!((before.1, after.1), (all, all)),
+            _ => elsewhere += u32::from(before.1 != after.1),
+        }
+        included += u32::from(before == (INCLUDED, all) && all > 0);
+        not += u32::from(before.0 == NOT_INCLUDED);
+    }
+    assert!(
+        included > 20 && not > 50,
+        "{included} included, {not} not included"
+    );
+    assert!(elsewhere > 5, "{elsewhere} at another rank");
+}
+
+#[test]
+fn the_cases_to_be_written_are_of_all_kinds() {
+    let all = normals(1, 2_000);
+    let accepted: Vec<Case> = all
+        .iter()
+        .filter_map(|vector| read_case(&vector.case).ok())
+        .collect();
+    assert_eq!(accepted.len(), all.len());
+    let of = |kind: &dyn Fn(&Case) -> bool| accepted.iter().filter(|case| kind(case)).count();
+    let whole = |case: &Case| case.outline.len() == 64 && case.bytes().len() == 1_558;
+    let again = |case: &Case| normal(case) == case.bytes();
+    assert!(of(&whole) > 200 && of(&again) > 50 && of(&|case| !again(case)) > 1_000);
+    assert!(all.iter().filter(|vector| vector.refusal() == 2).count() > 20);
 }

@@ -3,11 +3,12 @@
 
 use crate::calls::{minimise, verdict, MinimiseAnswer, VerdictAnswer, CALLERS, VERDICTS_MOST};
 use crate::vectors::{
-    Vector, DOWNGRADE, FITS, IS_RESULT, LAYOUT, MINIMISE, NODES_AT, PATHS, UPGRADE, VERDICT,
+    Vector, DOWNGRADE, FITS, IS_RESULT, LAYOUT, MINIMISE, NODES_AT, NORMALISE, PATHS, UPGRADE,
+    VERDICT,
 };
 
-pub const CALLS: [u32; 9] = [
-    VERDICT, FITS, IS_RESULT, NODES_AT, PATHS, LAYOUT, UPGRADE, DOWNGRADE, MINIMISE,
+pub const CALLS: [u32; 10] = [
+    VERDICT, FITS, IS_RESULT, NODES_AT, PATHS, LAYOUT, UPGRADE, DOWNGRADE, MINIMISE, NORMALISE,
 ];
 /// Those that have a limit, a caller and tallies.
 pub const TALLIED: [u32; 2] = [VERDICT, MINIMISE];
@@ -29,6 +30,7 @@ pub fn questions(call: u32) -> &'static [u64] {
         PATHS => &[3, 4, 14, 5, 6, 7, 8, 12],
         UPGRADE => &[2, 3, 4, 5, 6, 7, 8],
         DOWNGRADE => &[2, 3, 4, 14, 5, 6, 7, 8, 15],
+        NORMALISE => &[2, 3, 4, 14, 5, 6, 7, 8],
         _ => &[2, 3, 4, 14, 5, 6, 7, 8, 12, 13],
     }
 }
@@ -36,14 +38,16 @@ pub fn questions(call: u32) -> &'static [u64] {
 /// The least length of the lent buffer or table, 0 where nothing is lent.
 pub fn least_length(call: u32) -> u64 {
     match call {
-        VERDICT | NODES_AT | UPGRADE | DOWNGRADE | MINIMISE => 4_096,
+        VERDICT | NODES_AT | UPGRADE | DOWNGRADE | MINIMISE | NORMALISE => 4_096,
         LAYOUT => 1_024,
         _ => 0,
     }
 }
 
 /// The calls that are lent a buffer or a table.
-const LENDING: [u32; 6] = [VERDICT, NODES_AT, LAYOUT, UPGRADE, DOWNGRADE, MINIMISE];
+const LENDING: [u32; 7] = [
+    VERDICT, NODES_AT, LAYOUT, UPGRADE, DOWNGRADE, MINIMISE, NORMALISE,
+];
 
 /// What becomes of bytes after they are written: some are cut off the end,
 /// then others follow.

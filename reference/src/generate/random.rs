@@ -2,12 +2,13 @@
 
 use super::callers;
 use super::changes::{changes, Change};
+use super::normals;
 use super::plan::{OutlineRow, Plan, SelectionRow, VolumeRow, CALLS};
 use super::prng::Prng;
 use super::sets;
 use super::strikes;
 use super::trees::{self, Freedom};
-use crate::vectors::{Vector, DOWNGRADE, LAYOUT, MINIMISE, VERDICT};
+use crate::vectors::{Vector, DOWNGRADE, LAYOUT, MINIMISE, NORMALISE, VERDICT};
 
 /// Verdicts that would take more trials than this get a limit below it, so
 /// that thousands of vectors take seconds.
@@ -27,10 +28,10 @@ pub fn random(seed: u64, count: usize) -> Vec<Vector> {
 
 fn one(prng: &mut Prng, changes: &[Change]) -> Vector {
     let call = CALLS[prng.below(CALLS.len())];
-    let mut plan = if call == MINIMISE {
-        strikes::order(prng)
-    } else {
-        selections(prng)
+    let mut plan = match call {
+        MINIMISE => strikes::order(prng),
+        NORMALISE => normals::drawn(prng),
+        _ => selections(prng),
     };
     plan = plan.given_to(call);
     plan.length += [0, 0, 1, 904][prng.below(4)];

@@ -195,8 +195,8 @@ pub fn remove(rows: &mut Vec<SelectionRow>, q: usize) {
     }
 }
 
-/// The same selection with its table in another order, parents first.
-pub fn reorder(prng: &mut Prng, rows: &[SelectionRow]) -> Vec<SelectionRow> {
+/// The same tree with its table in another order, parents first.
+pub fn reorder<const N: usize>(prng: &mut Prng, rows: &[[u16; N]]) -> Vec<[u16; N]> {
     let mut new_number = vec![None; rows.len()];
     new_number[0] = Some(0);
     let mut out = vec![rows[0]];
@@ -205,9 +205,10 @@ pub fn reorder(prng: &mut Prng, rows: &[SelectionRow]) -> Vec<SelectionRow> {
             .filter(|&q| new_number[q].is_none() && new_number[usize::from(rows[q][0])].is_some())
             .collect();
         let Some(&q) = prng.one_of(&ready) else { break };
-        let parent = new_number[usize::from(rows[q][0])].unwrap_or(0);
+        let mut row = rows[q];
+        row[0] = new_number[usize::from(row[0])].unwrap_or(0);
         new_number[q] = Some(out.len() as u16);
-        out.push([parent, rows[q][1], rows[q][2], rows[q][3]]);
+        out.push(row);
     }
     out
 }

@@ -1,10 +1,11 @@
 //! E1 to E10 with sets of one, the misreadings to catch, and the readings where
 //! two differ; those about sets are in `sets`, those about the old form in
 //! `moving`, those about callers in `callers`, those about striking out in
-//! `striking`.
+//! `striking`, those about one way of writing a case in `normal`.
 
 mod callers;
 mod moving;
+mod normal;
 mod notation;
 mod sets;
 mod striking;

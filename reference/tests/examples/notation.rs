@@ -54,7 +54,8 @@ impl Reader<'_> {
     }
 }
 
-fn rows(text: &str) -> Vec<[u16; 4]> {
+/// Parent, label, strong or edge, and position of each node.
+pub fn rows(text: &str) -> Vec<[u16; 4]> {
     let mut reader = Reader {
         text: text.as_bytes(),
         rows: Vec::new(),

@@ -1,18 +1,21 @@
 //! One call of the library and one of the reference, held to each other whole: the answer, the eight
 //! tallies, and the lent buffer or table, each with what stands around it. A refusal also has zero in
-//! every other field and leaves everything as it was. A case that is moved is also moved back, and an order
-//! that is shortened is also judged, before and after (`shortened`).
+//! every other field and leaves everything as it was. A case that is moved is also moved back, an order
+//! that is shortened is also judged, before and after (`shortened`), and a case that is written in one way is
+//! also written under other numbers and nearly alike (`normal`).
 
 use crate::lent::{Lent, Loans};
-use crate::shortened;
+use crate::{normal, shortened};
 use cadwezin::{ffi, NodeRecord, Tallies, ANSWER_BYTES};
 use reference::vectors::{
-    fnv1a, Vector, DOWNGRADE, FITS, IS_RESULT, MINIMISE, NODES_AT, PATHS, UPGRADE, VERDICT,
+    fnv1a, Vector, DOWNGRADE, FITS, IS_RESULT, MINIMISE, NODES_AT, NORMALISE, PATHS, UPGRADE,
+    VERDICT,
 };
 use reference::NodeRecord as ReferenceRecord;
 
 /// What a call answered, as far as it is counted: for a verdict its kind, for a test whether it holds,
-/// for an order how many nodes were struck, and how many trials, nodes, paths or bytes there were.
+/// for an order how many nodes were struck, for a case that is written in one way whether it is another one,
+/// and how many trials, nodes, paths or bytes there were.
 #[derive(Clone, Copy, Debug, PartialEq, Eq)]
 pub struct Answered {
     pub refused: u64,
@@ -31,15 +34,27 @@ pub fn compare(vector: &Vector, loans: &mut Loans) -> Result<Answered, Differenc
         NODES_AT => nodes_at(vector, loans),
         PATHS => paths(vector),
         UPGRADE => {
-            let answered = moved(vector, loans, ffi::upgrade, reference::upgrade)?;
+            let answered = written(vector, loans, ffi::upgrade, reference::upgrade)?;
             returns(vector, loans, answered, ffi::downgrade)?;
             judged_alike(vector, loans, answered)?;
             Ok(answered)
         }
         DOWNGRADE => {
-            let answered = moved(vector, loans, ffi::downgrade, reference::downgrade)?;
+            let answered = written(vector, loans, ffi::downgrade, reference::downgrade)?;
             returns(vector, loans, answered, ffi::upgrade)?;
             Ok(answered)
+        }
+        NORMALISE => {
+            let answered = written(vector, loans, ffi::normalise, reference::normalise)?;
+            if answered.refused != 0 {
+                return Ok(answered);
+            }
+            let normal = loans.bytes.now()[..answered.size as usize].to_vec();
+            normal::holds(&vector.case, &normal, loans)?;
+            Ok(Answered {
+                value: u64::from(normal != vector.case),
+                ..answered
+            })
         }
         MINIMISE => {
             let answered = minimise(vector, loans)?;
@@ -207,13 +222,14 @@ fn layout(vector: &Vector, loans: &mut Loans) -> Result<Answered, Difference> {
     Ok(answered)
 }
 
-type Move<A> = fn(&[u8], &mut [u8]) -> A;
+type Write<A> = fn(&[u8], &mut [u8]) -> A;
 
-fn moved(
+/// A call that writes a case: moved to the other form, or in the one way.
+fn written(
     vector: &Vector,
     loans: &mut Loans,
-    ours: Move<ffi::CountAnswer>,
-    theirs: Move<reference::CountAnswer>,
+    ours: Write<ffi::CountAnswer>,
+    theirs: Write<reference::CountAnswer>,
 ) -> Result<Answered, Difference> {
     let length = vector.length as usize;
     let ours = ours(&vector.case, loans.bytes.lend(length));
@@ -229,7 +245,7 @@ fn returns(
     vector: &Vector,
     loans: &mut Loans,
     answered: Answered,
-    back: Move<ffi::CountAnswer>,
+    back: Write<ffi::CountAnswer>,
 ) -> Result<(), Difference> {
     if answered.refused != 0 {
         return Ok(());

@@ -2,11 +2,12 @@
 
 use crate::compare::Answered;
 use reference::vectors::{
-    Vector, DOWNGRADE, FITS, IS_RESULT, LAYOUT, MINIMISE, NODES_AT, PATHS, UPGRADE, VERDICT,
+    Vector, DOWNGRADE, FITS, IS_RESULT, LAYOUT, MINIMISE, NODES_AT, NORMALISE, PATHS, UPGRADE,
+    VERDICT,
 };
 use std::fmt;
 
-const NAMES: [(u32, &str); 9] = [
+const NAMES: [(u32, &str); 10] = [
     (VERDICT, "verdict"),
     (FITS, "fits"),
     (IS_RESULT, "is it a result"),
@@ -16,6 +17,7 @@ const NAMES: [(u32, &str); 9] = [
     (UPGRADE, "old to new"),
     (DOWNGRADE, "new to old"),
     (MINIMISE, "striking out"),
+    (NORMALISE, "one way of writing"),
 ];
 
 const QUESTIONS: usize = 16;
@@ -25,7 +27,8 @@ const QUESTIONS: usize = 16;
 struct Row {
     /// By number; accepted ones at 0.
     refused: [u64; QUESTIONS + 1],
-    /// Accepted ones by kind, by whether the test holds, or by how many nodes were struck.
+    /// Accepted ones by kind, by whether the test holds, by how many nodes were struck, or by whether what is
+    /// written is another case.
     values: [u64; 16],
     /// The most trials, nodes, paths or bytes of one.
     most: u64,
@@ -131,6 +134,12 @@ impl fmt::Display for Counts {
             "orders by how many nodes were struck, from none on: {}; at most {} tried; each judged before and after",
             struck.join(", "),
             row(MINIMISE).most
+        )?;
+        let [as_it_was, otherwise, ..] = row(NORMALISE).values;
+        writeln!(
+            out,
+            "written in one way: {otherwise} under other numbers, {as_it_was} as they were, at most {} bytes; each again, under other numbers and nearly alike, with the kind of its verdict",
+            row(NORMALISE).most
         )?;
         let [case, document, list, lent] = self.longest;
         writeln!(

@@ -2,6 +2,7 @@
 //!
 //! * `compare`: one call of both, and everything that it answers and leaves behind held to be equal.
 //! * `shortened`: what an order that was shortened means, by verdicts.
+//! * `normal`: what a case that was written in one way means, by others that are alike and nearly so.
 //! * `lent`: what is lent to a call: buffers and tables filled with a pattern.
 //! * `vary`: many calls made of one drawn vector.
 //! * `runs`: interleaved verdicts and orders of all callers, and each caller's alone.
@@ -13,6 +14,7 @@
 pub mod compare;
 pub mod counts;
 pub mod lent;
+pub mod normal;
 pub mod old;
 pub mod runs;
 pub mod shortened;

@@ -1,5 +1,5 @@
 //! `differential SEED COUNT`: calls the library and the reference on COUNT inputs, on all cores, after
-//! the filed cases and the fixed ones at every boundary; prints what was called, or the first difference.
+//! the filed cases and the fixed ones, those at every boundary among them; prints what was called, or the first difference.
 
 #![forbid(unsafe_code)]
 
@@ -9,7 +9,7 @@ use differential::lent::Loans;
 use differential::old::filed;
 use differential::seed_of;
 use differential::vary::vary;
-use reference::generate::{boundaries, cases, layouts, random, strikes, Prng};
+use reference::generate::{boundaries, cases, layouts, normals, random, strikes, Prng};
 use reference::vectors::Vector;
 use std::process::ExitCode;
 use std::sync::atomic::{AtomicU64, Ordering};
@@ -18,9 +18,11 @@ use std::time::Instant;
 /// Vectors drawn for one portion of the work, and calls made of each.
 const DRAWN: usize = 60;
 const CALLS_EACH: usize = 40;
-/// So many portions in one hundred hold cases and layouts near the limits, and so many orders.
+/// So many portions in one hundred hold cases and layouts near the limits, so many orders, and so many cases
+/// to be written in one way.
 const NEAR_LIMITS: u64 = 4;
 const ORDERS: u64 = 6;
+const NORMALS: u64 = 6;
 
 fn main() -> ExitCode {
     let words = std::env::args().skip(1);
@@ -46,8 +48,8 @@ fn run(seed: u64, count: u64) -> Result<Counts, String> {
     let mut counts = Counts::default();
     let mut loans = Loans::default();
     println!("differential: {}", filed(&mut loans)?);
-    for vector in boundaries() {
-        call(&vector, &mut loans, &mut counts)?;
+    for vector in boundaries().iter().chain(&normals(seed, 0)) {
+        call(vector, &mut loans, &mut counts)?;
     }
     let fixed = counts.total();
     let portions = count.div_ceil((DRAWN * CALLS_EACH) as u64);
@@ -102,6 +104,11 @@ fn calls_of(
             drawn
         }
         orders if orders < NEAR_LIMITS + ORDERS => strikes(prng.draw(), DRAWN / 2),
+        normal if normal < NEAR_LIMITS + ORDERS + NORMALS => {
+            let mut drawn = normals(prng.draw(), DRAWN);
+            // Without those that are always the same.
+            drawn.split_off(drawn.len() - DRAWN)
+        }
         _ => random(prng.draw(), DRAWN),
     };
     for (index, vector) in drawn.iter().enumerate() {

@@ -11,7 +11,7 @@ use reference::generate::{random, Prng};
 use reference::vectors::{Vector, MINIMISE, VERDICT};
 use std::fmt;
 
-/// Vectors drawn for a run; one in nine is a verdict and one an order.
+/// Vectors drawn for a run; one in ten is a verdict and one an order.
 const DRAWN: usize = 1_200;
 /// A caller whose tally begins so far below the bound, or less, reaches it within some thousand calls.
 const NEAR: u64 = 1_200;

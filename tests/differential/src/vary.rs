@@ -10,11 +10,12 @@ use reference::old::read_old_case;
 use reference::records::{holder, read_case, read_volume, Case};
 use reference::trials::{each_placement, lay_out};
 use reference::vectors::{
-    Vector, DOWNGRADE, FITS, IS_RESULT, LAYOUT, MINIMISE, NODES_AT, PATHS, UPGRADE, VERDICT,
+    Vector, DOWNGRADE, FITS, IS_RESULT, LAYOUT, MINIMISE, NODES_AT, NORMALISE, PATHS, UPGRADE,
+    VERDICT,
 };
 
-const CALLS: [u32; 9] = [
-    VERDICT, FITS, IS_RESULT, NODES_AT, PATHS, LAYOUT, UPGRADE, DOWNGRADE, MINIMISE,
+const CALLS: [u32; 10] = [
+    VERDICT, FITS, IS_RESULT, NODES_AT, PATHS, LAYOUT, UPGRADE, DOWNGRADE, MINIMISE, NORMALISE,
 ];
 /// A limit below which the reference is quick on any case, and one where it makes many verdicts.
 const QUICK: u64 = 60;

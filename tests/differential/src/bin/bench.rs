@@ -10,9 +10,10 @@ use cadwezin::{ffi, NodeRecord, Tallies};
 use differential::compare::compare;
 use differential::lent::Loans;
 use differential::vary::set_of;
-use reference::generate::{cases, layouts, random, strikes};
+use reference::generate::{cases, layouts, normals, random, strikes};
 use reference::vectors::{
-    Vector, DOWNGRADE, FITS, IS_RESULT, LAYOUT, MINIMISE, NODES_AT, PATHS, UPGRADE, VERDICT,
+    Vector, DOWNGRADE, FITS, IS_RESULT, LAYOUT, MINIMISE, NODES_AT, NORMALISE, PATHS, UPGRADE,
+    VERDICT,
 };
 use std::hint::black_box;
 use std::process::ExitCode;
@@ -153,6 +154,7 @@ impl Ours {
             PATHS => drop(black_box(ffi::paths(&v.case, v.selection))),
             UPGRADE => drop(black_box(ffi::upgrade(&v.case, answer))),
             DOWNGRADE => drop(black_box(ffi::downgrade(&v.case, answer))),
+            NORMALISE => drop(black_box(ffi::normalise(&v.case, answer))),
             _ => drop(black_box(ffi::layout(&v.case, v.selection, &v.list, table))),
         }
     }
@@ -203,6 +205,7 @@ impl Theirs {
             PATHS => drop(black_box(reference::paths(&v.case, v.selection))),
             UPGRADE => drop(black_box(reference::upgrade(&v.case, answer))),
             DOWNGRADE => drop(black_box(reference::downgrade(&v.case, answer))),
+            NORMALISE => drop(black_box(reference::normalise(&v.case, answer))),
             _ => {
                 let got = reference::layout(&v.case, v.selection, &v.list, table);
                 black_box(got);
@@ -218,6 +221,7 @@ fn rows() -> Vec<Row> {
         documents(),
         others(),
         moves(),
+        normal_forms(),
         orders(),
         drawn(),
     ];
@@ -498,24 +502,24 @@ fn moves() -> Vec<Row> {
     let (over, back) = ("old to new", "new to old");
     let nodes = "64 + 16 + 16 nodes";
     vec![
-        row(over, "E6", vec![moving(UPGRADE, old_form(&e6()))]),
-        row(over, nodes, vec![moving(UPGRADE, old_form(&largest))]),
+        row(over, "E6", vec![writing(UPGRADE, old_form(&e6()))]),
+        row(over, nodes, vec![writing(UPGRADE, old_form(&largest))]),
         row(
             over,
             &format!("{nodes}, a position missing: refused 8"),
-            vec![moving(UPGRADE, unheld)],
+            vec![writing(UPGRADE, unheld)],
         ),
-        row(back, "E6", vec![moving(DOWNGRADE, e6())]),
-        row(back, nodes, vec![moving(DOWNGRADE, largest)]),
+        row(back, "E6", vec![writing(DOWNGRADE, e6())]),
+        row(back, nodes, vec![writing(DOWNGRADE, largest)]),
         row(
             back,
             "64 + 16 nodes, two members of 16: refused 15",
-            vec![moving(DOWNGRADE, two)],
+            vec![writing(DOWNGRADE, two)],
         ),
     ]
 }
 
-fn moving(call: u32, case: Vec<u8>) -> Vector {
+fn writing(call: u32, case: Vec<u8>) -> Vector {
     Vector {
         call,
         length: 4_096,
@@ -528,6 +532,72 @@ fn moving(call: u32, case: Vec<u8>) -> Vector {
 fn old_form(case: &[u8]) -> Vec<u8> {
     let (at, members) = set_of(case).expect("the case is accepted");
     [&case[..at], &members.concat()].concat()
+}
+
+/// Cases written in one way: E6, and the most nodes there can be, 64 and nine times 16. Labels that fall turn
+/// all siblings round; where all nodes of a pattern are alike but for the last, which holds the position, no
+/// comparison ends before it.
+fn normal_forms() -> Vec<Row> {
+    const NODES: &str = "64 + 9 × 16 nodes";
+    let one = |input: &str, case| {
+        let input = format!("{NODES}, {input}");
+        row(ONE_WAY, &input, vec![writing(NORMALISE, case)])
+    };
+    let (star, line) = (|_| 0, |t: u16| t.saturating_sub(1));
+    let by_two = |t: u16| t.saturating_sub(1) / 2;
+    let comb = |t: u16| t.saturating_sub(2 - t % 2);
+    let rising = |t: u16| 1 + t;
+    let falling = |t: u16| 900 - t;
+    let same = |_| 7;
+    let mut unheld = largest(star, falling);
+    let end = unheld.len();
+    unheld[end - 2..].fill(0);
+    let drawn: Vec<Vector> = normals(1, 4_000)
+        .into_iter()
+        .filter(|vector| vector.case.len() == unheld.len() && vector.length >= 4_096)
+        .take(200)
+        .collect();
+    vec![
+        row(ONE_WAY, "E6", vec![writing(NORMALISE, e6())]),
+        one("stars, in order", largest(star, rising)),
+        one("stars, the other way round", largest(star, falling)),
+        one(
+            "stars, all but one node of a pattern alike",
+            largest(star, same),
+        ),
+        one("lines", largest(line, falling)),
+        one("two by two, the other way round", largest(by_two, falling)),
+        one(
+            "two by two, all but one node of a pattern alike",
+            largest(by_two, same),
+        ),
+        one("combs, the other way round", largest(comb, falling)),
+        one(
+            "combs, all but one node of a pattern alike",
+            largest(comb, same),
+        ),
+        row(ONE_WAY, &format!("{NODES}, {} drawn", drawn.len()), drawn),
+        one("a position missing: refused 8", unheld),
+    ]
+}
+
+const ONE_WAY: &str = "one way of writing";
+
+/// 64 nodes and nine times 16, all trees of one shape. The labels are the patterns'; the summary's are those
+/// where siblings differ by them, and else rise.
+fn largest(parent: fn(u16) -> u16, label: fn(u16) -> u16) -> Vec<u8> {
+    let other = |t: u16| {
+        if label(1) == label(2) {
+            1 + t
+        } else {
+            label(t)
+        }
+    };
+    let summary: Vec<[u16; 3]> = (0..64).map(|t| [parent(t), other(t), t % 2]).collect();
+    let pattern: Vec<[u16; 4]> = (0..16)
+        .map(|q| [parent(q), label(q), 0, u16::from(q == 15)])
+        .collect();
+    case(&summary, &pattern, &vec![pattern.clone(); 8])
 }
 
 /// Orders of 16 nodes, each after one verdict on the same case, in which the order is the set's only
@@ -614,9 +684,9 @@ fn drawn() -> Vec<Row> {
         "80 drawn, sets as they are drawn",
         of_one_caller(strikes(1, 80)),
     ));
-    rows.extend(both("all nine", "1,000 random", alone(any())));
+    rows.extend(both("all ten", "1,000 random", alone(any())));
     rows.push(row(
-        "all nine",
+        "all ten",
         "1,000 random, sets as they are drawn",
         any(),
     ));
