@@ -1,24 +1,24 @@
 -- The sections of a case one after another: the set's members in their order, and the whole case. Assumes nothing.
-use Prim.Native.Nat.{ℕ, suc, _+_, _*_, _≤_, _<_}
+use Prim.Native.Nat.{ℕ, _+_, _*_, _≤_, _<_}
 use mathlib.Core.Path.{_≡_, refl, sym, ap, ap₂, _∙_, subst}
 use mathlib.Core.Bool.{true}
 use mathlib.Core.List.{List, [], _∷_, _++_, map, flatMap, append-nil, append-assoc}
 use native.Mathlib.Omega.{arith}
 use native.Mathlib.Numerals.{add-one}
 use lib.ListN.{length, getD, take, drop, length-map, length-append}
-use lib.Seq.{sets, sets-eq, length-sets, take-suc, take-all, length-take-le}
+use lib.Seq.{sets, sets-eq, length-sets, take-suc, take-all}
 use Rattle.model.specs.Limits.{summaryWidth, patternWidth}
 use Rattle.model.specs.Pattern.{Pattern}
-use Rattle.model.specs.Bytes.{Case, field, fieldBytes, bytesOf, patternFields, sectionFields, setFields, sectionEnd, firstAt, setAt, memberAt, setOf, caseOf, caseFields, encodeCase, writtenAtFront, isWholeCase, AreBytes}
+use Rattle.model.specs.Bytes.{fieldBytes, bytesOf, patternFields, sectionFields, setFields, sectionEnd, firstAt, setAt, memberAt, setOf, caseOf, caseFields, encodeCase, writtenAtFront, isWholeCase, AreBytes}
 use Rattle.model.specs.Facts.{AcceptedCase}
-use Rattle.model.specs.Normal.{normalPattern, normalSummary, normalCase, normalised}
+use Rattle.model.specs.Normal.{normalPattern, normalCase, normalised}
 use Rattle.model.proofs.ListLaws.{getD-map}
 use Rattle.model.proofs.Bytes.{length-bytes, whole-case}
 use Rattle.model.proofs.WriteBack.{encode-case}
 use Rattle.model.proofs.Normal.{case-renumbers}
 use Rattle.model.proofs.RenumberedBytes.{renumbered-size}
-use Rattle.format.specs.Given.{patternAt, SetGiven}
-use Rattle.format.proofs.SectionLaws.{set-count, set-member, member-step, member-section}
+use Rattle.format.specs.Given.{SetGiven}
+use Rattle.format.proofs.SectionLaws.{set-member, member-step}
 use Rattle.format.proofs.GivenLaws.{given-first, given-set}
 use Rattle.format.proofs.WriteLaws.{flatMap-append, bytes-append, sets-append}
 use Rattle.normalising.specs.Tables.{normalFields, TableGiven}

@@ -1,10 +1,9 @@
 -- The loop that gathers a tree's rows: a complete row goes into its parent's, as the model's subtrees do. Assumes nothing.
 use Prim.Native.Nat.{ℕ, suc, _+_, _*_, _-_, _≤_, _<_}
-use mathlib.Core.Path.{_≡_, refl, sym, ap, ap₂, _∙_, subst}
-use mathlib.Core.List.{List, [], _∷_, _++_, map}
+use mathlib.Core.Path.{_≡_, sym, ap, ap₂, _∙_, subst}
+use mathlib.Core.List.{List, [], _∷_, _++_}
 use native.Mathlib.Omega.{arith}
-use native.Mathlib.Numerals.{add-one}
-use lib.ListN.{length, getD, take, drop, set, replicate, length-append, length-set, length-map, length-drop, length-replicate, getD-replicate, take-append-drop}
+use lib.ListN.{length, getD, take, drop, set, replicate, length-append, length-set, length-map, length-replicate, getD-replicate, take-append-drop}
 use lib.Seq.{drop-cons, getD-set-same, getD-set-other}
 use Rattle.model.specs.Pattern.{Pattern, IsPatternTree, patternParent}
 use Rattle.model.specs.Bytes.{field}
@@ -12,7 +11,7 @@ use Rattle.model.specs.Normal.{Entry, entryAt, entries, bySubtree, listed, preo
 use Rattle.model.specs.Gathering.{gathered, placeIn, joined}
 use Rattle.model.proofs.Gathering.{gathered-start, gathered-whole, gathered-other, gathered-own}
 use Rattle.model.proofs.Numbering.{gathered-length, order-length}
-use Rattle.normalising.specs.Keys.{entryOf, entriesOf, rowOf, Joinable, Joins}
+use Rattle.normalising.specs.Keys.{entriesOf, rowOf, Joinable, Joins}
 use Rattle.normalising.specs.Tables.{tableAt, TableGiven, Loaded}
 use Rattle.normalising.specs.Gathers.{Listed}
 use Rattle.normalising.proofs.KeyLaws.{same-or-other}
@@ -153,12 +152,15 @@ module _ {width : ℕ} {b : List ℕ} {at : ℕ} (g : TableGiven width b at) {n 
 
   module _ {rows sizes : List ℕ} {j k : ℕ} (w : Turning (tableAt width b at) n rows sizes j) (h : j < n) (ek : k ≡ n - j) where
     -- the node whose turn it is
-    pub turn-node : (0 < k) × (k < n) × (k < length (tableAt width b at)) × (k < field b at) × (k < 64)
+    turn-node : (0 < k) × (k < n) × (k < length (tableAt width b at)) × (k < field b at) × (k < 64)
     turn-node =
         let s = w .some in
         let i : k < n = omega arith in
         let c = node-in g e i in
         (omega arith, i, c .0, c .2, c .1)
+
+    pub turn-inside : (k < field b at) × (k < 64)
+    turn-inside = (turn-node .3, turn-node .4)
 
     gathers-now : Gathering (tableAt width b at) rows sizes (suc k)
     gathers-now = subst (Gathering (tableAt width b at) rows sizes) (let s = w .some in omega arith) (w .gathers)

@@ -1,18 +1,19 @@
 -- Comparing keys is comparing entries. Assumes nothing.
 use Prim.Native.Nat.{ℕ, suc, _+_, _*_, _-_, _/_, _%_, _≤_, _<_}
-use mathlib.Core.Path.{_≡_, refl, sym, ap, ap₂, _∙_, subst}
+use mathlib.Core.Path.{_≡_, refl, sym, ap, ap₂, _∙_}
 use mathlib.Core.Bool.{Bool, true, false, _&&_}
-use mathlib.Core.List.{List, [], _∷_, _++_, map, flatMap}
+use mathlib.Core.List.{List, [], _∷_, flatMap}
 use native.Mathlib.Omega.{arith}
 use lib.Dec.{eqb, ltb}
 use lib.ListN.{length, getD, take, drop, drop-of-length-le, length-drop}
 use lib.Seq.{drop-cons, take-all}
 use native.Mathlib.Numerals.{add-one}
-use mathlib.Core.Logic.{_⊎_, ⊎-elim}
+use mathlib.Core.Logic.{⊎-elim}
 use borrow.Author.Tests.{eq-eqb, ne-eqb, lt-ltb, le-ltb, eqb-true, eqb-false, ltb-true, ltb-false}
 use Rattle.model.specs.Normal.{Entry, noEntry, notAfter, entryNumbers, bySubtree}
 use Rattle.model.specs.Gathering.{opens, placeIn}
 use Rattle.model.proofs.ListLaws.{true-or-false, getD-map}
+use Rattle.model.proofs.Ordering.{after-same}
 use Rattle.normalising.specs.Keys.{entryOf, entriesOf}
 
 pub packed : (d l e p : ℕ) → l < 65536 → e < 65536 → p < 65536 → entryOf (d * 281474976710656 + l * 4294967296 + e * 65536 + p) ≡ record { depth = d; label = l; edge = e; position = p }
@@ -26,10 +27,6 @@ packed d l e p hl he hp =
     λ i. record { depth = ed i; label = el i; edge = ee i; position = ep i }
 
 -- ---- comparing
-
-same-head : (x y : ℕ) (r s : List ℕ) → x ≡ y → notAfter (x ∷ r) (y ∷ s) ≡ notAfter r s
-unfolding notAfter
-same-head x y r s e = ap (λ (t : Bool). elim t as (λ _. Bool) [ true ↦ notAfter r s | false ↦ ltb x y ]) (eq-eqb x y e)
 
 other-head : (x y : ℕ) (r s : List ℕ) → (x ≡ y → ⊥) → notAfter (x ∷ r) (y ∷ s) ≡ ltb x y
 unfolding notAfter
@@ -49,7 +46,7 @@ same-or-other {C} a b f g = ⊎-elim (λ (t : eqb a b ≡ true). f (eqb-true a b
 
 -- one number after another decides
 head-decides : (x y : ℕ) (r s : List ℕ) (t : Bool) → ((x ≡ y → ⊥) → ltb x y ≡ t) → (x ≡ y → notAfter r s ≡ t) → notAfter (x ∷ r) (y ∷ s) ≡ t
-head-decides x y r s t f g = same-or-other x y (λ e. same-head x y r s e ∙ g e) (λ n. other-head x y r s n ∙ f n)
+head-decides x y r s t f g = same-or-other x y (λ e. after-same x y r s e ∙ g e) (λ n. other-head x y r s n ∙ f n)
 
 abbrev numbersOf : List ℕ → List ℕ
 numbersOf ks = flatMap entryNumbers (entriesOf ks)
@@ -84,10 +81,10 @@ module _ (x y : ℕ) (ks ls : List ℕ) where
       let g : ℕ = entryOf x .edge in
       let p : ℕ = entryOf x .position in
       ap (λ (k : ℕ). bySubtree (entriesOf (x ∷ ks)) (entriesOf (k ∷ ls))) (sym e)
-      ∙ same-head d d (l ∷ g ∷ p ∷ numbersOf ks) (l ∷ g ∷ p ∷ numbersOf ls) refl
-      ∙ same-head l l (g ∷ p ∷ numbersOf ks) (g ∷ p ∷ numbersOf ls) refl
-      ∙ same-head g g (p ∷ numbersOf ks) (p ∷ numbersOf ls) refl
-      ∙ same-head p p (numbersOf ks) (numbersOf ls) refl
+      ∙ after-same d d (l ∷ g ∷ p ∷ numbersOf ks) (l ∷ g ∷ p ∷ numbersOf ls) refl
+      ∙ after-same l l (g ∷ p ∷ numbersOf ks) (g ∷ p ∷ numbersOf ls) refl
+      ∙ after-same g g (p ∷ numbersOf ks) (p ∷ numbersOf ls) refl
+      ∙ after-same p p (numbersOf ks) (numbersOf ls) refl
 
   -- others: the smaller comes first
   pub key-other : (x ≡ y → ⊥) → bySubtree (entriesOf (x ∷ ks)) (entriesOf (y ∷ ls)) ≡ ltb x y

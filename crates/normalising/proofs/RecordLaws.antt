@@ -1,19 +1,19 @@
 -- Records written one after another: a record's fields, the last entry of each depth, and the table of a list in preorder. Assumes nothing.
-use Prim.Native.Nat.{ℕ, zero, suc, _+_, _*_, _-_, _/_, _%_, _≤_, _<_}
-use mathlib.Core.Path.{_≡_, refl, sym, ap, ap₂, _∙_, subst}
+use Prim.Native.Nat.{ℕ, suc, _+_, _*_, _-_, _/_, _%_, _≤_, _<_}
+use mathlib.Core.Path.{_≡_, refl, sym, ap, ap₂, _∙_}
 use mathlib.Core.Bool.{Bool, true, false}
-use mathlib.Core.List.{List, [], _∷_, _++_, map, flatMap, append-nil}
+use mathlib.Core.List.{List, [], _∷_, _++_, flatMap, append-nil}
 use native.Mathlib.Omega.{arith}
 use native.Mathlib.Numerals.{add-one}
 use native.Mathlib.Nat.{mul-zero, mul-suc, mul-le-mul-left}
 use lib.Dec.{eqb}
-use lib.ListN.{length, getD, take, set, replicate, length-append, length-set, length-map, length-take, length-replicate, getD-replicate}
-use lib.Seq.{sets, length-sets, take-suc, take-length, take-all, length-take-le, getD-set-same, getD-set-other}
+use lib.ListN.{length, getD, take, set, replicate, length-append, length-set, length-map, length-replicate, getD-replicate}
+use lib.Seq.{sets, length-sets, take-suc, take-all, length-take-le, getD-set-same, getD-set-other}
 use borrow.Author.Tests.{eq-eqb, ne-eqb}
-use Rattle.model.specs.Limits.{summaryWidth, patternWidth}
+use Rattle.model.specs.Limits.{patternWidth}
 use Rattle.model.specs.Pattern.{PatternRecord, Pattern, noPatternRecord}
 use Rattle.model.specs.Bytes.{fieldBytes, bytesOf, patternFields}
-use Rattle.model.specs.Normal.{Entry, noEntry, lastAt, recordOf, tableOf}
+use Rattle.model.specs.Normal.{Entry, noEntry, lastAt, tableOf}
 use Rattle.model.proofs.Bytes.{length-bytes}
 use Rattle.model.proofs.Numbering.{table-length, table-record}
 use Rattle.format.proofs.WriteLaws.{flatMap-append, bytes-append, sets-append}

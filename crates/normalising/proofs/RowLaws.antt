@@ -1,11 +1,10 @@
 -- Rows of keys: a run of keys that goes elsewhere, from the last key on, and a row that goes into another. Assumes nothing.
 use Prim.Native.Nat.{ℕ, zero, suc, _+_, _*_, _-_, _≤_, _<_}
-use mathlib.Core.Path.{_≡_, refl, sym, ap, ap₂, _∙_, subst}
+use mathlib.Core.Path.{_≡_, refl, sym, ap, ap₂, _∙_}
 use mathlib.Core.List.{List, [], _∷_, _++_, map, map-append, append-assoc}
 use mathlib.Core.Logic.{_⊎_, inl, inr, ⊎-elim}
 use native.Mathlib.Omega.{arith}
-use native.Mathlib.Numerals.{add-one}
-use lib.ListN.{length, getD, take, drop, set, length-append, length-set, length-take, length-drop, drop-of-length-le}
+use lib.ListN.{length, getD, take, drop, set, length-append, length-set, length-drop, drop-of-length-le}
 use lib.Seq.{sets, length-sets, sets-eq, set-comm, drop-cons, getD-set-other, getD-take, getD-drop, length-take-le, take-at, drop-at, take-append-le, drop-set-lt, drop-set-add, take-set-le, take-take, take-add, drop-drop}
 use lib.Dec.{ltb}
 use mathlib.Core.Bool.{true, false}

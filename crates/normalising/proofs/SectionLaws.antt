@@ -1,26 +1,25 @@
 -- A tree's section as it is written: its list of keys, its count and its records. Assumes nothing.
-use Prim.Native.Nat.{ℕ, suc, _+_, _*_, _≤_, _<_}
+use Prim.Native.Nat.{ℕ, _+_, _*_, _≤_, _<_}
 use mathlib.Core.Path.{_≡_, refl, sym, ap, ap₂, _∙_, subst}
-use mathlib.Core.List.{List, [], _∷_, _++_, map, flatMap, map-map}
+use mathlib.Core.List.{List, [], _∷_, _++_, flatMap, map-map}
 use native.Mathlib.Omega.{arith}
 use lib.ListN.{length, getD, take, length-map}
 use lib.Seq.{sets, length-sets, length-take-le}
 use Rattle.model.specs.Lists.{upFrom}
 use Rattle.model.specs.Limits.{summaryWidth, patternWidth}
-use Rattle.model.specs.Summary.{SummaryRecord, Summary}
-use Rattle.model.specs.Pattern.{PatternRecord, Pattern, IsPatternTree}
-use Rattle.model.specs.Bytes.{field, fieldBytes, bytesOf, section, recordsAt, summaryRecordAt, patternRecordAt, summaryFields, patternFields, sectionFields, sectionEnd, caseOf, WholeSection}
-use Rattle.model.specs.Facts.{SummaryFacts, AcceptedCase}
+use Rattle.model.specs.Summary.{Summary}
+use Rattle.model.specs.Pattern.{Pattern, IsPatternTree}
+use Rattle.model.specs.Bytes.{field, fieldBytes, bytesOf, section, recordsAt, summaryRecordAt, summaryFields, patternFields, sectionFields, sectionEnd, caseOf}
+use Rattle.model.specs.Facts.{AcceptedCase}
 use Rattle.model.specs.Normal.{Entry, noEntry, entryAt, depthOf, bySubtree, preorder, listed, tableOf, normalPattern, readAs, readBack, asPattern, asSummary, normalSummary}
 use Rattle.model.proofs.ListLaws.{getD-map}
-use Rattle.model.proofs.Bytes.{length-bytes}
 use Rattle.model.proofs.Preorder.{depth-small}
 use Rattle.model.proofs.Numbering.{order-length, node-inside, normal-length}
 use Rattle.model.proofs.Alike.{summary-tree, by-label-alike}
 use Rattle.format.specs.Given.{summaryIn, patternAt, PatternGiven}
 use Rattle.format.proofs.WriteLaws.{sets-append}
 use Rattle.normalising.specs.Keys.{entryOf, entriesOf, Shallow}
-use Rattle.normalising.specs.Tables.{readAt, tableAt, fieldsOf, normalFields, Width, TableGiven}
+use Rattle.normalising.specs.Tables.{readAt, tableAt, fieldsOf, normalFields, TableGiven}
 use Rattle.normalising.specs.Gathers.{Listed}
 use Rattle.normalising.proofs.KeyLaws.{entry-there}
 use Rattle.normalising.proofs.TableLaws.{table-count, counted}

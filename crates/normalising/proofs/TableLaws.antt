@@ -1,24 +1,23 @@
 -- A section read as a selection: its count, its records' fields, and what is written of a node. Assumes nothing.
 use Prim.Native.Nat.{ℕ, suc, _+_, _*_, _≤_, _<_}
-use mathlib.Core.Path.{_≡_, refl, sym, ap, ap₂, _∙_, subst}
+use mathlib.Core.Path.{_≡_, sym, ap, _∙_}
 use mathlib.Core.Bool.{Bool, true, false}
 use mathlib.Core.List.{List}
 use native.Mathlib.Omega.{arith}
 use native.Mathlib.Numerals.{add-one}
 use native.Mathlib.Nat.{add-zero}
-use lib.Dec.{ltb}
 use Rattle.normalising.proofs.KeyLaws.{same-or-other}
 use lib.ListN.{length, getD, set, length-set}
 use lib.Seq.{getD-set-same, getD-set-other}
 use borrow.Author.Tests.{lt-ltb, le-ltb}
 use Rattle.model.specs.Limits.{summaryWidth, patternWidth}
 use Rattle.model.specs.Pattern.{PatternRecord, Pattern, IsPatternTree, noPatternRecord, patternParent}
-use Rattle.model.specs.Bytes.{field, WholeSection}
+use Rattle.model.specs.Bytes.{field}
 use Rattle.model.specs.Normal.{Entry, depthOf, entryAt}
 use Rattle.model.proofs.Preorder.{depth-root, depth-child, depth-small}
 use Rattle.format.proofs.SectionLaws.{section-length, section-record}
 use Rattle.normalising.specs.Keys.{entryOf}
-use Rattle.normalising.specs.Tables.{readAt, tableAt, Width, TableGiven, Loaded, entryWith}
+use Rattle.normalising.specs.Tables.{readAt, tableAt, TableGiven, Loaded, entryWith}
 
 -- how many records a table has, and where each stands
 pub table-count : (width : ℕ) (b : List ℕ) (at : ℕ) → length (tableAt width b at) ≡ field b at

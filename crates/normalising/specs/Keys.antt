@@ -19,25 +19,32 @@ entryOf k =
 abbrev pub entriesOf : List ℕ → List Entry
 entriesOf ks = map entryOf ks
 
+-- keys to a row, as many as a tree may have nodes, and to all rows
+abbrev pub rowKeys : ℕ
+rowKeys = 64
+
+abbrev pub allKeys : ℕ
+allKeys = 4_096
+
 -- the first n keys of row i
 abbrev pub rowOf : List ℕ → ℕ → ℕ → List ℕ
-rowOf rows i n = take n (drop (64 * i) rows)
+rowOf rows i n = take n (drop (rowKeys * i) rows)
 
 -- a row k of n keys can go into row p of m
 pub record Joinable (rows : List ℕ) (k n p m : ℕ) : Type 0 where
-  pub size : length rows ≡ 4096
+  pub size : length rows ≡ allKeys
   pub below : p < k
-  pub inside : k < 64
+  pub inside : k < rowKeys
   pub some : 0 < n
-  pub room : m + n ≤ 64
+  pub room : m + n ≤ rowKeys
 
 -- and has gone into it; the others stay
 pub record Joins (rows after : List ℕ) (k n p m : ℕ) : Type 0 where
-  pub size : length after ≡ 4096
+  pub size : length after ≡ allKeys
   pub row : entriesOf (rowOf after p (m + n)) ≡ joined (entriesOf (rowOf rows k n)) (entriesOf (rowOf rows p m))
-  pub others : (i j : ℕ) → (i ≡ p → ⊥) → j ≤ 64 → rowOf after i j ≡ rowOf rows i j
+  pub others : (i j : ℕ) → (i ≡ p → ⊥) → j ≤ rowKeys → rowOf after i j ≡ rowOf rows i j
 
--- few keys, each at a small depth
+-- at most a row of keys, each at a depth below that
 pub record Shallow (ks : List ℕ) : Type 0 where
-  pub few : length ks ≤ 64
-  pub depths : (i : ℕ) → i < length ks → entryOf (getD ks i 0) .depth < 64
+  pub few : length ks ≤ rowKeys
+  pub depths : (i : ℕ) → i < length ks → entryOf (getD ks i 0) .depth < rowKeys

@@ -9,7 +9,7 @@ use Rattle.model.specs.Limits.{maxSummary, summaryWidth, patternWidth}
 use Rattle.model.specs.Pattern.{PatternRecord, Pattern, IsPatternTree}
 use Rattle.model.specs.Bytes.{field, section, patternFields, sectionFields, WholeSection}
 use Rattle.model.specs.Normal.{Entry, entryAt, normalPattern}
-use Rattle.normalising.specs.Keys.{entryOf}
+use Rattle.normalising.specs.Keys.{entryOf, rowKeys, allKeys}
 
 -- the record of that width that begins at field `at`
 unfoldable pub readAt : ℕ → List ℕ → ℕ → PatternRecord
@@ -37,6 +37,10 @@ normalFields width b at = sectionFields (fieldsOf width) (normalPattern (tableAt
 abbrev pub recordWith : ℕ → Entry → PatternRecord
 recordWith p e = record { parent = p; label = e .label; edge = e .edge; position = e .position }
 
+-- what is written of a record's node at that depth
+abbrev pub entryWith : ℕ → PatternRecord → Entry
+entryWith d r = record { depth = d; label = r .label; edge = r .edge; position = r .position }
+
 -- records have three fields or four
 pub record Width (width : ℕ) : Type 0 where
   pub least : summaryWidth ≤ width
@@ -49,11 +53,7 @@ pub record TableGiven (width : ℕ) (b : List ℕ) (at : ℕ) : Type 0 where
   pub tree : IsPatternTree (tableAt width b at)
   pub few : length (tableAt width b at) ≤ maxSummary
 
--- the first key of each row is its node's
+-- the first key of each of the first n rows is its node's
 pub record Loaded (P : Pattern) (rows : List ℕ) (n : ℕ) : Type 0 where
-  pub size : length rows ≡ 4096
-  pub keys : (i : ℕ) → i < n → entryOf (getD rows (64 * i) 0) ≡ entryAt P i
-
--- what is written of a record's node at that depth
-abbrev pub entryWith : ℕ → PatternRecord → Entry
-entryWith d r = record { depth = d; label = r .label; edge = r .edge; position = r .position }
+  pub size : length rows ≡ allKeys
+  pub keys : (i : ℕ) → i < n → entryOf (getD rows (rowKeys * i) 0) ≡ entryAt P i

@@ -9,8 +9,7 @@ ghost use Prim.Native.Nat.{_*_, _<_};
 ghost use lib.ListN.{length, getD};
 ghost use Rattle.model.specs.Pattern.{noPatternRecord};
 ghost use Rattle.model.specs.Bytes.{field as fieldOf, WholeSection};
-ghost use Rattle.model.specs.Normal.{entryAt};
-ghost use Rattle.normalising.specs.Keys.{entryOf};
+ghost use Rattle.normalising.specs.Keys.{entryOf, allKeys};
 ghost use Rattle.normalising.specs.Tables.{Width, tableAt, TableGiven, Loaded, entryWith};
 
 // Where depth, label and edge begin in a key; the position stands lowest.
@@ -19,6 +18,11 @@ pub const DEPTH: u64 = 281_474_976_710_656;
 pub const LABEL: u64 = 4_294_967_296;
 
 pub const EDGE: u64 = 65_536;
+
+// Keys to a row, as many as a tree may have nodes, and to all rows.
+pub const ROW: usize = 64;
+
+pub const ROWS: usize = 4_096;
 
 // The key of an entry.
 fn key(depth: u64, label: u64, edge: u64, position: u64) -> u64
@@ -51,14 +55,14 @@ fn node_key(b: &[u8], at: usize, width: usize, i: usize, depth: u64) -> u64
 
 // Each node's key becomes the first of its row: a depth is one more than the parent's, whose key stands already.
 pub fn load(b: &[u8], at: usize, width: usize, rows: &mut [u64])
-    requires { ⌜ TableGiven width (now b) at × (length (now rows) ≡ 4096) ⌝ }
+    requires { ⌜ TableGiven width (now b) at × (length (now rows) ≡ allKeys) ⌝ }
     ensures { λ _. ⌜ Loaded (tableAt width (now (b .entry)) at) (now (rows .exit)) (length (tableAt width (now (b .entry)) at)) ⌝ }
 {
     let n = field(b, at);
     rows[0] = node_key(b, at, width, 0, 0);
     for i in 1..n {
         let p = record_field(b, at, width, i, 0);
-        let depth = depth_of(rows[64 * p]) + 1;
-        rows[64 * i] = node_key(b, at, width, i, depth);
+        let depth = depth_of(rows[ROW * p]) + 1;
+        rows[ROW * i] = node_key(b, at, width, i, depth);
     }
 }

@@ -14,6 +14,7 @@ use format::sections::pattern_end;
 use format::sections::set_at;
 use format::set::set_count;
 use format::write::put_field;
+use keys::ROWS;
 use moving::answers::Moved;
 use questions::case_refusal;
 use questions::numbers::buffer_large_enough;
@@ -23,18 +24,18 @@ ghost use mathlib.Core.List.{map};
 ghost use Prim.Native.Nat.{_*_, _≤_};
 ghost use lib.ListN.{length};
 ghost use lib.Seq.{sets};
-ghost use Rattle.model.specs.Limits.{minBuffer};
 ghost use Rattle.model.specs.Bytes.{bytesOf, setFields, setOf, writtenAtFront};
 ghost use Rattle.model.specs.Facts.{AcceptedCase};
 ghost use Rattle.model.specs.Normal.{normalPattern, normaliseRefusal, normalised};
 ghost use Rattle.model.specs.Demands.{NormaliseAnswered};
 ghost use Rattle.format.specs.Given.{SetGiven};
 ghost use Rattle.moving.specs.Answers.{movedOf};
+ghost use Rattle.normalising.specs.Keys.{allKeys};
 
 // The set whose count is field `on`, at the same place of out: its members keep their order.
 fn write_set(case: &[u8], on: usize, rows: &mut [u64], out: &mut [u8])
-    requires { ⌜ SetGiven (now case) on × (length (now rows) ≡ 4096) × (length (now case) ≤ length (now out)) ⌝ }
-    ensures { λ _. ⌜ (length (now (rows .exit)) ≡ 4096) × (now (out .exit)
+    requires { ⌜ SetGiven (now case) on × (length (now rows) ≡ allKeys) × (length (now case) ≤ length (now out)) ⌝ }
+    ensures { λ _. ⌜ (length (now (rows .exit)) ≡ allKeys) × (now (out .exit)
         ≡ sets (now (out .entry)) (2 * on) (bytesOf (setFields (map normalPattern (setOf (now (case .entry)) on))))) ⌝ }
 {
     let n = set_count(case, on);
@@ -53,14 +54,14 @@ fn write_case(case: &[u8], out: &mut [u8])
 {
     let first = first_at(case);
     let set = set_at(case);
-    let mut rows = [0u64; 4096];
+    let mut rows = [0u64; ROWS];
     write_tree(case, 0, SUMMARY_WIDTH, &mut rows, out);
     write_tree(case, first, PATTERN_WIDTH, &mut rows, out);
     write_set(case, set, &mut rows, out);
 }
 
 // The call's refusal: 2, then 3 to 8 with 14 right after 4.
-pub fn normalise_refusal(case: &[u8], buffer: usize) -> u64
+fn normalise_refusal(case: &[u8], buffer: usize) -> u64
     ensures { λ r. ⌜ r ≡ normaliseRefusal (now (case .entry)) buffer ⌝ }
 {
     if !buffer_large_enough(buffer) {

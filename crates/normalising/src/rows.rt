@@ -1,5 +1,6 @@
 // Rows of keys, 64 to a row: a complete row goes into its parent's at its place.
 
+use crate::keys::ROW;
 use crate::keys::depth_of;
 ghost use mathlib.Core.Path.{_≡_};
 ghost use Prim.Native.Nat.{_+_, _≤_, _<_};
@@ -69,9 +70,9 @@ pub fn join(rows: &mut [u64], k: usize, n: usize, p: usize, m: usize)
     requires { ⌜ Joinable (now rows) k n p m ⌝ }
     ensures { λ _. ⌜ Joins (now (rows .entry)) (now (rows .exit)) k n p m ⌝ }
 {
-    let from = 64 * k;
+    let from = ROW * k;
     let end = from + n;
-    let to = 64 * p;
+    let to = ROW * p;
     let last = to + m;
     let at = place(&rows[from..end], &rows[to..last]);
     move_keys(rows, to + at, m - at, to + at + n);

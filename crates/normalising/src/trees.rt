@@ -11,12 +11,13 @@ ghost use Prim.Native.Nat.{_*_, _≤_};
 ghost use lib.ListN.{length};
 ghost use lib.Seq.{sets};
 ghost use Rattle.model.specs.Bytes.{bytesOf, sectionEnd};
+ghost use Rattle.normalising.specs.Keys.{allKeys};
 ghost use Rattle.normalising.specs.Tables.{TableGiven, normalFields};
 
 // The section whose count is field `at`. The rows are lent: what stood in them does not matter.
 pub fn write_tree(b: &[u8], at: usize, width: usize, rows: &mut [u64], out: &mut [u8])
-    requires { ⌜ TableGiven width (now b) at × (length (now rows) ≡ 4096) × (2 * sectionEnd width (now b) at ≤ length (now out)) ⌝ }
-    ensures { λ _. ⌜ (length (now (rows .exit)) ≡ 4096)
+    requires { ⌜ TableGiven width (now b) at × (length (now rows) ≡ allKeys) × (2 * sectionEnd width (now b) at ≤ length (now out)) ⌝ }
+    ensures { λ _. ⌜ (length (now (rows .exit)) ≡ allKeys)
         × (now (out .exit) ≡ sets (now (out .entry)) (2 * at) (bytesOf (normalFields width (now (b .entry)) at))) ⌝ }
 {
     load(b, at, width, rows);

@@ -2,6 +2,7 @@
 
 use crate::keys::EDGE;
 use crate::keys::LABEL;
+use crate::keys::ROW;
 use crate::keys::depth_of;
 use format::field::index64;
 use format::limits::PATTERN_WIDTH;
@@ -47,7 +48,7 @@ pub fn write_records(keys: &[u64], width: usize, out: &mut [u8], at: usize)
         ≡ sets (now (out .entry)) (2 * at) (bytesOf (flatMap (fieldsOf width) (tableOf (entriesOf (now (keys .entry)))))) ⌝ }
 {
     let n = keys.len();
-    let mut last = [0u16; 64];
+    let mut last = [0u16; ROW];
     for k in 0..n {
         let key = keys[k];
         let depth = index64(depth_of(key));

@@ -1,4 +1,5 @@
--- `normalising::normalise_call` meets its contract: it returns before anything is written where a question refuses, and else what is written is the model's. Assumes nothing.
+-- `normalising::normalise_call` meets its contract: it returns before anything is written where a question refuses, and else what is
+-- written is the model's. Assumes nothing.
 use borrow.Author.Needs.{needs}
 use native.Mathlib.Omega.{arith}
 use denote.Ref.{now}
@@ -15,10 +16,19 @@ returns : tie.Need-returns
 returns c = answered-no _ (small (c .before)) (now (c .before .before .before .before .args .answer)) (c .before .normalise-refusal .ensures) (c .if1 .taken)
 
 write-case-requires : tie.Need-write-case-requires
-write-case-requires c κs = case-fits _ (small (c .before .before)) (now (c .before .before .before .before .before .args .answer)) (c .before .before .normalise-refusal .ensures) (c .before .if1 .left)
+write-case-requires c κs =
+    let t = c .before in
+    let r = t .before in
+    let s = r .before .before .before in
+    case-fits _ (small (r)) (now (s .args .answer)) (r .normalise-refusal .ensures) (t .if1 .left)
 
 returns-2 : tie.Need-returns-2
-returns-2 c = answered-yes _ (small (c .before .before .before .before .before)) (now (c .before .before .before .before .before .before .before .before .args .answer)) (c .before .before .before .before .before .normalise-refusal .ensures) (c .before .before .before .before .if1 .left) (c .before .before .write-case .ensures)
+returns-2 c =
+    let w = c .before .before in
+    let t = w .before .before in
+    let r = t .before in
+    let s = r .before .before .before in
+    answered-yes _ (small (r)) (now (s .args .answer)) (r .normalise-refusal .ensures) (t .if1 .left) (w .write-case .ensures)
 
 pub normalise-call-spec : {M : Type 1} → statement M
 normalise-call-spec =

@@ -19,14 +19,23 @@ returns : tie.Need-returns Inv-loop μ-loop
 returns c = comparing-short (c .before .before .loop .inv) (c .before .loop-test .taken) (c .if1 .taken)
 
 returns-2 : tie.Need-returns-2 Inv-loop μ-loop
-returns-2 c = comparing-other (c .before .before .before .before .before .loop .inv) (c .before .before .before .before .loop-test .taken) (c .before .before .before .if1 .left) (c .if2 .taken)
+returns-2 c =
+    let t = c .before .before .before in
+    let t′ = t .before in
+    let l = t′ .before in
+    comparing-other (l .loop .inv) (t′ .loop-test .taken) (t .if1 .left) (c .if2 .taken)
 
 loop-again : tie.Need-loop-again Inv-loop μ-loop
-loop-again c = comparing-step (c .before .before .before .before .before .loop .inv) (c .before .before .before .before .loop-test .taken) (c .before .before .before .if1 .left) (c .if2 .left)
+loop-again c =
+    let t = c .before .before .before in
+    let t′ = t .before in
+    let l = t′ .before in
+    comparing-step (l .loop .inv) (t′ .loop-test .taken) (t .if1 .left) (c .if2 .left)
 
 returns-3 : tie.Need-returns-3 Inv-loop μ-loop
 returns-3 c = comparing-end (c .before .loop .inv) (c .loop-test .left)
 
 pub not-after-spec : {M : Type 1} → statement M
 not-after-spec =
-    tie.close (tie.spec Inv-loop μ-loop loop-holds returns (λ c. search needs) (λ c. search needs) (λ c. search needs) (λ c. search needs) returns-2 (λ c. search needs) (λ c. search needs) loop-again returns-3)
+    tie.close (tie.spec Inv-loop μ-loop loop-holds returns (λ c. search needs) (λ c. search needs) (λ c. search needs) (λ c. search needs) returns-2
+    (λ c. search needs) (λ c. search needs) loop-again returns-3)

@@ -6,10 +6,19 @@ use Rattle.normalising.proofs.rows.opens.Statement.{statement}
 use Rattle.normalising.proofs.rows.opens.Tie as tie
 
 returns : tie.Need-returns
-returns c = let s = c .before .before .before .before .before .before .before in opens-no (now (s .args .row)) (now (s .args .rest)) (s .pre .0) (s .pre .1) (c .before .before .before .depth-of .ensures .0) (c .before .depth-of2 .ensures .0) (c .if1 .taken)
+returns c =
+    let d₂ = c .before in
+    let d = d₂ .before .before in
+    let s = d .before .before .before .before in
+    opens-no (now (s .args .row)) (now (s .args .rest)) (s .pre .0) (s .pre .1) (d .depth-of .ensures .0) (d₂ .depth-of2 .ensures .0) (c .if1 .taken)
 
 returns-2 : tie.Need-returns-2
-returns-2 c = let s = c .before .before .before .before .before .before .before .before in opens-rest (now (s .args .row)) (now (s .args .rest)) (s .pre .0) (s .pre .1) (c .before .before .before .before .depth-of .ensures .0) (c .before .before .depth-of2 .ensures .0) (c .before .if1 .left) (c .not-after .ensures)
+returns-2 c =
+    let t = c .before in
+    let d₂ = t .before in
+    let d = d₂ .before .before in
+    let s = d .before .before .before .before in
+    opens-rest (now (s .args .row)) (now (s .args .rest)) (s .pre .0) (s .pre .1) (d .depth-of .ensures .0) (d₂ .depth-of2 .ensures .0) (t .if1 .left) (c .not-after .ensures)
 
 pub opens-spec : {M : Type 1} → statement M
 opens-spec =

@@ -1,7 +1,6 @@
 -- `normalising::rows::place` meets its contract: the place is not before m. Assumes nothing.
 use borrow.Author.Needs.{needs}
 use Prim.Native.Nat.{_-_}
-use lib.ListN.{length}
 use mathlib.Core.Path.{refl}
 use Rattle.normalising.proofs.KeyLaws.{Placing, placing-start, placing-step, placing-here, placing-end}
 use Rattle.normalising.proofs.rows.place.Statement.{statement}
@@ -27,4 +26,5 @@ returns-2 c = placing-end (c .before .loop .inv) refl (c .loop-test .left)
 
 pub place-spec : {M : Type 1} → statement M
 place-spec =
-    tie.close (tie.spec Inv-loop μ-loop loop-holds (λ c. search needs) (λ c. search needs) (λ c. search needs) (λ c. search needs) (λ c κs. search needs) returns (λ c. search needs) (λ c. search needs) loop-again returns-2)
+    tie.close (tie.spec Inv-loop μ-loop loop-holds (λ c. search needs) (λ c. search needs) (λ c. search needs) (λ c. search needs) (λ c κs. search needs)
+    returns (λ c. search needs) (λ c. search needs) loop-again returns-2)

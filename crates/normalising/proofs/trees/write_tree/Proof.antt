@@ -6,17 +6,38 @@ use Rattle.normalising.proofs.trees.write_tree.Statement.{statement}
 use Rattle.normalising.proofs.trees.write_tree.Tie as tie
 
 slice-reshare-prefix-write-records : tie.Need-slice-reshare-prefix-write-records
-slice-reshare-prefix-write-records c = keys-inside (c .before .before .before .before .before .before .before .before .before .before .before .before .before .before .before .before .pre .0) (c .before .before .before .before .field .ensures .0) (c .before .before .before .before .before .before .before .gather .ensures)
+slice-reshare-prefix-write-records c =
+    let n = c .before .before .before .before in
+    let g = n .before .before .before in
+    let s = g .before .before .before .before .before .before .before .before .before in
+    keys-inside (s .pre .0) (n .field .ensures .0) (g .gather .ensures)
 
 slice-aggregate-write-records : tie.Need-slice-aggregate-write-records
-slice-aggregate-write-records c = keys-count (c .before .before .before .before .before .before .before .before .before .before .before .before .before .before .before .before .before .pre .0) (c .before .before .before .before .before .field .ensures .0) (c .before .before .before .before .before .before .before .before .gather .ensures)
+slice-aggregate-write-records c =
+    let n = c .before .before .before .before .before in
+    let g = n .before .before .before in
+    let s = g .before .before .before .before .before .before .before .before .before in
+    keys-count (s .pre .0) (n .field .ensures .0) (g .gather .ensures)
 
 write-records-requires : tie.Need-write-records-requires
-write-records-requires c κs = let s = c .before .before .before .before .before .before .before .before .before .before .before .before .before .before .before .before .before .before in (keys-shallow (c .before .before .before .before .before .before .before .before .before .before .before .before .before .before .before .before .before .before .pre .0) (c .before .before .before .before .before .before .field .ensures .0) (c .before .before .before .before .before .before .before .before .before .gather .ensures), s .pre .0 .fields, records-fit (c .before .before .before .before .before .before .before .before .before .before .before .before .before .before .before .before .before .before .pre .0) (c .before .before .before .before .before .before .field .ensures .0) (c .before .before .before .before .before .before .before .before .before .gather .ensures) (now (s .args .out)) (c .before .before .before .before .put-field .ensures) (s .pre .2))
+write-records-requires c κs =
+    let q = c .before .before .before .before in
+    let n = q .before .before in
+    let g = n .before .before .before in
+    let s = g .before .before .before .before .before .before .before .before .before in
+    (keys-shallow (s .pre .0) (n .field .ensures .0) (g .gather .ensures), s .pre .0 .fields, records-fit (s .pre .0) (n .field .ensures .0) (g .gather .ensures) (now (s .args .out)) (q .put-field .ensures) (s .pre .2))
 
 returns : tie.Need-returns
-returns c = let s = c .before .before .before .before .before .before .before .before .before .before .before .before .before .before .before .before .before .before .before .before .before in (c .before .before .before .before .before .before .before .before .before .before .before .before .gather .ensures .size, section-written (c .before .before .before .before .before .before .before .before .before .before .before .before .before .before .before .before .before .before .before .before .before .pre .0) (c .before .before .before .before .before .before .before .before .before .field .ensures .0) (c .before .before .before .before .before .before .before .before .before .before .before .before .gather .ensures) (now (s .args .out)) (c .before .before .before .before .before .before .before .put-field .ensures) (c .before .before .write-records .ensures))
+returns c =
+    let r = c .before .before in
+    let q = r .before .before .before .before .before in
+    let n = q .before .before in
+    let g = n .before .before .before in
+    let s = g .before .before .before .before .before .before .before .before .before in
+    (g .gather .ensures .size, section-written (s .pre .0) (n .field .ensures .0) (g .gather .ensures) (now (s .args .out)) (q .put-field .ensures) (r .write-records .ensures))
 
 pub write-tree-spec : {M : Type 1} → statement M
 write-tree-spec =
-    tie.close (tie.spec (λ c κs. search needs) (λ c κs. search needs) (λ c κs. search needs) (λ c. search needs) (λ c κs. search needs) slice-reshare-prefix-write-records slice-aggregate-write-records (λ c. search needs) write-records-requires (λ c. search needs) (λ c. search needs) returns)
+    tie.close (tie.spec (λ c κs. search needs) (λ c κs. search needs) (λ c κs. search needs) (λ c. search needs) (λ c κs. search needs)
+    slice-reshare-prefix-write-records slice-aggregate-write-records (λ c. search needs) write-records-requires (λ c. search needs) (λ c. search needs)
+    returns)

@@ -6,11 +6,24 @@ use Rattle.normalising.proofs.write.put_record.Statement.{statement}
 use Rattle.normalising.proofs.write.put_record.Tie as tie
 
 returns : tie.Need-returns
-returns c = let s = c .before .before .before .before .before .before .before .before .before .before .before .before .before .before in record-narrow (now (s .args .out)) (s .args .at) (s .args .parent) (s .args .key) (s .pre .0) (c .before .before .before .before .before .before .before .before .before .before .before .put-field .ensures) (c .before .before .before .before .before .before .before .put-field2 .ensures) (c .before .before .before .put-field3 .ensures) (c .if1 .taken)
+returns c =
+    let q₃ = c .before .before .before in
+    let q₂ = q₃ .before .before .before .before in
+    let q = q₂ .before .before .before .before in
+    let s = q .before .before .before in
+    record-narrow (now (s .args .out)) (s .args .at) (s .args .parent) (s .args .key) (s .pre .0) (q .put-field .ensures) (q₂ .put-field2 .ensures) (q₃ .put-field3 .ensures) (c .if1 .taken)
 
 returns-2 : tie.Need-returns-2
-returns-2 c = let s = c .before .before .before .before .before .before .before .before .before .before .before .before .before .before .before .before .before .before in record-wide (now (s .args .out)) (s .args .at) (s .args .parent) (s .args .key) (s .pre .0) (c .before .before .before .before .before .before .before .before .before .before .before .before .before .before .before .put-field .ensures) (c .before .before .before .before .before .before .before .before .before .before .before .put-field2 .ensures) (c .before .before .before .before .before .before .before .put-field3 .ensures) (c .before .before .before .before .if1 .left) (c .before .before .put-field4 .ensures)
+returns-2 c =
+    let q₄ = c .before .before in
+    let t = q₄ .before .before in
+    let q₃ = t .before .before .before in
+    let q₂ = q₃ .before .before .before .before in
+    let q = q₂ .before .before .before .before in
+    let s = q .before .before .before in
+    record-wide (now (s .args .out)) (s .args .at) (s .args .parent) (s .args .key) (s .pre .0) (q .put-field .ensures) (q₂ .put-field2 .ensures) (q₃ .put-field3 .ensures) (t .if1 .left) (q₄ .put-field4 .ensures)
 
 pub put-record-spec : {M : Type 1} → statement M
 put-record-spec =
-    tie.close (tie.spec (λ c κs. search needs) (λ c. search needs) (λ c. search needs) (λ c κs. search needs) (λ c. search needs) (λ c. search needs) (λ c κs. search needs) (λ c. search needs) returns (λ c. search needs) (λ c. search needs) (λ c κs. search needs) (λ c. search needs) returns-2)
+    tie.close (tie.spec (λ c κs. search needs) (λ c. search needs) (λ c. search needs) (λ c κs. search needs) (λ c. search needs) (λ c. search needs)
+    (λ c κs. search needs) (λ c. search needs) returns (λ c. search needs) (λ c. search needs) (λ c κs. search needs) (λ c. search needs) returns-2)
