@@ -21,7 +21,7 @@ use Rattle.model.proofs.ListLaws.{map-agree}
 use Rattle.model.proofs.Ascending.{ascending-keep, ascending-upFrom, ascending-map}
 use Rattle.model.proofs.TreeLaws.{length-asDocument}
 use Rattle.model.proofs.Renumbering.{renumbered-not-root, parent-of, label-of, summary-rooted, length-asPattern, record-asPattern}
-use Rattle.model.proofs.Ordering.{after-same, after-less, after-greater, subtree-order, Distinct, Matched, ordered-ascends, ordered-agree, ordered-matched}
+use Rattle.model.proofs.Ordering.{after-same, after-less, after-greater, subtree-order, Unlike, Matched, ordered-ascends, ordered-agree, ordered-matched}
 use Rattle.model.proofs.Preorder.{none-or-some, depth-root, depth-child, child-elim, child-intro, child-later, preorder-whole, rows-flat}
 
 -- children stand in the order of their numbers, so each once
@@ -29,10 +29,10 @@ pub children-ascend : (P : Pattern) (i : ℕ) → Ascending _<_ (childrenOf P i)
 unfolding childrenOf
 children-ascend P i = ascending-keep _<_ (isChildOf P i) (upFrom 0 (length P)) (ascending-upFrom 0 (length P))
 
-children-distinct : (P : Pattern) (i : ℕ) → Distinct (childrenOf P i)
-children-distinct P i = apart (childrenOf P i) (children-ascend P i)
+children-unlike : (P : Pattern) (i : ℕ) → Unlike (childrenOf P i)
+children-unlike P i = apart (childrenOf P i) (children-ascend P i)
   where
-    apart : (xs : List ℕ) → Ascending _<_ xs → Distinct xs
+    apart : (xs : List ℕ) → Ascending _<_ xs → Unlike xs
     apart [] a = tt
     apart (x ∷ xs) a = (λ y m e. (let l : x < y = a .0 y m in omega arith), apart xs (a .1))
 
@@ -70,8 +70,8 @@ module _ {P Q : Pattern} (s : IsPatternTree P) (t : IsPatternTree Q) (r : Patter
         into = λ c m. (let e = child-elim P i c m in subst (λ (x : ℕ). List·Memᴰ (r .to c) (childrenOf Q x)) (r .parents c (e .1) ∙ ap (r .to) (e .2)) (child-intro Q (r .to c) (renumbered-not-root r c (e .0) (e .1)) (r .inside c (e .1))));
         onto = λ d m. (let e = child-elim Q (r .to i) d m in (r .from d, back d (e .0) (e .1) (e .2), r .forth d (e .1)));
         apart = λ c d m n e. sym (r .back c (child-elim P i c m .1)) ∙ ap (r .from) e ∙ r .back d (child-elim P i d n .1);
-        distinct = children-distinct P i;
-        images = children-distinct Q (r .to i);
+        distinct = children-unlike P i;
+        images = children-unlike Q (r .to i);
       }
     where
       back : (d : ℕ) → 0 < d → d < length Q → patternParent Q d ≡ r .to i → List·Memᴰ (r .from d) (childrenOf P i)

@@ -370,9 +370,9 @@ module _ {A B : Type 0} (key : A → B) (by : B → B → Bool) where
 
 -- ---- two lists whose elements correspond, each once, come to the same
 
--- no two places of the list hold one
-abbrev pub Distinct : {A : Type 0} → List A → Type 0
-Distinct {A} xs = Ascending (λ (x y : A). x ≡ y → ⊥) xs
+-- each element is unlike every later one
+abbrev pub Unlike : {A : Type 0} → List A → Type 0
+Unlike {A} xs = Ascending (λ (x y : A). x ≡ y → ⊥) xs
 
 -- a member parts its list
 part : {A : Type 0} (x : A) (xs : List A) → List·Memᴰ x xs → (us : List A) × (vs : List A) × (xs ≡ us ++ x ∷ vs)
@@ -404,10 +404,10 @@ module _ {A : Type 0} where
       go (inr n) = Memᴰ·append-right us (List·Memᴰ·tail n)
 
   -- of distinct elements one is none of the others, which are distinct
-  distinct-without : (us : List A) (x : A) (vs : List A) → Distinct (us ++ x ∷ vs) → Distinct (us ++ vs) × ((y : A) → List·Memᴰ y (us ++ vs) → y ≡ x → ⊥)
-  distinct-without [] x vs d = (d .1, λ y m e. d .0 y m (sym e))
-  distinct-without (u ∷ us) x vs d =
-      let r = distinct-without us x vs (d .1) in
+  unlike-without : (us : List A) (x : A) (vs : List A) → Unlike (us ++ x ∷ vs) → Unlike (us ++ vs) × ((y : A) → List·Memᴰ y (us ++ vs) → y ≡ x → ⊥)
+  unlike-without [] x vs d = (d .1, λ y m e. d .0 y m (sym e))
+  unlike-without (u ∷ us) x vs d =
+      let r = unlike-without us x vs (d .1) in
       ((λ y m. d .0 y (other-among us x vs y m), r .0), λ y m e. go y (List·Memᴰ·cases-cons m) e (r .1 y))
     where
       go : (y : A) → (y ≡ u) ⊎ List·Memᴰ y (us ++ vs) → y ≡ x → (List·Memᴰ y (us ++ vs) → y ≡ x → ⊥) → ⊥
@@ -419,8 +419,8 @@ pub record Matched {A B : Type 0} (f : A → B) (xs : List A) (ys : List B) : Ty
   pub into : (x : A) → List·Memᴰ x xs → List·Memᴰ (f x) ys
   pub onto : (y : B) → List·Memᴰ y ys → (x : A) × List·Memᴰ x xs × (f x ≡ y)
   pub apart : (x z : A) → List·Memᴰ x xs → List·Memᴰ z xs → f x ≡ f z → x ≡ z
-  pub distinct : Distinct xs
-  pub images : Distinct ys
+  pub distinct : Unlike xs
+  pub images : Unlike ys
 
 module _ {A B C : Type 0} (f : A → B) (g : A → C) (h : B → C) {by : C → C → Bool} (o : Order by) where
   pub ordered-matched : (xs : List A) (ys : List B) → Matched f xs ys → ((x : A) → List·Memᴰ x xs → g x ≡ h (f x)) → ordered by (map g xs) ≡ ordered by (map h ys)
@@ -430,7 +430,7 @@ module _ {A B C : Type 0} (f : A → B) (g : A → C) (h : B → C) {by : C → 
     where
       rest : (us vs : List B) → ys ≡ us ++ f x ∷ vs → Matched f xs (us ++ vs)
       rest us vs e =
-          let d = distinct-without us (f x) vs (subst (λ (l : List B). Distinct l) e (m .images)) in
+          let d = unlike-without us (f x) vs (subst (λ (l : List B). Unlike l) e (m .images)) in
           record {
             into = λ z n. into z n (among-other us (f x) vs (f z) (subst (λ (l : List B). List·Memᴰ (f z) l) e (m .into z (List·Memᴰ·tail n))));
             onto = λ y n. (let w = m .onto y (subst (λ (l : List B). List·Memᴰ y l) (sym e) (other-among us (f x) vs y n)) in onto y (d .1 y n) (w .0) (List·Memᴰ·cases-cons (w .1)) (w .2));
