@@ -21,7 +21,7 @@ use Rattle.model.specs.Embeddings.{imageIn, summaryEmbeddings, isResult,
 use Rattle.model.specs.Fitting.{fits}
 use Rattle.model.specs.Canonical.{canonical, canonicalSpots, ownNodes, ownResult, covered, spotRecord}
 use Rattle.model.specs.Verdict.{Verdict, included, notIncluded, stopped, verdict, triedOf}
-use Rattle.model.specs.Bytes.{Case, caseOf, documentOf, listOf, documentFields, sectionFields, encodeDocument, encodeCounted, writtenAtFront, AreBytes}
+use Rattle.model.specs.Bytes.{AreBytes, Case, caseOf, documentOf, listOf, documentFields, sectionFields, encodeDocument, encodeCounted, writtenAtFront}
 use Rattle.model.specs.Questions.{selected, caseQuestions, verdictRefusal, minimiseRefusal, fitsRefusal, resultRefusal, nodesRefusal, pathsRefusal, layoutRefusal}
 use Rattle.model.specs.Calls.{kindIncluded, kindNotIncluded, kindStopped, kindOf, shown, Received, OnEight, VerdictOutcome, verdictAccepted, verdictCall, tallyOf, charged, talliedCall, TestAnswer, fitsCall, resultCall, CountOutcome, nodesAccepted, nodesCall, PathsAnswer, pathsAccepted, pathsCall, LaidRecord, laidRecord, LayoutOutcome, layoutAccepted, layoutCall}
 use Rattle.model.specs.Striking.{childless, mayGo, verdictWithout, Struck, strikeAll, MinimiseOutcome, minimiseAccepted, minimiseCall, talliedMinimise}
