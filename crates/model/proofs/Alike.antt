@@ -20,7 +20,7 @@ use Rattle.model.specs.Normal.{notAfter, ordered, depthOf, Entry, entryA
 use Rattle.model.proofs.ListLaws.{map-agree}
 use Rattle.model.proofs.Ascending.{ascending-keep, ascending-upFrom, ascending-map}
 use Rattle.model.proofs.TreeLaws.{length-asDocument}
-use Rattle.model.proofs.Renumbering.{renumbered-not-root, parent-of, label-of, summary-rooted, length-asPattern, record-asPattern}
+use Rattle.model.proofs.Renumbering.{renumbering-back, renumbered-not-root, parent-of, label-of, summary-rooted, length-asPattern, record-asPattern}
 use Rattle.model.proofs.Ordering.{after-same, after-less, after-greater, subtree-order, Unlike, Matched, ordered-ascends, ordered-agree, ordered-matched}
 use Rattle.model.proofs.Preorder.{none-or-some, depth-root, depth-child, child-elim, child-intro, child-later, preorder-whole, rows-flat}
 
@@ -39,11 +39,8 @@ children-unlike P i = apart (childrenOf P i) (children-ascend P i)
 module _ {P Q : Pattern} (s : IsPatternTree P) (t : IsPatternTree Q) (r : PatternRenumbering P Q) where
   -- the root alone goes to the root
   from-later : (j : ℕ) → 0 < j → j < length Q → 0 < r .from j
-  from-later j z h = go (none-or-some (r .from j))
-    where
-      go : (r .from j ≡ 0) ⊎ (0 < r .from j) → 0 < r .from j
-      go (inl e) = let k : j ≡ 0 = sym (r .forth j h) ∙ ap (r .to) e ∙ r .root in absurd (omega arith)
-      go (inr l) = l
+  unfolding renumbering-back
+  from-later j z h = renumbered-not-root (renumbering-back r s) j z h
 
   depth-within : (n i : ℕ) → i < n → i < length P → depthOf P i ≡ depthOf Q (r .to i)
   depth-within zero i l h = absurd (omega arith)

@@ -5,7 +5,7 @@ use Prim.Native.Nat.{ℕ, zero, suc, _+_, _-_, _≤_, _<_}
 use mathlib.Core.Path.{_≡_, refl, sym, ap, _∙_, subst}
 use mathlib.Core.Bool.{Bool, true, false, _&&_, and-false, true≢false}
 use mathlib.Core.Logic.{_⊎_, inl, inr}
-use mathlib.Core.List.{List, [], _∷_, _++_, map, flatMap, flatten, List·Memᴰ, List·Memᴰ·head, List·Memᴰ·tail, Memᴰ·of-map, map-map}
+use mathlib.Core.List.{List, [], _∷_, _++_, map, flatMap, flatten, List·Memᴰ, List·Memᴰ·head, List·Memᴰ·tail, Memᴰ·of-map}
 use native.Mathlib.Omega.{arith}
 use native.Mathlib.Nat.{add-zero, zero-add}
 use lib.Dec.{eqb, ltb}
@@ -17,9 +17,9 @@ use Rattle.model.specs.Normal.{notAfter, placed, ordered, depthOf, Entry
 use Rattle.model.specs.Gathering.{gathered, opens, placeIn, joined}
 use Rattle.model.proofs.ListLaws.{and-intro, and-right, true-or-false, keep-intro, keep-elim, upFrom-mem, mem-upFrom}
 use Rattle.model.proofs.KeepLaws.{keep-in, keep-out}
-use Rattle.model.proofs.Ordering.{after-cases, after-fails, after-same, after-less, after-greater, placed-first, placed-later, ordered-elim, ordered-map, count-placed}
+use Rattle.model.proofs.Ordering.{after-cases, after-fails, after-same, after-less, after-greater, placed-first, placed-later, ordered-elim, count-placed}
 use Rattle.model.proofs.CountLaws.{count-append}
-use Rattle.model.proofs.Preorder.{depth-child, child-later, preorder-whole, Headed, headed, map-flatten}
+use Rattle.model.proofs.Preorder.{depth-child, child-later, preorder-whole, Headed, headed, over-row}
 
 -- ---- comparing with the rest of a list
 
@@ -207,13 +207,6 @@ module _ (P : Pattern) where
   abbrev row : ℕ → List Entry
   row i = entries P (preorder bySubtree (length P) P i)
 
-  over-row : (i : ℕ) (cs : List ℕ) → entries P (over i cs) ≡ entryAt P i ∷ flatten (ordered bySubtree (map row cs))
-  over-row i cs =
-      ap (λ (es : List Entry). entryAt P i ∷ es)
-      (map-flatten (entryAt P) (ordered (byWritten bySubtree P) (map (preorder bySubtree (length P) P) cs))
-      ∙ ap flatten (ordered-map (entries P) bySubtree (map (preorder bySubtree (length P) P) cs))
-      ∙ ap (λ (es : List (List Entry)). flatten (ordered bySubtree es)) (map-map (entries P) (preorder bySubtree (length P) P) cs))
-
   pub gathered-start : (i : ℕ) → gathered P (length P) i ≡ i ∷ []
   unfolding gathered upFrom keep ordered flatten
   gathered-start i = let z : length P - length P ≡ 0 = omega arith in ap (λ (n : ℕ). over i (keep (isChildOf P i) (upFrom (length P) n))) z
@@ -275,10 +268,10 @@ module _ (P : Pattern) where
     unfolding gathered ordered
     gathered-own k z h =
         ap (λ (cs : List ℕ). entries P (over p cs)) (first-later k z h)
-        ∙ over-row p (k ∷ later (suc k) p)
+        ∙ over-row P bySubtree p (k ∷ later (suc k) p)
         ∙ ap (λ (es : List Entry). entryAt P p ∷ es) (sym (joined-siblings (row k) (depthOf P k) own (ordered bySubtree (map row (later (suc k) p))) heads))
         ∙ sym (joined-later (row k) (entryAt P p) (flatten (ordered bySubtree (map row (later (suc k) p)))) (opens-not (row k) (depthOf P k) own (entryAt P p) (flatten (ordered bySubtree (map row (later (suc k) p)))) (λ e. omega (arith, deep, e))))
-        ∙ ap (joined (row k)) (sym (over-row p (later (suc k) p)))
+        ∙ ap (joined (row k)) (sym (over-row P bySubtree p (later (suc k) p)))
         ∙ ap (λ (o : List ℕ). joined (entries P o) (entries P (over p (later (suc k) p)))) (sym (gathered-whole k (suc k) h (omega arith)))
       where
         p : ℕ

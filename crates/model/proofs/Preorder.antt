@@ -143,14 +143,19 @@ headed-least {d} {r} h e m = go (List·Memᴰ·cases-cons (subst (λ (l : List E
     go (inl q) = let k : e .depth ≡ h .root .depth = ap (λ (x : Entry). x .depth) q in let l = h .atDepth in omega arith
     go (inr n) = let l = h .deeper e n in omega arith
 
+-- of a node with the subtrees of some children, in their order
+pub over-row : (P : Pattern) (by : List Entry → List Entry → Bool) (i : ℕ) (cs : List ℕ) → entries P (i ∷ flatten (ordered (byWritten by P) (map (preorder by (length P) P) cs)))
+    ≡ entryAt P i ∷ flatten (ordered by (map (λ c. entries P (preorder by (length P) P c)) cs))
+over-row P by i cs =
+    ap (λ (es : List Entry). entryAt P i ∷ es)
+    (map-flatten (entryAt P) (ordered (byWritten by P) (map (preorder by (length P) P) cs))
+    ∙ ap flatten (ordered-map (entries P) by (map (preorder by (length P) P) cs))
+    ∙ ap (λ (es : List (List Entry)). flatten (ordered by es)) (map-map (entries P) (preorder by (length P) P) cs))
+
 module _ (P : Pattern) (by : List Entry → List Entry → Bool) (t : IsPatternTree P) where
-  -- the lists of a node's children, in order
+  -- of a whole subtree: the lists of all children
   pub rows-flat : (i : ℕ) → i < length P → entries P (preorder by (length P) P i) ≡ entryAt P i ∷ flatten (ordered by (map (λ c. entries P (preorder by (length P) P c)) (childrenOf P i)))
-  rows-flat i h =
-      ap (entries P) (preorder-whole P by t i h) ∙ ap (λ (es : List Entry). entryAt P i ∷ es)
-      (map-flatten (entryAt P) (ordered (byWritten by P) (map (preorder by (length P) P) (childrenOf P i)))
-      ∙ ap flatten (ordered-map (entries P) by (map (preorder by (length P) P) (childrenOf P i)))
-      ∙ ap (λ (es : List (List Entry)). flatten (ordered by es)) (map-map (entries P) (preorder by (length P) P) (childrenOf P i)))
+  rows-flat i h = ap (entries P) (preorder-whole P by t i h) ∙ over-row P by i (childrenOf P i)
 
   headed-within : (n i : ℕ) → i < length P → length P ≤ n + i → Headed (depthOf P i) (entries P (preorder by (length P) P i))
   headed-within zero i h k = absurd (omega arith)

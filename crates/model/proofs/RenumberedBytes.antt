@@ -8,8 +8,7 @@ use mathlib.Core.List.{List, [], _∷_, _++_, flatMap, List·Memᴰ, List·Mem�
 use native.Mathlib.Omega.{arith}
 use lib.ListN.{length, getD, length-append}
 use Rattle.model.specs.Limits.{maxCaseBytes, summaryWidth, patternWidth}
-use Rattle.model.specs.Tree.{Rooted, IsTree}
-use Rattle.model.specs.Summary.{asDocument}
+use Rattle.model.specs.Tree.{Rooted}
 use Rattle.model.specs.Pattern.{Pattern, IsPatternTree}
 use Rattle.model.specs.Bytes.{AreBytes, fieldBytes, bytesOf, summaryRecordAt, patternRecordAt, Case, caseOf, isWholeCase, summaryFields, patternFields, sectionFields, setFields, caseFields, encodeCase}
 use Rattle.model.specs.Questions.{caseWhole, refusal, caseQuestions}
@@ -188,7 +187,3 @@ renumbered-bytes b small asked d r trees =
     again =
         all-yes-tables (encodeCase d) back (case-whole d fit (subst (λ (n : ℕ). n ≤ maxCaseBytes) (sym size) (case-accepted b asked .whole .size)))
         (renumbered-kept r (case-trees (case-accepted b asked .facts)) trees (tables-all-yes b asked))
-
-pub renumbered-accepted : (b : List ℕ) → AreBytes b → AllYes (caseQuestions b) → (d : Case) → CaseRenumbering (caseOf b) d → IsTree (asDocument (d .summary)) → IsPatternTree (d .first)
-    → ((i : ℕ) → i < length (d .members) → IsPatternTree (getD (d .members) i [])) → RenumberedBytes b d
-renumbered-accepted b small asked d r summary first members = renumbered-bytes b small asked d r (record { summary = summary; first = first; members = members })
