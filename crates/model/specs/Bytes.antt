@@ -42,10 +42,10 @@ abbrev pub summaryRecordAt : List ℕ → ℕ → SummaryRecord
 summaryRecordAt b at = record { parent = field b at; label = field b (at + 1); strong = field b (at + 2) }
 
 abbrev pub patternRecordAt : List ℕ → ℕ → PatternRecord
-patternRecordAt b at = record { parent = field b at; label = field b (at + 1); edge = field b (at + 2); position = field b (at + 3) }
+patternRecordAt b at = record { parent = field b at; label = field b (at + 1); edge = field b (at + 2); position = field b (at + 3); figure = field b (at + 4) }
 
 abbrev pub documentRecordAt : List ℕ → ℕ → DocumentRecord
-documentRecordAt b at = record { parent = field b at; label = field b (at + 1) }
+documentRecordAt b at = record { parent = field b at; label = field b (at + 1); figure = field b (at + 2) }
 
 -- a section's records stand after its count
 unfoldable pub section : {A : Type 0} → (List ℕ → ℕ → A) → ℕ → List ℕ → ℕ → List A
@@ -151,10 +151,10 @@ abbrev pub summaryFields : SummaryRecord → List ℕ
 summaryFields r = r .parent ∷ r .label ∷ r .strong ∷ []
 
 abbrev pub patternFields : PatternRecord → List ℕ
-patternFields r = r .parent ∷ r .label ∷ r .edge ∷ r .position ∷ []
+patternFields r = r .parent ∷ r .label ∷ r .edge ∷ r .position ∷ r .figure ∷ []
 
 abbrev pub documentFields : DocumentRecord → List ℕ
-documentFields r = r .parent ∷ r .label ∷ []
+documentFields r = r .parent ∷ r .label ∷ r .figure ∷ []
 
 -- a section's fields: its count, then its records
 unfoldable pub sectionFields : {A : Type 0} → (A → List ℕ) → List A → List ℕ

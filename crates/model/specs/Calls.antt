@@ -11,7 +11,7 @@ use Rattle.model.specs.Summary.{Summary, summaryLabel}
 use Rattle.model.specs.Pattern.{Pattern}
 use Rattle.model.specs.Embeddings.{isResult, nodesAt, pathMask, pathCount}
 use Rattle.model.specs.Fitting.{fits}
-use Rattle.model.specs.Canonical.{Spot, canonical, canonicalSpots, ownResult}
+use Rattle.model.specs.Canonical.{Spot, spotParent, spotAt, canonical, canonicalSpots, ownNodes, ownFigure, ownResult}
 use Rattle.model.specs.Verdict.{Verdict, included, notIncluded, stopped, verdict, triedOf}
 use Rattle.model.specs.Bytes.{Case, caseOf, documentOf, listOf, encodeDocument, encodeCounted, writtenAtFront}
 use Rattle.model.specs.Questions.{selected, verdictRefusal, fitsRefusal, resultRefusal, nodesRefusal, pathsRefusal, layoutRefusal}
@@ -170,14 +170,22 @@ pathsCall b s =
     let number : ℕ = pathsRefusal b s in
     elim (eqb number 0) [ true ↦ pathsAccepted (caseOf b .summary) (selected (caseOf b) s) | false ↦ pathsRefused number ]
 
--- a record of the lent table: parent, outline node, label
+-- a record of the lent table: parent, outline node, label, figure
 pub record LaidRecord : Type 0 where
   pub parent : ℕ
   pub summaryNode : ℕ
   pub label : ℕ
+  pub figure : ℕ
 
-abbrev pub laidRecord : Summary → Spot → LaidRecord
-laidRecord S s = record { parent = s .parent; summaryNode = s .at; label = summaryLabel S (s .at) }
+abbrev pub laidRecord : Summary → (ℕ → ℕ) → List Spot → ℕ → LaidRecord
+laidRecord S figure spots i =
+    record { parent = spotParent spots i; summaryNode = spotAt spots i; label = summaryLabel S (spotAt spots i); figure = figure i }
+
+-- the records of a trial volume
+unfoldable pub laidRecords : Summary → Pattern → List ℕ → List LaidRecord
+laidRecords S P es =
+    let spots : List Spot = canonicalSpots S P es in
+    map (laidRecord S (ownFigure P (ownNodes S P es)) spots) (upFrom 0 (length spots))
 
 pub record LayoutOutcome : Type 0 where
   pub answer : CountAnswer
@@ -185,8 +193,7 @@ pub record LayoutOutcome : Type 0 where
 
 unfoldable pub layoutAccepted : Summary → Pattern → List ℕ → List LaidRecord → LayoutOutcome
 layoutAccepted S P es table =
-    let laid : List LaidRecord = map (laidRecord S) (canonicalSpots S P es) in
-    record { answer = record { refused = 0; count = length laid }; table = writtenAtFront laid table }
+    record { answer = record { refused = 0; count = length (laidRecords S P es) }; table = writtenAtFront (laidRecords S P es) table }
 
 unfoldable pub layoutRefused : ℕ → List LaidRecord → LayoutOutcome
 layoutRefused number table = record { answer = record { refused = number; count = 0 }; table = table }

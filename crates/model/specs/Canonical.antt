@@ -1,14 +1,14 @@
 -- The canonical document (document 01: trial volume) of a placement, in two phases that stand apart: the chains of the
--- pattern's nodes, then filling up. The table grows only by appending one node.
+-- pattern's nodes, then filling up. The table grows only by appending one node. Figures stand beside the phases.
 use Prim.Native.Nat.{ℕ, zero, suc, _+_, _-_, _*_}
 use mathlib.Core.Bool.{Bool, true, false, _&&_}
 use mathlib.Core.List.{List, [], _∷_, _++_, map, tail}
 use lib.Dec.{eqb, ltb}
 use lib.ListN.{length, getD}
-use Rattle.model.specs.Lists.{upFrom, anyOf}
+use Rattle.model.specs.Lists.{upFrom, anyOf, firstOf}
 use Rattle.model.specs.Tree.{DocumentRecord, Document, parentOf}
 use Rattle.model.specs.Summary.{Summary, asDocument, summaryLabel}
-use Rattle.model.specs.Pattern.{PatternRecord, Pattern, returnNodes}
+use Rattle.model.specs.Pattern.{PatternRecord, Pattern, patternFigure, returnNodes}
 use Rattle.model.specs.Embeddings.{imageIn, isResult}
 use Rattle.model.specs.Fitting.{strongChildren}
 
@@ -105,16 +105,24 @@ nodeBound S P = 1 + length P * (length S - 1)
 unfoldable pub canonicalSpots : Summary → Pattern → List ℕ → List Spot
 canonicalSpots S P es = fillFrom (nodeBound S P) S (chains S P es .spots) 0
 
-abbrev pub spotRecord : Summary → Spot → DocumentRecord
-spotRecord S s = record { parent = s .parent; label = summaryLabel S (s .at) }
-
--- the trial volume of a placement
-unfoldable pub canonical : Summary → Pattern → List ℕ → Document
-canonical S P es = map (spotRecord S) (canonicalSpots S P es)
-
 -- the first selection's own nodes, by selection node
 unfoldable pub ownNodes : Summary → Pattern → List ℕ → List ℕ
 ownNodes S P es = chains S P es .own
+
+-- a node's figure: the selection's own nodes have just their least figure, all others 0, which a number past the last selection node reads as
+unfoldable pub ownFigure : Pattern → List ℕ → ℕ → ℕ
+ownFigure P own v = patternFigure P (firstOf (λ q. eqb (imageIn own q) v) (length P) (upFrom 0 (length P)))
+
+-- node i of a trial volume
+abbrev pub spotRecord : Summary → (ℕ → ℕ) → List Spot → ℕ → DocumentRecord
+spotRecord S figure spots i = record { parent = spotParent spots i; label = summaryLabel S (spotAt spots i); figure = figure i }
+
+abbrev pub spotRecords : Summary → (ℕ → ℕ) → List Spot → Document
+spotRecords S figure spots = map (spotRecord S figure spots) (upFrom 0 (length spots))
+
+-- the trial volume of a placement
+unfoldable pub canonical : Summary → Pattern → List ℕ → Document
+canonical S P es = spotRecords S (ownFigure P (ownNodes S P es)) (canonicalSpots S P es)
 
 -- the first selection's own nodes at positions 1 to k
 unfoldable pub ownResult : Summary → Pattern → List ℕ → List ℕ

@@ -13,10 +13,10 @@ use Rattle.model.specs.Tree.{Document}
 use Rattle.model.specs.Summary.{Summary, Fits}
 use Rattle.model.specs.Pattern.{Pattern, patternParent, position, Result, AtPosition, PathOf, Contained, CounterExample, Carries}
 use Rattle.model.specs.Embeddings.{summaryEmbeddings}
-use Rattle.model.specs.Canonical.{canonical, canonicalSpots, ownResult, covered}
+use Rattle.model.specs.Canonical.{canonical, ownResult, covered}
 use Rattle.model.specs.Bytes.{AreBytes, field, patternRecordAt, section, sectionEnd, countedAt, caseOf, documentOf, listOf, encodeDocument, encodeCounted, writtenAtFront, shownSection, shownList}
 use Rattle.model.specs.Questions.{refusal, caseQuestions, selected, verdictRefusal, minimiseRefusal, fitsRefusal, resultRefusal, nodesRefusal, pathsRefusal, layoutRefusal}
-use Rattle.model.specs.Calls.{Received, OnEight, refusedAnswer, VerdictOutcome, kindIncluded, kindNotIncluded, kindStopped, kindOf, verdictCall, tallyOf, TalliedOutcome, talliedCall, TestAnswer, yesAnswer, noAnswer, fitsCall, resultCall, CountOutcome, nodesCall, PathsAnswer, pathsCall, LaidRecord, laidRecord, LayoutOutcome, layoutCall}
+use Rattle.model.specs.Calls.{Received, OnEight, refusedAnswer, VerdictOutcome, kindIncluded, kindNotIncluded, kindStopped, kindOf, verdictCall, tallyOf, TalliedOutcome, talliedCall, TestAnswer, yesAnswer, noAnswer, fitsCall, resultCall, CountOutcome, nodesCall, PathsAnswer, pathsCall, LaidRecord, laidRecords, LayoutOutcome, layoutCall}
 use Rattle.model.specs.Striking.{verdictWithout, Struck, strikeAll, MinimiseAnswer, refusedStrike, MinimiseOutcome, struckBytes, minimiseCall, talliedMinimise}
 use Rattle.model.specs.Runs.{Call, receipts, talliesAfter, callsOf, receivedBy, triedOver}
 use Rattle.model.specs.OldForm.{SetOfOne}
@@ -72,7 +72,7 @@ pub record LayoutTold (S : Summary) (P : Pattern) (es : List ℕ) (before : List
   pub own : Result P (canonical S P es) (ownResult S P es)
   pub small : o .answer .count ≤ maxCanonical
   pub count : o .answer .count ≡ length (canonical S P es)
-  pub written : o .table ≡ writtenAtFront (map (laidRecord S) (canonicalSpots S P es)) before
+  pub written : o .table ≡ writtenAtFront (laidRecords S P es) before
 
 -- ---- Demand 3, of an accepted verdict call
 

@@ -7,10 +7,10 @@ use mathlib.Core.Bool.{Bool, true, false, _&&_}
 use mathlib.Core.List.{List, [], _∷_, _++_, map, flatMap}
 use lib.Dec.{eqb, ltb}
 use lib.ListN.{length, getD}
-use Rattle.model.specs.Lists.{upFrom, keep, anyOf, sameList, maskBelow, countBelow}
-use Rattle.model.specs.Tree.{Document, parentOf, labelOf}
+use Rattle.model.specs.Lists.{upFrom, keep, anyOf, allOf, sameList, maskBelow, countBelow}
+use Rattle.model.specs.Tree.{Document, parentOf, labelOf, figureOf}
 use Rattle.model.specs.Summary.{Summary, asDocument}
-use Rattle.model.specs.Pattern.{PatternRecord, Pattern, labelFits, nodeAt, returnNodes}
+use Rattle.model.specs.Pattern.{PatternRecord, Pattern, patternFigure, labelFits, figureFits, nodeAt, returnNodes}
 
 -- b is a child of a
 unfoldable pub childTest : Document → ℕ → ℕ → Bool
@@ -43,7 +43,7 @@ unfoldable pub extend : Document → List PatternRecord → List ℕ → List (L
 extend W [] es = es ∷ []
 extend W (r ∷ rs) es = flatMap (λ v. extend W rs (es ++ v ∷ [])) (keep (candidate W es r) (upFrom 0 (length W)))
 
--- all embeddings, each as the list of the images in table order
+-- all embeddings, whatever the figures, each as the list of the images in table order
 unfoldable pub embeddings : Pattern → Document → List (List ℕ)
 embeddings P W = extend W P []
 
@@ -61,13 +61,21 @@ summaryEmbeddings S P = embeddings P (asDocument S)
 abbrev pub imageIn : List ℕ → ℕ → ℕ
 imageIn es q = getD es q 0
 
+-- every node's least figure fits at its image
+unfoldable pub figuresFit : Pattern → Document → List ℕ → Bool
+figuresFit P W es = allOf (λ q. figureFits (patternFigure P q) (figureOf W (imageIn es q))) (upFrom 0 (length P))
+
+-- the embeddings whose figures fit
+unfoldable pub figuredEmbeddings : Pattern → Document → List (List ℕ)
+figuredEmbeddings P W = keep (figuresFit P W) (embeddings P W)
+
 -- r is a result: one list, and not position by position
 unfoldable pub isResult : Pattern → Document → List ℕ → Bool
-isResult P W r = anyOf (λ es. sameList r (map (imageIn es) (returnNodes P))) (embeddings P W)
+isResult P W r = anyOf (λ es. sameList r (map (imageIn es) (returnNodes P))) (figuredEmbeddings P W)
 
 -- v is at position p in some result
 unfoldable pub isAt : Pattern → Document → ℕ → ℕ → Bool
-isAt P W p v = anyOf (λ es. eqb (imageIn es (nodeAt P p)) v) (embeddings P W)
+isAt P W p v = anyOf (λ es. eqb (imageIn es (nodeAt P p)) v) (figuredEmbeddings P W)
 
 -- nodes at a position in any result, ascending
 unfoldable pub nodesAt : Pattern → Document → ℕ → List ℕ

@@ -34,13 +34,13 @@ abbrev pub strong : ℕ → ℕ → SummaryRecord
 strong p l = record { parent = p; label = l; strong = 1 }
 
 abbrev pub child : ℕ → ℕ → ℕ → PatternRecord
-child p l n = record { parent = p; label = l; edge = 0; position = n }
+child p l n = record { parent = p; label = l; edge = 0; position = n; figure = 0 }
 
 abbrev pub descendant : ℕ → ℕ → ℕ → PatternRecord
-descendant p l n = record { parent = p; label = l; edge = 1; position = n }
+descendant p l n = record { parent = p; label = l; edge = 1; position = n; figure = 0 }
 
 abbrev pub node : ℕ → ℕ → DocumentRecord
-node p l = record { parent = p; label = l }
+node p l = record { parent = p; label = l; figure = 0 }
 
 -- a set of one
 abbrev exampleCase : Summary → Pattern → Pattern → Case
@@ -108,12 +108,12 @@ e5 = exampleCase line (child 0 lr 0 ∷ descendant 0 lb 1 ∷ []) (child 0 lr 0 
 abbrev pub e6 : Case
 e6 = exampleCase line (child 0 lr 0 ∷ descendant 0 0 1 ∷ []) (child 0 lr 0 ∷ child 0 0 1 ∷ [])
 
--- E6's 58 bytes
+-- E6's 66 bytes
 abbrev e6Bytes : List ℕ
 e6Bytes =
     3 ∷ 0 ∷ 0 ∷ 0 ∷ 1 ∷ 0 ∷ 0 ∷ 0 ∷ 0 ∷ 0 ∷ 2 ∷ 0 ∷ 0 ∷ 0 ∷ 1 ∷ 0 ∷ 3 ∷ 0 ∷ 0 ∷ 0
-    ∷ 2 ∷ 0 ∷ 0 ∷ 0 ∷ 1 ∷ 0 ∷ 0 ∷ 0 ∷ 0 ∷ 0 ∷ 0 ∷ 0 ∷ 0 ∷ 0 ∷ 1 ∷ 0 ∷ 1 ∷ 0
-    ∷ 1 ∷ 0 ∷ 2 ∷ 0 ∷ 0 ∷ 0 ∷ 1 ∷ 0 ∷ 0 ∷ 0 ∷ 0 ∷ 0 ∷ 0 ∷ 0 ∷ 0 ∷ 0 ∷ 0 ∷ 0 ∷ 1 ∷ 0 ∷ []
+    ∷ 2 ∷ 0 ∷ 0 ∷ 0 ∷ 1 ∷ 0 ∷ 0 ∷ 0 ∷ 0 ∷ 0 ∷ 0 ∷ 0 ∷ 0 ∷ 0 ∷ 0 ∷ 0 ∷ 1 ∷ 0 ∷ 1 ∷ 0 ∷ 0 ∷ 0
+    ∷ 1 ∷ 0 ∷ 2 ∷ 0 ∷ 0 ∷ 0 ∷ 1 ∷ 0 ∷ 0 ∷ 0 ∷ 0 ∷ 0 ∷ 0 ∷ 0 ∷ 0 ∷ 0 ∷ 0 ∷ 0 ∷ 0 ∷ 0 ∷ 1 ∷ 0 ∷ 0 ∷ 0 ∷ []
 
 -- E6 the other way round
 abbrev e7 : Case
@@ -142,10 +142,10 @@ examples =
     -- E6: limit 1: stopped, tried 1; limit 2: not included, tried 2; the bytes
     ∷ judged e6 1 kindStopped 1 []
     ∷ judged e6 2 kindNotIncluded 2 (shows (node 0 lr ∷ node 0 la ∷ node 1 lb ∷ []) (2 ∷ []))
-    ∷ (eqb (length e6Bytes) 58 && sameList (encodeCase e6) e6Bytes)
+    ∷ (eqb (length e6Bytes) 66 && sameList (encodeCase e6) e6Bytes)
     ∷ answers (call e6Bytes 2) kindNotIncluded 2 (shows (node 0 lr ∷ node 0 la ∷ node 1 lb ∷ []) (2 ∷ []))
     -- and what the program prints of it
-    ∷ sameList (printed e6Bytes) (ascii "not included\ntried 2\nnode 0 0 1\nnode 1 0 2\nnode 2 1 3\nanswer 2\n")
+    ∷ sameList (printed e6Bytes) (ascii "not included\ntried 2\nnode 0 0 1 0\nnode 1 0 2 0\nnode 2 1 3 0\nanswer 2\n")
     -- E7: limit 1: included, tried 1
     ∷ judged e7 1 kindIncluded 1 []
     -- E8: both r^: included; second a^: not included, result 0

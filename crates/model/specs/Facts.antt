@@ -4,10 +4,10 @@ use mathlib.Core.Path.{_≡_}
 use mathlib.Core.Bool.{true}
 use mathlib.Core.List.{List, List·Memᴰ}
 use lib.ListN.{length}
-use Rattle.model.specs.Limits.{maxSummary, maxPattern, maxMembers, maxPosition, maxDocument}
-use Rattle.model.specs.Tree.{IsTree, Child, labelOf}
+use Rattle.model.specs.Limits.{maxSummary, maxPattern, maxMembers, maxPosition, maxFigure, maxDocument}
+use Rattle.model.specs.Tree.{IsTree, Child, labelOf, figureOf}
 use Rattle.model.specs.Summary.{Summary, asDocument, summaryLabel}
-use Rattle.model.specs.Pattern.{PatternRecord, Pattern, IsPatternTree, arity, position, nodeAt}
+use Rattle.model.specs.Pattern.{PatternRecord, Pattern, IsPatternTree, arity, position, patternFigure, nodeAt}
 use Rattle.model.specs.Bytes.{Case, caseOf, documentOf, listOf, WholeCase, isWholeDocument, isWholeList}
 
 -- an outline by the rules: a tree whose siblings have different labels
@@ -29,12 +29,18 @@ pub record RecordFits (r : PatternRecord) : Type 0 where
   pub label : r .label < 65_536
   pub edge : r .edge < 65_536
   pub position : r .position < 65_536
+  pub figure : r .figure < 65_536
+
+-- a selection's least figures are at most 2,000
+abbrev pub FewFigures : Pattern → Type 0
+FewFigures P = (q : ℕ) → q < length P → patternFigure P q ≤ maxFigure
 
 -- a member of the set, beside the first selection P
 pub record MemberFacts (P Q : Pattern) : Type 0 where
   pub pattern : PatternFacts Q
   pub sameArity : arity P ≡ arity Q
   pub size : length Q ≤ maxPattern
+  pub figures : FewFigures Q
 
 -- an accepted case
 pub record CaseFacts (c : Case) : Type 0 where
@@ -47,19 +53,21 @@ pub record CaseFacts (c : Case) : Type 0 where
   pub arityBound : arity (c .first) ≤ maxPosition
   pub summarySize : length (c .summary) ≤ maxSummary
   pub firstSize : length (c .first) ≤ maxPattern
+  pub firstFigures : FewFigures (c .first)
 
--- the bytes of an accepted case: questions 3 to 8, with 14
+-- the bytes of an accepted case: questions 3 to 8, with 14 and 17
 pub record AcceptedCase (b : List ℕ) : Type 0 where
   pub whole : WholeCase b
   pub facts : CaseFacts (caseOf b)
 
--- the bytes of a volume: question 10
+-- the bytes of a volume: questions 10 and 17
 pub record DocumentFacts (w : List ℕ) : Type 0 where
   pub whole : isWholeDocument w ≡ true
   pub someNodes : 1 ≤ length (documentOf w)
   pub size : length (documentOf w) ≤ maxDocument
   pub tree : IsTree (documentOf w)
   pub labels : (i : ℕ) → i < length (documentOf w) → 0 < labelOf (documentOf w) i
+  pub figures : (i : ℕ) → i < length (documentOf w) → figureOf (documentOf w) i ≤ maxFigure
 
 -- the bytes of a list of k nodes, of a volume with n: question 11
 pub record ListFacts (k n : ℕ) (r : List ℕ) : Type 0 where

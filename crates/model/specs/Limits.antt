@@ -19,7 +19,7 @@ callers = 8
 
 -- the bytes that an answer buffer has at least, and the records that a lent table has at least
 abbrev pub minBuffer : ℕ
-minBuffer = 4_096
+minBuffer = 8_192
 
 abbrev pub minTable : ℕ
 minTable = 1_024
@@ -41,6 +41,10 @@ maxDocument = 1_024
 abbrev pub maxPosition : ℕ
 maxPosition = 8
 
+-- the greatest figure: right characters out of so many
+abbrev pub maxFigure : ℕ
+maxFigure = 2_000
+
 -- the most selections of a set
 abbrev pub maxMembers : ℕ
 maxMembers = 8
@@ -54,15 +58,15 @@ abbrev pub summaryWidth : ℕ
 summaryWidth = 3
 
 abbrev pub patternWidth : ℕ
-patternWidth = 4
+patternWidth = 5
 
 abbrev pub documentWidth : ℕ
-documentWidth = 2
+documentWidth = 3
 
--- the most bytes of a printed text: 27 of the first lines, 21 of each of 1,009 node lines, 47 of the answer line
+-- the most bytes of a printed text: 27 of the first lines, 26 of each of 1,009 node lines, 47 of the answer line
 abbrev pub maxText : ℕ
-maxText = 21_263
+maxText = 26_308
 
--- and of a printed order: 16 of tried, 21 of each of 16 node lines, 52 of the struck line
+-- and of a printed order: 16 of tried, 26 of each of 16 node lines, 52 of the struck line
 abbrev pub maxOrderText : ℕ
-maxOrderText = 404
+maxOrderText = 484

@@ -1,18 +1,23 @@
 -- Moving the filed cases over (document 02, #102): the refusal and the whole outcome of the tool that turns an old case into a set of one,
 -- and of the tool that turns a set of one back.
 use Prim.Native.Nat.{ℕ}
-use mathlib.Core.Bool.{Bool, true, false}
+use mathlib.Core.Bool.{Bool, true, false, _&&_}
 use mathlib.Core.List.{List, [], _∷_, _++_}
 use lib.Dec.{eqb}
 use lib.ListN.{length}
+use Rattle.model.specs.Lists.{allOf}
+use Rattle.model.specs.Pattern.{PatternRecord, Pattern}
 use Rattle.model.specs.Bytes.{Case, caseOf, encodeCase, writtenAtFront}
 use Rattle.model.specs.Questions.{bufferLargeEnough, ask, refusal, caseQuestions}
 use Rattle.model.specs.Calls.{CountOutcome, countRefused}
 use Rattle.model.specs.OldForm.{oldCaseOf, encodeOldCase, oneOf, oldOf, oldQuestions}
 
--- 15. Going back, has the set one selection?
+-- 15. Going back, has the set one selection, and is every least figure 0?
+unfoldable pub figureless : Pattern → Bool
+figureless P = allOf (λ (r : PatternRecord). eqb (r .figure) 0) P
+
 unfoldable pub goesBack : Case → Bool
-goesBack c = eqb (length (c .members)) 1
+goesBack c = eqb (length (c .members)) 1 && (figureless (c .first) && allOf figureless (c .members))
 
 -- old to new: 2, then the base's 3 to 8
 unfoldable pub upgradeRefusal : List ℕ → ℕ → ℕ

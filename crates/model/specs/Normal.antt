@@ -49,20 +49,22 @@ depthFrom (suc n) P i = elim (eqb i 0) [ true ↦ 0 | false ↦ suc (depthFrom n
 unfoldable pub depthOf : Pattern → ℕ → ℕ
 depthOf P i = depthFrom i P i
 
--- what is written of a node: depth, label, edge, position
+-- what is written of a node: depth, label, edge, position, figure
 pub record Entry : Type 0 where
   pub depth : ℕ
   pub label : ℕ
   pub edge : ℕ
   pub position : ℕ
+  pub figure : ℕ
 
 -- what a place past the last reads as
 abbrev pub noEntry : Entry
-noEntry = record { depth = 0; label = 0; edge = 0; position = 0 }
+noEntry = record { depth = 0; label = 0; edge = 0; position = 0; figure = 0 }
 
 abbrev pub entryAt : Pattern → ℕ → Entry
 entryAt P i =
-    record { depth = depthOf P i; label = getD P i noPatternRecord .label; edge = getD P i noPatternRecord .edge; position = getD P i noPatternRecord .position }
+    let r : PatternRecord = getD P i noPatternRecord in
+    record { depth = depthOf P i; label = r .label; edge = r .edge; position = r .position; figure = r .figure }
 
 -- of nodes in their order
 abbrev pub entries : Pattern → List ℕ → List Entry
@@ -70,7 +72,7 @@ entries P is = map (entryAt P) is
 
 -- the numbers of an entry, in the order in which they are compared
 abbrev pub entryNumbers : Entry → List ℕ
-entryNumbers e = e .depth ∷ e .label ∷ e .edge ∷ e .position ∷ []
+entryNumbers e = e .depth ∷ e .label ∷ e .edge ∷ e .position ∷ e .figure ∷ []
 
 -- how selection siblings go: by their subtrees, each written as a list of entries
 unfoldable pub bySubtree : List Entry → List Entry → Bool
@@ -111,7 +113,7 @@ lastAt es d (suc k) = elim (eqb (getD es k noEntry .depth) d) [ true ↦ k | fal
 abbrev pub recordOf : List Entry → ℕ → PatternRecord
 recordOf es k =
     let e : Entry = getD es k noEntry in
-    record { parent = lastAt es (e .depth - 1) k; label = e .label; edge = e .edge; position = e .position }
+    record { parent = lastAt es (e .depth - 1) k; label = e .label; edge = e .edge; position = e .position; figure = e .figure }
 
 unfoldable pub tableOf : List Entry → Pattern
 tableOf es = map (recordOf es) (upFrom 0 (length es))
@@ -120,9 +122,9 @@ tableOf es = map (recordOf es) (upFrom 0 (length es))
 unfoldable pub normalPattern : Pattern → Pattern
 normalPattern P = tableOf (listed bySubtree P)
 
--- an outline read as a selection: strong stands in the edge's place, and there are no positions; and back
+-- an outline read as a selection: strong stands in the edge's place, and there are no positions and no figures; and back
 abbrev pub readAs : SummaryRecord → PatternRecord
-readAs r = record { parent = r .parent; label = r .label; edge = r .strong; position = 0 }
+readAs r = record { parent = r .parent; label = r .label; edge = r .strong; position = 0; figure = 0 }
 
 abbrev pub readBack : PatternRecord → SummaryRecord
 readBack r = record { parent = r .parent; label = r .label; strong = r .edge }
@@ -149,7 +151,7 @@ pub record InOrder (c : Case) : Type 0 where
 
 -- ---- The call
 
--- 2 to 8, with 14 right after 4
+-- 2 to 8, with 14 right after 4 and 17 right after 7
 unfoldable pub normaliseRefusal : List ℕ → ℕ → ℕ
 normaliseRefusal b bufferBytes = refusal (ask 2 (bufferLargeEnough bufferBytes) ∷ caseQuestions b)
 

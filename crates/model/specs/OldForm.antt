@@ -69,9 +69,9 @@ encodeOldCase c = bytesOf (oldFields c)
 
 -- ---- between the two forms
 
--- the record of today that an old one is, and the selection
+-- the record of today that an old one is, with figure 0, and the selection
 abbrev pub newRecord : OldRecord → PatternRecord
-newRecord r = record { parent = r .parent; label = r .label; edge = r .edge; position = r .position }
+newRecord r = record { parent = r .parent; label = r .label; edge = r .edge; position = r .position; figure = 0 }
 
 abbrev pub newPattern : OldPattern → Pattern
 newPattern P = map newRecord P

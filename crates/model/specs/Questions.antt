@@ -1,14 +1,14 @@
--- Questions 1 to 14 and 16, one definition each, and the refusal of each of document 01's six calls in the call's own order.
+-- Questions 1 to 14, 16 and 17, one definition each, and the refusal of each of document 01's six calls in the call's own order.
 use Prim.Native.Nat.{ℕ, _+_, _-_, _*_}
 use mathlib.Core.Bool.{Bool, true, false, _&&_, _||_, not}
 use mathlib.Core.List.{List, [], _∷_, _++_}
 use lib.Dec.{eqb, leb, ltb}
 use lib.ListN.{length, getD}
 use Rattle.model.specs.Lists.{upFrom, anyOf, allOf, countOf, sameList}
-use Rattle.model.specs.Limits.{maxLimit, maxTally, maxVerdicts, callers, minBuffer, minTable, maxSummary, maxPattern, maxMembers, maxDocument, maxPosition}
-use Rattle.model.specs.Tree.{Document, parentOf, labelOf}
+use Rattle.model.specs.Limits.{maxLimit, maxTally, maxVerdicts, callers, minBuffer, minTable, maxSummary, maxPattern, maxMembers, maxDocument, maxPosition, maxFigure}
+use Rattle.model.specs.Tree.{Document, parentOf, labelOf, figureOf}
 use Rattle.model.specs.Summary.{Summary, noSummaryRecord, summaryParent, summaryLabel}
-use Rattle.model.specs.Pattern.{PatternRecord, Pattern, noPatternRecord, patternParent, position, arity}
+use Rattle.model.specs.Pattern.{PatternRecord, Pattern, noPatternRecord, patternParent, position, patternFigure, arity}
 use Rattle.model.specs.Embeddings.{summaryEmbeddings}
 use Rattle.model.specs.Fitting.{parentRule}
 use Rattle.model.specs.Bytes.{Case, caseOf, documentOf, listOf, isWholeCase, isWholeDocument, isWholeList}
@@ -21,7 +21,7 @@ between low high n = leb low n && leb n high
 unfoldable pub limitInRange : ℕ → Bool
 limitInRange L = between 1 maxLimit L
 
--- 2. Has the answer buffer 4,096 bytes or more, or the lent table 1,024 records or more?
+-- 2. Has the answer buffer 8,192 bytes or more, or the lent table 1,024 records or more?
 unfoldable pub bufferLargeEnough : ℕ → Bool
 bufferLargeEnough bytes = leb minBuffer bytes
 
@@ -70,6 +70,19 @@ patternKept P = allOf (patternRecordKept P) (upFrom 0 (length P))
 
 unfoldable pub patternsKept : Case → Bool
 patternsKept c = patternKept (c .first) && allOf patternKept (c .members)
+
+-- 17. Is every figure at most 2,000, of all records of all selections, and of a volume?
+unfoldable pub figureInRange : ℕ → Bool
+figureInRange figure = leb figure maxFigure
+
+unfoldable pub patternFigures : Pattern → Bool
+patternFigures P = allOf (λ q. figureInRange (patternFigure P q)) (upFrom 0 (length P))
+
+unfoldable pub figuresKept : Case → Bool
+figuresKept c = patternFigures (c .first) && allOf patternFigures (c .members)
+
+unfoldable pub documentFigures : Document → Bool
+documentFigures W = allOf (λ i. figureInRange (figureOf W i)) (upFrom 0 (length W))
 
 -- 8. Has each selection the positions 1 to k once each, k at least 1, the same k in all?
 unfoldable pub positionsOnce : Pattern → Bool
@@ -127,11 +140,15 @@ unfoldable pub refusal : List Question → ℕ
 refusal [] = 0
 refusal (q ∷ qs) = elim (q .answer) [ true ↦ refusal qs | false ↦ q .number ]
 
--- 3 to 8, with 14 right after 4
+-- 3 to 8, with 14 right after 4 and 17 right after 7
 unfoldable pub caseQuestions : List ℕ → List Question
 caseQuestions b =
     ask 3 (caseWhole b) ∷ ask 4 (countsInRange (caseOf b)) ∷ ask 14 (setInRange (caseOf b)) ∷ ask 5 (summaryKept (caseOf b .summary))
-    ∷ ask 6 (siblingsDiffer (caseOf b .summary)) ∷ ask 7 (patternsKept (caseOf b)) ∷ ask 8 (positionsKept (caseOf b)) ∷ []
+    ∷ ask 6 (siblingsDiffer (caseOf b .summary)) ∷ ask 7 (patternsKept (caseOf b)) ∷ ask 17 (figuresKept (caseOf b)) ∷ ask 8 (positionsKept (caseOf b)) ∷ []
+
+-- of a volume: 10, with 17 right after it
+abbrev pub documentQuestions : List ℕ → List Question
+documentQuestions w = ask 10 (documentKept w) ∷ ask 17 (documentFigures (documentOf w)) ∷ []
 
 -- after the limit, of a call that goes to its caller's own tally and tries at most `most`: 2 to 9, with 16 just before 9
 abbrev pub chargedQuestions : List ℕ → ℕ → ℕ → ℕ → ℕ → List Question
@@ -146,21 +163,21 @@ verdictRefusal b L caller tally bufferBytes = refusal (ask 1 (limitInRange L) �
 unfoldable pub minimiseRefusal : List ℕ → ℕ → ℕ → ℕ → ℕ → ℕ
 minimiseRefusal b L caller tally bufferBytes = refusal (ask 1 (limitInRange L) ∷ chargedQuestions b (maxVerdicts * L) caller tally bufferBytes)
 
--- Fits: 3 to 8, 10
+-- Fits: 3 to 8, 10, 17
 unfoldable pub fitsRefusal : List ℕ → List ℕ → ℕ
-fitsRefusal b w = refusal (caseQuestions b ++ ask 10 (documentKept w) ∷ [])
+fitsRefusal b w = refusal (caseQuestions b ++ documentQuestions w)
 
--- Is it a result: 3 to 8, 10, 12, 11
+-- Is it a result: 3 to 8, 10, 17, 12, 11
 unfoldable pub resultRefusal : List ℕ → ℕ → List ℕ → List ℕ → ℕ
 resultRefusal b s w r =
     refusal
-    (caseQuestions b ++ ask 10 (documentKept w) ∷ ask 12 (patternGiven (caseOf b) s)
+    (caseQuestions b ++ documentQuestions w ++ ask 12 (patternGiven (caseOf b) s)
     ∷ ask 11 (listInRange (arity (selected (caseOf b) s)) (length (documentOf w)) r) ∷ [])
 
--- Nodes at a position: 2 to 8, 10, 12
+-- Nodes at a position: 2 to 8, 10, 17, 12
 unfoldable pub nodesRefusal : List ℕ → ℕ → List ℕ → ℕ → ℕ → ℕ
 nodesRefusal b s w p bufferBytes =
-    refusal (ask 2 (bufferLargeEnough bufferBytes) ∷ caseQuestions b ++ ask 10 (documentKept w) ∷ ask 12 (positionGiven (caseOf b) s p) ∷ [])
+    refusal (ask 2 (bufferLargeEnough bufferBytes) ∷ caseQuestions b ++ documentQuestions w ++ ask 12 (positionGiven (caseOf b) s p) ∷ [])
 
 -- Paths of each node: 3 to 8, 12
 unfoldable pub pathsRefusal : List ℕ → ℕ → ℕ

@@ -25,7 +25,7 @@ abbrev pub summaryOthers : SummaryRecord → List ℕ
 summaryOthers r = r .label ∷ r .strong ∷ []
 
 abbrev pub patternOthers : PatternRecord → List ℕ
-patternOthers r = r .label ∷ r .edge ∷ r .position ∷ []
+patternOthers r = r .label ∷ r .edge ∷ r .position ∷ r .figure ∷ []
 
 -- of outlines, and of selections
 abbrev pub SummaryRenumbering : Summary → Summary → Type 0

@@ -28,7 +28,7 @@ abbrev pub raised : ℕ → ℕ → ℕ
 raised q i = elim (ltb i q) [ true ↦ i | false ↦ suc i ]
 
 abbrev pub relinked : ℕ → PatternRecord → PatternRecord
-relinked q r = record { parent = lowered q (r .parent); label = r .label; edge = r .edge; position = r .position }
+relinked q r = record { parent = lowered q (r .parent); label = r .label; edge = r .edge; position = r .position; figure = r .figure }
 
 -- the selection without node q: records in their old order, parents renumbered
 unfoldable pub without : Pattern → ℕ → Pattern

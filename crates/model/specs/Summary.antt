@@ -20,9 +20,9 @@ abbrev pub noSummaryRecord : SummaryRecord
 noSummaryRecord = record { parent = 0; label = 0; strong = 0 }
 
 abbrev pub withoutStrong : SummaryRecord → DocumentRecord
-withoutStrong r = record { parent = r .parent; label = r .label }
+withoutStrong r = record { parent = r .parent; label = r .label; figure = 0 }
 
--- the outline read as a volume
+-- the outline read as a volume; nothing that reads it so regards figures
 abbrev pub asDocument : Summary → Document
 asDocument S = map withoutStrong S
 

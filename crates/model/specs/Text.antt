@@ -9,7 +9,7 @@ use lib.Dec.{eqb, ltb}
 use lib.ListN.{length, getD, replicate}
 use Rattle.model.specs.Lists.{upFrom, total}
 use Rattle.model.specs.Limits.{maxLimit, callers, minBuffer}
-use Rattle.model.specs.Tree.{Document, parentOf, labelOf}
+use Rattle.model.specs.Tree.{Document, parentOf, labelOf, figureOf}
 use Rattle.model.specs.Summary.{Summary}
 use Rattle.model.specs.Pattern.{PatternRecord, Pattern, noPatternRecord}
 use Rattle.model.specs.Canonical.{canonical, ownResult}
@@ -55,9 +55,9 @@ numbers ns = flatMap number ns
 unfoldable pub line : List ℕ → List ℕ → List ℕ
 line words ns = words ++ (numbers ns ++ ascii "\n")
 
--- a node line has number, parent, label
+-- a node line has number, parent, label, figure
 unfoldable pub nodeLine : Document → ℕ → List ℕ
-nodeLine W i = line (ascii "node") (i ∷ parentOf W i ∷ labelOf W i ∷ [])
+nodeLine W i = line (ascii "node") (i ∷ parentOf W i ∷ labelOf W i ∷ figureOf W i ∷ [])
 
 -- the node lines of a volume
 unfoldable pub nodeLines : Document → List ℕ
@@ -103,11 +103,11 @@ programRefusal b = verdictRefusal b maxLimit programCaller (tallyOf programTalli
 unfoldable pub printed : List ℕ → List ℕ
 printed b = elim (eqb (programRefusal b) 0) [ true ↦ caseText (caseOf b) | false ↦ refusedText (programRefusal b) ]
 
--- of the program that strikes: a node line has number, parent, label, edge, position
+-- of the program that strikes: a node line has number, parent, label, edge, position, figure
 unfoldable pub patternLine : Pattern → ℕ → List ℕ
 patternLine P i =
     let r : PatternRecord = getD P i noPatternRecord in
-    line (ascii "node") (i ∷ r .parent ∷ r .label ∷ r .edge ∷ r .position ∷ [])
+    line (ascii "node") (i ∷ r .parent ∷ r .label ∷ r .edge ∷ r .position ∷ r .figure ∷ [])
 
 -- the node lines of a selection
 unfoldable pub patternLines : Pattern → List ℕ

@@ -1,6 +1,6 @@
 -- Rooted trees as tables of records, and what a document (document 01: volume) is. A finite rooted tree of labelled nodes
 -- is a table in which each node stands after its parent.
-use Prim.Native.Nat.{ℕ, _<_}
+use Prim.Native.Nat.{ℕ, _≤_, _<_}
 use mathlib.Core.Path.{_≡_}
 use mathlib.Core.Bool.{Bool, true, false}
 use mathlib.Core.Logic.{_⊎_}
@@ -13,10 +13,11 @@ pub record Rooted (n : ℕ) (parent : ℕ → ℕ) : Type 0 where
   pub root : parent 0 ≡ 0
   pub earlier : (i : ℕ) → 0 < i → i < n → parent i < i
 
--- a volume node: its parent's number and its label
+-- a volume node: its parent's number, its label and its figure
 pub record DocumentRecord : Type 0 where
   pub parent : ℕ
   pub label : ℕ
+  pub figure : ℕ
 
 -- volume, of any size
 abbrev pub Document : Type 0
@@ -24,13 +25,16 @@ Document = List DocumentRecord
 
 -- what a number past the last node reads as
 abbrev pub noDocumentRecord : DocumentRecord
-noDocumentRecord = record { parent = 0; label = 0 }
+noDocumentRecord = record { parent = 0; label = 0; figure = 0 }
 
 abbrev pub parentOf : Document → ℕ → ℕ
 parentOf W i = getD W i noDocumentRecord .parent
 
 abbrev pub labelOf : Document → ℕ → ℕ
 labelOf W i = getD W i noDocumentRecord .label
+
+abbrev pub figureOf : Document → ℕ → ℕ
+figureOf W i = getD W i noDocumentRecord .figure
 
 -- the table is a rooted tree
 abbrev pub IsTree : Document → Type 0
@@ -68,3 +72,7 @@ pub record Hom (W D : Document) (h : ℕ → ℕ) : Type 0 where
   pub inside : (i : ℕ) → i < length W → h i < length D
   pub labels : (i : ℕ) → i < length W → labelOf D (h i) ≡ labelOf W i
   pub children : (a b : ℕ) → Child W a b → Child D (h a) (h b)
+
+-- figures do not fall along a map of nodes
+abbrev pub Rises : Document → Document → (ℕ → ℕ) → Type 0
+Rises W D h = (i : ℕ) → i < length W → figureOf W i ≤ figureOf D (h i)
