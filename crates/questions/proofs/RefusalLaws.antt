@@ -30,7 +30,7 @@ asked-all = refl
 
 numbered : (b : List ℕ) → Numbered (caseQuestions b)
 unfolding caseQuestions
-numbered b = (omega arith, (omega arith, (omega arith, (omega arith, (omega arith, (omega arith, (omega arith, tt)))))))
+numbered b = (omega arith, (omega arith, (omega arith, (omega arith, (omega arith, (omega arith, (omega arith, (omega arith, tt))))))))
 
 all-yes : (b : List ℕ) → refusal (caseQuestions b) ≡ 0 → AllYes (caseQuestions b)
 all-yes b e = accepted-all-yes (caseQuestions b) (numbered b) e
@@ -58,6 +58,8 @@ pub accepted-whole : (b : List ℕ) → refusal (caseQuestions b) ≡ 0 → isWh
 unfolding caseQuestions caseWhole
 accepted-whole b e = all-yes b e .0
 
-pub ruleset asked = (needs, asked-no, asked-yes, asked-all, case-no, case-yes)
+pub ruleset one-by-one = (needs, asked-no, asked-yes, asked-all)
+
+pub ruleset asked = (one-by-one, case-no, case-yes)
 
 pub ruleset required = (needs, asked-whole, case-accepts, accepted-whole)
