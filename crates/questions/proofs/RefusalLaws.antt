@@ -28,12 +28,12 @@ asked-all = refl
 
 -- ---- the case questions
 
-numbered : (b : List ℕ) → Numbered (caseQuestions b)
+pub case-numbered : (b : List ℕ) → Numbered (caseQuestions b)
 unfolding caseQuestions
-numbered b = (omega arith, (omega arith, (omega arith, (omega arith, (omega arith, (omega arith, (omega arith, (omega arith, tt))))))))
+case-numbered b = (omega arith, (omega arith, (omega arith, (omega arith, (omega arith, (omega arith, (omega arith, (omega arith, tt))))))))
 
 all-yes : (b : List ℕ) → refusal (caseQuestions b) ≡ 0 → AllYes (caseQuestions b)
-all-yes b e = accepted-all-yes (caseQuestions b) (numbered b) e
+all-yes b e = accepted-all-yes (caseQuestions b) (case-numbered b) e
 
 pub case-no : (r : ℕ) (b : List ℕ) (rest : List Question) → r ≡ refusal (caseQuestions b) → (r ≡ 0 → ⊥) → r ≡ refusal (caseQuestions b ++ rest)
 case-no r b rest e f = e ∙ sym (refusal-kept (caseQuestions b) rest (λ z. f (e ∙ z)))
