@@ -52,7 +52,13 @@ fn write_narrower(b: &[u8], at: usize, out: &mut [u8], to: usize) -> usize
     let n = field(b, at);
     put_field(out, to, n as u16);
     for i in 0..n {
-        copy_fields(b, at + 1 + PATTERN_WIDTH * i, OLD_WIDTH, out, to + 1 + OLD_WIDTH * i);
+        copy_fields(
+            b,
+            at + 1 + PATTERN_WIDTH * i,
+            OLD_WIDTH,
+            out,
+            to + 1 + OLD_WIDTH * i,
+        );
     }
     to + 1 + OLD_WIDTH * n
 }

@@ -41,9 +41,10 @@ returns : tie.Need-returns Inv-loop μ-loop
 returns c =
     let put = c .before .before .before .before in
     let n = put .before .before in
-    let s = n .before .before .before in
-    (omega (arith, n .field .ensures .0, narrowed-length (now (s .args .b)) (s .args .at)),
-    moved-written patternRecordAt patternWidth oldRecord oldRecordFields _ _ _ (now (s .args .out)) (n .field .ensures .0) (put .put-field .ensures) (c .before .loop .inv) (c .loop-test .left))
+    let s = n .before .before .before in (
+      omega (arith, n .field .ensures .0, narrowed-length (now (s .args .b)) (s .args .at)),
+      moved-written patternRecordAt patternWidth oldRecord oldRecordFields _ _ _ (now (s .args .out)) (n .field .ensures .0) (put .put-field .ensures) (c .before .loop .inv) (c .loop-test .left),
+    )
 
 pub write-narrower-spec : {M : Type 1} → statement M
 write-narrower-spec =

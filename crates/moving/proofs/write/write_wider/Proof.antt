@@ -40,9 +40,10 @@ returns : tie.Need-returns Inv-loop μ-loop
 returns c =
     let put = c .before .before .before .before in
     let n = put .before .before in
-    let s = n .before .before .before in
-    (omega (arith, n .field .ensures .0, widened-length (now (s .args .b)) (s .args .at)),
-    moved-written oldRecordAt oldWidth newRecord patternFields _ _ _ (now (s .args .out)) (n .field .ensures .0) (put .put-field .ensures) (c .before .loop .inv) (c .loop-test .left))
+    let s = n .before .before .before in (
+      omega (arith, n .field .ensures .0, widened-length (now (s .args .b)) (s .args .at)),
+      moved-written oldRecordAt oldWidth newRecord patternFields _ _ _ (now (s .args .out)) (n .field .ensures .0) (put .put-field .ensures) (c .before .loop .inv) (c .loop-test .left),
+    )
 
 pub write-wider-spec : {M : Type 1} → statement M
 write-wider-spec =
