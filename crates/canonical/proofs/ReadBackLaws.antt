@@ -4,12 +4,12 @@ use Prim.Native.Nat.{ℕ, _≤_}
 use mathlib.Core.Path.{_≡_, sym, ap, _∙_, subst}
 use mathlib.Core.List.{List}
 use native.Mathlib.Omega.{arith}
-use lib.ListN.{length, length-map}
+use lib.ListN.{length}
 use Rattle.model.specs.Limits.{minBuffer, documentWidth}
 use Rattle.model.specs.Summary.{Summary}
 use Rattle.model.specs.Pattern.{Pattern}
 use Rattle.model.specs.Bytes.{documentFields, sectionFields, documentOf, WholeSection, AreBytes}
-use Rattle.model.specs.Canonical.{canonicalSpots, canonical, spotRecord}
+use Rattle.model.specs.Canonical.{canonicalSpots, canonical}
 use Rattle.model.proofs.Bytes.{FitFields}
 use Rattle.model.proofs.ReadBack.{label-small, canonical-fields}
 use Rattle.format.specs.Given.{summaryIn, patternAt}
@@ -17,7 +17,7 @@ use Rattle.format.proofs.WriteLaws.{document-size}
 use Rattle.format.proofs.WrittenLaws.{written-document, written-whole}
 use Rattle.canonical.specs.Given.{embeddingIn, Embedded, WrittenOut}
 use Rattle.canonical.specs.declared.LaidOut.{LaidOut}
-use Rattle.canonical.proofs.LayoutLaws.{spots-few}
+use Rattle.canonical.proofs.LayoutLaws.{canonical-length, spots-few}
 
 module _ {case : List ℕ} {at : ℕ} {images : List ℕ} (h : Embedded case at images) (small : AreBytes case) where
   abbrev S : Summary
@@ -30,8 +30,7 @@ module _ {case : List ℕ} {at : ℕ} {images : List ℕ} (h : Embedded case at 
   es = embeddingIn case at images
 
   size : length (canonical S P es) ≡ length (canonicalSpots S P es)
-  unfolding canonical
-  size = length-map (canonicalSpots S P es) (spotRecord S)
+  size = canonical-length S P es
 
   fits : FitFields (sectionFields documentFields (canonical S P es))
   fits =

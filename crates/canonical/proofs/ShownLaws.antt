@@ -10,7 +10,7 @@ use Rattle.model.specs.Limits.{maxPattern, maxCanonical}
 use Rattle.model.specs.Summary.{Summary}
 use Rattle.model.specs.Pattern.{Pattern, nodeAt, returnNodes}
 use Rattle.model.specs.Embeddings.{imageIn}
-use Rattle.model.specs.Canonical.{canonical, canonicalSpots, ownNodes, ownResult, spotRecord}
+use Rattle.model.specs.Canonical.{canonical, ownNodes, ownResult}
 use Rattle.model.specs.Bytes.{encodeDocument, encodeCounted, writtenAtFront}
 use Rattle.model.proofs.ListLaws.{length-map-upFrom}
 use Rattle.model.proofs.Bytes.{front-length, front-written}
@@ -23,7 +23,7 @@ use Rattle.format.proofs.WriteLaws.{document-size}
 use Rattle.canonical.specs.Given.{embeddingIn, WrittenOut}
 use Rattle.canonical.specs.Shown.{ownAt, Showable}
 use Rattle.canonical.specs.declared.LaidOut.{LaidOut}
-use Rattle.canonical.proofs.LayoutLaws.{spots-few}
+use Rattle.canonical.proofs.LayoutLaws.{canonical-length, spots-few}
 
 module _ {case : List ℕ} {at : ℕ} {images : List ℕ} {k : ℕ} (h : Showable case at images k) where
   abbrev S : Summary
@@ -75,11 +75,10 @@ module _ {case : List ℕ} {at : ℕ} {images : List ℕ} {k : ℕ} (h : Showabl
         (ap₂ (λ (n : ℕ) (xs : List ℕ). take n xs) (sym own-count) e ∙ front-written (ownAt P (r .own) k) result₀ ∙ own-same)
 
     -- the byte after the last record
-    pub shown-end : 2 + 4 * r .count ≡ length (encodeDocument (canonical S P es))
-    unfolding canonical
+    pub shown-end : 2 + 6 * r .count ≡ length (encodeDocument (canonical S P es))
     shown-end =
-        let n = document-size (map (spotRecord S) (canonicalSpots S P es)) in
-        let m = length-map (canonicalSpots S P es) (spotRecord S) in
+        let n = document-size (canonical S P es) in
+        let m = canonical-length S P es in
         let q = w .counted in
         omega arith
 
