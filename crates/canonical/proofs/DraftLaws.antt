@@ -20,6 +20,7 @@ use Rattle.model.specs.Bytes.{fieldBytes, bytesOf, documentFields, sectionField
 use Rattle.model.specs.Canonical.{Spot, rootSpot, spotParent, spotAt, spotRecord, spotRecords, hasChildOn}
 use Rattle.model.proofs.ListLaws.{bool-ext, and-left, and-right, any-agree, any-below, upFrom-mem, length-snoc, length-map-upFrom, getD-map}
 use Rattle.model.proofs.TreeLaws.{length-asDocument}
+use Rattle.model.proofs.SpotLaws.{length-spots}
 use Rattle.model.proofs.Masks.{mask-none}
 use Rattle.model.proofs.Bytes.{length-bytes, front-length}
 use Rattle.bits.proofs.MaskLaws.{mask-has, mask-agree, mask-insert, any-snoc}
@@ -177,7 +178,7 @@ spotted S f s = record { parent = s .parent; label = summaryLabel S (s .at); fig
 
 records-snoc : (S : Summary) (figure : ℕ → ℕ) (spots : List Spot) (s : Spot)
     → spotRecords S figure (spots ++ s ∷ []) ≡ spotRecords S figure spots ++ spotted S (figure (length spots)) s ∷ []
-unfolding spotted
+unfolding spotRecords spotted
 records-snoc S figure spots s =
     let T : List Spot = spots ++ s ∷ [] in
     let n : ℕ = length spots in
@@ -190,7 +191,7 @@ records-snoc S figure spots s =
 fields-length : (S : Summary) (spots : List Spot) → length (draftFields S spots) ≡ 1 + 3 * length spots
 fields-length S spots =
     let n = document-fields (spotRecords S noFigure spots) in
-    let m = length-map-upFrom (spotRecord S noFigure spots) 0 (length spots) in
+    let m = length-spots S noFigure spots in
     omega arith
 
 fields-snoc : (S : Summary) (spots : List Spot) (s : Spot)
@@ -332,7 +333,7 @@ module _ {S : Summary} {spots : List Spot} {base now : Draft} {count : ℕ} (c :
   drafted-section =
       let fs : List ℕ = flatMap documentFields (spotRecords S noFigure spots) in
       ap (λ (b : List ℕ). sets b 0 (fieldBytes count)) (c .bytes) ∙ count-put count fs (base .bytes)
-      ∙ ap (λ (n : ℕ). writtenAtFront (bytesOf (n ∷ fs)) (base .bytes)) (c .counted ∙ sym (length-map-upFrom (spotRecord S noFigure spots) 0 (length spots)))
+      ∙ ap (λ (n : ℕ). writtenAtFront (bytesOf (n ∷ fs)) (base .bytes)) (c .counted ∙ sym (length-spots S noFigure spots))
 
 -- the first entry alone is written
 front-one : (b : List ℕ) (x : ℕ) → 0 < length b → set b 0 x ≡ writtenAtFront (x ∷ []) b
@@ -350,7 +351,7 @@ summary-some {b} g = subst (λ (n : ℕ). 0 < n) (length-asDocument (summaryIn b
 pub drafted-root : {S : Summary} {base : Draft} {b₁ b₂ b₃ b₄ : List ℕ} {label : ℕ} → Roomy base → 0 < length S → b₁ ≡ sets (base .bytes) 0 (fieldBytes 0) → b₂ ≡ sets b₁ 2 (fieldBytes 0)
     → b₃ ≡ sets b₂ 4 (fieldBytes label) → label ≡ summaryLabel S 0 → b₄ ≡ sets b₃ 6 (fieldBytes 0)
     → Drafted S (rootSpot ∷ []) base (draft b₄ (set (base .on) 0 0) (set (base .kids) 0 0)) 1
-unfolding flatMap upFrom
+unfolding flatMap spotRecords upFrom
 drafted-root {S} {base} {b₂ = b₂} r some e₁ e₂ e₃ e e₄ =
     let room = r .bytes in
     record {

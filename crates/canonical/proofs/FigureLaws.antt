@@ -17,9 +17,10 @@ use Rattle.model.specs.Pattern.{PatternRecord, Pattern, noPatternRecord, patter
 use Rattle.model.specs.Embeddings.{imageIn}
 use Rattle.model.specs.Bytes.{fieldBytes, bytesOf, documentFields, sectionFields, encodeDocument, writtenAtFront}
 use Rattle.model.specs.Canonical.{Spot, spotRecord, spotRecords, ownFigure}
-use Rattle.model.proofs.ListLaws.{mem-upFrom, upFrom-mem, first-hit, length-map-upFrom}
+use Rattle.model.proofs.ListLaws.{mem-upFrom, upFrom-mem, first-hit}
+use Rattle.model.proofs.SpotLaws.{length-spots, spot-record}
 use Rattle.model.proofs.Bytes.{length-bytes, front-length}
-use Rattle.format.proofs.RangeLaws.{upFrom-last, getD-map-below}
+use Rattle.format.proofs.RangeLaws.{upFrom-last}
 use Rattle.format.proofs.WriteLaws.{flatMap-append, bytes-append, document-fields, document-size}
 use Rattle.canonical.specs.Draft.{noFigure}
 use Rattle.canonical.specs.Given.{Figureless, Figured}
@@ -103,11 +104,11 @@ figure-put W b v x h =
 -- of the nodes that are laid out, with figures f before and g after
 spot-put : (S : Summary) (spots : List Spot) (f g : ℕ → ℕ) (b : List ℕ) (v x : ℕ) → v < length spots → g v ≡ x → ((i : ℕ) → (i ≡ v → ⊥) → g i ≡ f i)
     → sets (writtenAtFront (encodeDocument (spotRecords S f spots)) b) (2 * (3 + 3 * v)) (fieldBytes x) ≡ writtenAtFront (encodeDocument (spotRecords S g spots)) b
-unfolding figured
+unfolding figured spotRecords
 spot-put S spots f g b v x h here other =
-    figure-put (spotRecords S f spots) b v x (omega (arith, length-map-upFrom (spotRecord S f spots) 0 (length spots)))
+    figure-put (spotRecords S f spots) b v x (omega (arith, length-spots S f spots))
     ∙ ap (λ (W : Document). writtenAtFront (encodeDocument W) b)
-    (ap (λ (r : DocumentRecord). set (spotRecords S f spots) v (figured r x)) (getD-map-below (spotRecord S f spots) (length spots) v noDocumentRecord h)
+    (ap (λ (r : DocumentRecord). set (spotRecords S f spots) v (figured r x)) (spot-record S f spots v h)
     ∙ map-put noDocumentRecord (spotRecord S f spots) (spotRecord S g spots) (length spots) v (figured (spotRecord S f spots v) x) h
     (ap (figured (spotRecord S f spots v)) here) (λ i ne. ap (figured (spotRecord S f spots i)) (other i ne)))
 
@@ -201,6 +202,6 @@ module _ {P : Pattern} {own before : List ℕ} where
       let r = given .room in
       let n = g .size in
       let d : length (encodeDocument (spotRecords S noFigure spots)) ≡ 2 + 6 * length (spotRecords S noFigure spots) = document-size (spotRecords S noFigure spots) in
-      let m : length (spotRecords S noFigure spots) ≡ length spots = length-map-upFrom (spotRecord S noFigure spots) 0 (length spots) in
+      let m : length (spotRecords S noFigure spots) ≡ length spots = length-spots S noFigure spots in
       let l : length before ≡ length base = ap (λ (x : List ℕ). length x) (given .section) ∙ front-length (encodeDocument (spotRecords S noFigure spots)) base (omega arith) in
       omega arith

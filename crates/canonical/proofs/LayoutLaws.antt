@@ -11,12 +11,11 @@ use Rattle.model.specs.Summary.{Summary}
 use Rattle.model.specs.Pattern.{Pattern}
 use Rattle.model.specs.Embeddings.{imageIn}
 use Rattle.model.specs.Bytes.{fieldBytes, encodeDocument, writtenAtFront}
-use Rattle.model.specs.Canonical.{chains, fillFrom, nodeBound, canonicalSpots, canonical, ownNodes, ownFigure, spotRecord, spotRecords}
-use Rattle.model.proofs.ListLaws.{length-map-upFrom}
+use Rattle.model.specs.Canonical.{chains, fillFrom, nodeBound, canonicalSpots, canonical, ownNodes, spotRecords}
 use Rattle.model.proofs.Bytes.{front-length}
-use Rattle.model.proofs.Laid.{spotOwner}
+use Rattle.model.proofs.Figures.{own-apart}
 use Rattle.model.proofs.Built.{Built}
-use Rattle.model.proofs.Canonical.{canonical-built, canonical-spots-few, canonical-small}
+use Rattle.model.proofs.Canonical.{length-canonical, canonical-built, canonical-laid, canonical-spots-few, canonical-small}
 use Rattle.format.specs.Given.{summaryIn, patternAt}
 use Rattle.canonical.specs.Draft.{Draft, Drafted}
 use Rattle.format.proofs.FrontLaws.{front-getD}
@@ -24,10 +23,6 @@ use Rattle.canonical.specs.Given.{embeddingIn, Embedded, Fillable, Figur
 use Rattle.canonical.proofs.DraftLaws.{drafted-section}
 use Rattle.canonical.proofs.FillLaws.{fill-grows}
 use Rattle.canonical.proofs.FigureLaws.{figures-agree}
-
-pub canonical-length : (S : Summary) (P : Pattern) (es : List ℕ) → length (canonical S P es) ≡ length (canonicalSpots S P es)
-unfolding canonical
-canonical-length S P es = length-map-upFrom (spotRecord S (ownFigure P (ownNodes S P es)) (canonicalSpots S P es)) 0 (length (canonicalSpots S P es))
 
 module _ {case : List ℕ} {at : ℕ} {images : List ℕ} (h : Embedded case at images) where
   abbrev S : Summary
@@ -42,7 +37,7 @@ module _ {case : List ℕ} {at : ℕ} {images : List ℕ} (h : Embedded case at 
   pub spots-few : length (canonicalSpots S P es) ≤ maxCanonical
   spots-few =
       let a : length (canonical S P es) ≤ maxCanonical = canonical-small S P es (h .summary .tree) (h .pattern .tree) (h .embedding) (h .summary .few) (h .pattern .few) in
-      let b : length (canonical S P es) ≡ length (canonicalSpots S P es) = canonical-length S P es in
+      let b : length (canonical S P es) ≡ length (canonicalSpots S P es) = length-canonical S P es in
       omega arith
 
   pub chains-few : length (chains S P es .spots) ≤ maxCanonical
@@ -91,7 +86,7 @@ module _ {case : List ℕ} {at : ℕ} {images : List ℕ} (h : Embedded case at 
           enough = omega arith;
           inside = λ p l. subst (λ (v : ℕ). v < length (canonicalSpots S P es)) (sym (own-same p l)) (built .ownInside p l);
           apart = λ p q l k s.
-              sym (built .ownOwner p l) ∙ ap (spotOwner (canonicalSpots S P es)) (sym (own-same p l) ∙ s ∙ own-same q k) ∙ built .ownOwner q k;
+              own-apart (canonical-laid S P es (h .summary .tree) (h .pattern .tree) (h .embedding)) p q l k (sym (own-same p l) ∙ s ∙ own-same q k);
         }
 
     -- and with them the canonical document's section

@@ -14,7 +14,7 @@ use Rattle.model.specs.Canonical.{canonical, ownNodes, ownResult}
 use Rattle.model.specs.Bytes.{encodeDocument, encodeCounted, writtenAtFront}
 use Rattle.model.proofs.ListLaws.{length-map-upFrom}
 use Rattle.model.proofs.Bytes.{front-length, front-written}
-use Rattle.model.proofs.Canonical.{canonical-built}
+use Rattle.model.proofs.Canonical.{length-canonical, canonical-built}
 use Rattle.model.proofs.ReturnNodes.{length-returnNodes, return-at}
 use Rattle.format.specs.Given.{summaryIn, patternAt}
 use Rattle.format.proofs.FrontLaws.{front-getD}
@@ -23,7 +23,7 @@ use Rattle.format.proofs.WriteLaws.{document-size}
 use Rattle.canonical.specs.Given.{embeddingIn, WrittenOut}
 use Rattle.canonical.specs.Shown.{ownAt, Showable}
 use Rattle.canonical.specs.declared.LaidOut.{LaidOut}
-use Rattle.canonical.proofs.LayoutLaws.{canonical-length, spots-few}
+use Rattle.canonical.proofs.LayoutLaws.{spots-few}
 
 module _ {case : List ℕ} {at : ℕ} {images : List ℕ} {k : ℕ} (h : Showable case at images k) where
   abbrev S : Summary
@@ -78,7 +78,7 @@ module _ {case : List ℕ} {at : ℕ} {images : List ℕ} {k : ℕ} (h : Showabl
     pub shown-end : 2 + 6 * r .count ≡ length (encodeDocument (canonical S P es))
     shown-end =
         let n = document-size (canonical S P es) in
-        let m = canonical-length S P es in
+        let m = length-canonical S P es in
         let q = w .counted in
         omega arith
 
