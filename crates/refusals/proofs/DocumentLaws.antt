@@ -2,7 +2,7 @@
 use Prim.Native.Nat.{ℕ, _+_, _*_, _/_, _%_, _≤_, _<_}
 use mathlib.Core.Path.{_≡_, sym, ap, _∙_}
 use mathlib.Core.Bool.{Bool, true, false, _&&_, not}
-use mathlib.Core.List.{List, _++_}
+use mathlib.Core.List.{List, _++_, append-assoc}
 use native.Mathlib.Omega.{arith}
 use lib.Dec.{eqb, ltb}
 use lib.ListN.{length}
@@ -43,9 +43,10 @@ asked-document answer w e t = kept-whole w (said-yes answer (documentKept w) e t
 -- ---- the questions on a case and a document, asked before others
 
 module _ (refused : ℕ) (b w : List ℕ) (e : refused ≡ fitsRefusal b w) where
-  pub given-no : (rest : List Question) → (refused ≡ 0 → ⊥) → refused ≡ refusal (caseQuestions b ++ documentQuestions w ++ rest)
+  pub given-no : (rest : List Question) → (refused ≡ 0 → ⊥) → refused ≡ refusal (caseQuestions b ++ (documentQuestions w ++ rest))
   unfolding fitsRefusal
-  given-no rest f = e ∙ sym (refusal-kept (caseQuestions b ++ documentQuestions w) rest (λ z. f (e ∙ z)))
+  given-no rest f =
+      e ∙ sym (refusal-kept (caseQuestions b ++ documentQuestions w) rest (λ z. f (e ∙ z))) ∙ ap refusal (append-assoc (caseQuestions b) (documentQuestions w) rest)
 
   module _ (z : refused ≡ 0) where
     all-yes : AllYes (caseQuestions b ++ documentQuestions w)
@@ -54,8 +55,9 @@ module _ (refused : ℕ) (b w : List ℕ) (e : refused ≡ fitsRefusal b w) wher
         accepted-all-yes (caseQuestions b ++ documentQuestions w) (numbered-append (caseQuestions b) (documentQuestions w) (case-numbered b) (omega arith, (omega arith, tt)))
         (sym e ∙ z)
 
-    pub given-yes : (r : ℕ) (rest : List Question) → r ≡ refusal rest → r ≡ refusal (caseQuestions b ++ documentQuestions w ++ rest)
-    given-yes r rest after = after ∙ sym (refusal-after (caseQuestions b ++ documentQuestions w) rest all-yes)
+    pub given-yes : (r : ℕ) (rest : List Question) → r ≡ refusal rest → r ≡ refusal (caseQuestions b ++ (documentQuestions w ++ rest))
+    given-yes r rest after =
+        after ∙ sym (refusal-after (caseQuestions b ++ documentQuestions w) rest all-yes) ∙ ap refusal (append-assoc (caseQuestions b) (documentQuestions w) rest)
 
     pub given-case : isWholeCase b ≡ true
     given-case = accepted-whole b (refusal-none (caseQuestions b) (all-yes-left (caseQuestions b) (documentQuestions w) all-yes))
