@@ -7,7 +7,7 @@
 use super::callers;
 use super::cases;
 use super::plan::{least_length, OutlineRow, Plan, SelectionRow};
-use super::prng::Prng;
+use super::prng::{Prng, Seed};
 use super::sets;
 use super::trees;
 use super::turns::{turns, Rank};
@@ -23,7 +23,8 @@ const DESCENDANT: u16 = 1;
 
 /// The cases that are always the same, six by turns for each size of a set, and
 /// `count` random ones.
-pub fn many(seed: u64, count: usize) -> Vec<Vector> {
+pub fn many(seed: impl Into<Seed>, count: usize) -> Vec<Vector> {
+    let seed = seed.into();
     let mut prng = Prng::new(seed);
     let fixed = [
         // 63^15 placements, far above 10^18, all of which pass.
@@ -147,16 +148,20 @@ fn plan(outline: Vec<OutlineRow>, first: Vec<SelectionRow>, member: Vec<Selectio
 fn star(width: usize, free: usize) -> Plan {
     let mut outline = vec![[0, ROOT, 0]];
     outline.extend((0..width).map(|child| [0, 10 + child as u16, 0]));
-    let mut first = vec![[0, ROOT, CHILD, 1]];
-    first.extend(std::iter::repeat_n([0, ANY, DESCENDANT, 0], free));
-    plan(outline, first, vec![[0, ANY, CHILD, 1], [0, ANY, CHILD, 0]])
+    let mut first = vec![[0, ROOT, CHILD, 1, 0]];
+    first.extend(std::iter::repeat_n([0, ANY, DESCENDANT, 0, 0], free));
+    plan(
+        outline,
+        first,
+        vec![[0, ANY, CHILD, 1, 0], [0, ANY, CHILD, 0, 0]],
+    )
 }
 
 /// A star with a member for each child, as far as eight go: a trial fails only
 /// where all free nodes are at children without one.
 fn member_each(width: usize, free: usize) -> Plan {
     let mut made = star(width, free);
-    let asking = |child| vec![[0, ROOT, CHILD, 1], [0, 10 + child as u16, CHILD, 0]];
+    let asking = |child| vec![[0, ROOT, CHILD, 1, 0], [0, 10 + child as u16, CHILD, 0, 0]];
     made.set = (0..width.min(SET_SELECTIONS)).map(asking).collect();
     made
 }
@@ -171,15 +176,16 @@ fn alternating(width: usize, free: usize) -> Plan {
     made.outline.push([0, X, 0]);
     made.outline
         .extend((0..SET_SELECTIONS).map(|child| [at, below(child), 0]));
-    made.first.extend([[0, X, CHILD, 0], [last, ANY, CHILD, 0]]);
+    made.first
+        .extend([[0, X, CHILD, 0, 0], [last, ANY, CHILD, 0, 0]]);
     for node in &mut made.first[1..] {
         node[2] = CHILD;
     }
     let asking = |child| {
         vec![
-            [0, ROOT, CHILD, 1],
-            [0, X, CHILD, 0],
-            [1, below(child), CHILD, 0],
+            [0, ROOT, CHILD, 1, 0],
+            [0, X, CHILD, 0, 0],
+            [1, below(child), CHILD, 0, 0],
         ]
     };
     made.set = (0..SET_SELECTIONS).map(asking).collect();
@@ -197,9 +203,9 @@ fn one_without(width: usize, free: usize, without: usize) -> Plan {
         node[2] = CHILD;
     }
     made.set = vec![vec![
-        [0, ROOT, CHILD, 1],
-        [0, ANY, CHILD, 0],
-        [1, X, CHILD, 0],
+        [0, ROOT, CHILD, 1, 0],
+        [0, ANY, CHILD, 0, 0],
+        [1, X, CHILD, 0, 0],
     ]];
     made
 }
@@ -212,12 +218,12 @@ fn two_blocks(passing: usize, failing: usize, free: usize) -> Plan {
     let mut outline = vec![[0, ROOT, 0], [0, FIRST, 0], [0, FIRST + 1, 0]];
     outline.extend((0..passing).map(|child| [1, 10 + child as u16, 0]));
     outline.extend((0..failing).map(|child| [2, 10 + child as u16, 0]));
-    let mut first = vec![[0, ROOT, CHILD, 1], [0, ANY, CHILD, 0]];
-    first.extend(std::iter::repeat_n([1, ANY, CHILD, 0], free));
+    let mut first = vec![[0, ROOT, CHILD, 1, 0], [0, ANY, CHILD, 0, 0]];
+    first.extend(std::iter::repeat_n([1, ANY, CHILD, 0, 0], free));
     plan(
         outline,
         first,
-        vec![[0, ROOT, CHILD, 1], [0, FIRST, CHILD, 0]],
+        vec![[0, ROOT, CHILD, 1, 0], [0, FIRST, CHILD, 0, 0]],
     )
 }
 
@@ -230,14 +236,14 @@ fn vast(prng: &mut Prng) -> Plan {
         let label = 10 + outline.len() as u16;
         outline.push([parent, label, u16::from(prng.percent(10))]);
     }
-    let mut first: Vec<SelectionRow> = vec![[0, 1, 0, 1]];
+    let mut first: Vec<SelectionRow> = vec![[0, 1, 0, 1, 0]];
     while first.len() <= 15 {
         let parent = if prng.percent(80) {
             0
         } else {
             prng.below(first.len()) as u16
         };
-        first.push([parent, 0, 1, 0]);
+        first.push([parent, 0, 1, 0, 0]);
     }
     let weak = trees::weaken(prng, &first);
     let mut made = plan(outline, first, weak);
@@ -273,14 +279,14 @@ fn by_turns(prng: &mut Prng) -> Plan {
             u16::from(prng.percent(20)),
         ]);
     }
-    let mut first: Vec<SelectionRow> = vec![[0, 1, 0, 1], [0, 2, 0, 0]];
+    let mut first: Vec<SelectionRow> = vec![[0, 1, 0, 1, 0], [0, 2, 0, 0, 0]];
     for _ in 0..prng.between(1, 13) {
-        first.push([prng.below(2) as u16, 0, 1, 0]);
+        first.push([prng.below(2) as u16, 0, 1, 0, 0]);
     }
-    first.push([1, 3, 1, 0]);
-    let mut member: Vec<SelectionRow> = vec![[0, 1, 0, 1], [0, 2, 1, 0], [1, 3, 0, 0]];
+    first.push([1, 3, 1, 0, 0]);
+    let mut member: Vec<SelectionRow> = vec![[0, 1, 0, 1, 0], [0, 2, 1, 0, 0], [1, 3, 0, 0, 0]];
     if prng.percent(30) {
-        member.push([0, 0, 1, 0]);
+        member.push([0, 0, 1, 0, 0]);
     }
     plan(outline, first, member)
 }
