@@ -70,9 +70,7 @@ fn tallies_of_each() -> Vec<Vector> {
     out
 }
 
-/// Every plan as it is, about each of its selections, and in the forms that the
-/// call does not take. One that is moved comes with the whole of its set and its
-/// figures too.
+/// Every plan as it is and in the forms that the call does not take.
 fn unbroken(call: u32) -> Vec<Vector> {
     let mut out = Vec::new();
     let plans = [
@@ -87,17 +85,26 @@ fn unbroken(call: u32) -> Vec<Vector> {
         old_and_whole(),
         narrow_and_whole(),
     ];
-    for whole in plans.into_iter().chain(decided_by_figures()) {
-        let plan = whole.for_call(call);
-        if MOVES.contains(&call) {
-            out.push(plan.vector());
-            out.push(whole.given_to(call).vector());
-        } else {
-            out.extend((1..=plan.last_selection()).map(|number| about(&plan, number)));
-        }
+    for whole in plans {
         out.extend(other_forms(&whole.given_to(call)));
+        out.extend(about_each(&whole, call));
+    }
+    for plan in decided_by_figures() {
+        out.extend(about_each(&plan, call));
     }
     out
+}
+
+/// About each of its selections; one that is moved comes with the whole of its set and
+/// its figures too.
+fn about_each(whole: &Plan, call: u32) -> Vec<Vector> {
+    let plan = whole.for_call(call);
+    if MOVES.contains(&call) {
+        vec![plan.vector(), whole.given_to(call).vector()]
+    } else {
+        let numbers = 1..=plan.last_selection();
+        numbers.map(|number| about(&plan, number)).collect()
+    }
 }
 
 /// The call about another selection, with that one's first placement if it
@@ -484,14 +491,12 @@ fn narrow_and_whole() -> Plan {
 /// a strong edge brings, which has 0.
 fn decided_by_figures() -> Vec<Plan> {
     let figures = [
-        (0, 0),
         (0, 1),
         (1, 0),
         (1, 1),
         (255, 256),
         (256, 255),
         (1_999, 2_000),
-        (2_000, 1_999),
         (2_000, 2_000),
     ];
     let each = |(own, asked)| {

@@ -168,6 +168,7 @@ fn one_failure(prng: &mut Prng, place: usize) -> Plan {
     }
     let mut first: Vec<SelectionRow> = vec![[0, 1, 0, 1, 0]];
     first.extend(std::iter::repeat_n([0, 0, 0, 0, 0], w));
+    figures::ask(prng, &mut first);
     let mut set = asking(prng, width, without, X);
     sets::rearrange(prng, &mut set);
     Plan {

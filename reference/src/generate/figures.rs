@@ -2,7 +2,7 @@
 //! decide, and at the bounds. They come from a stream of their own, so that one
 //! seed gives the same trees with figures and without.
 
-use super::plan::{SelectionRow, VolumeRow};
+use super::plan::{Plan, SelectionRow, VolumeRow};
 use super::prng::Prng;
 use crate::records::FIGURE_MOST;
 
@@ -37,10 +37,10 @@ pub fn ask_less(prng: &mut Prng, rows: &mut [SelectionRow]) {
     }
 }
 
-/// Now and then asks more, or the same, of a node: just one more, or any figure.
+/// Often asks more, or the same, of a node: just one more, or any figure.
 pub fn ask_more(prng: &mut Prng, rows: &mut [SelectionRow]) {
     let Some(prng) = prng.figures() else { return };
-    if prng.percent(20) {
+    if prng.percent(60) {
         let figure = &mut rows[prng.below(rows.len())][OF_SELECTION];
         let more = [*figure + 1, some(prng)][prng.below(2)];
         *figure = more.clamp(*figure, FIGURE_MOST);
@@ -65,12 +65,37 @@ pub fn seldom(prng: &mut Prng) -> u16 {
     }
 }
 
+/// What all selections of a plan ask for: nodes of the first any figures, and a
+/// member's nodes mostly 0, or what one of the first of that label has, one less or
+/// one more.
+pub fn ask_all(prng: &mut Prng, plan: &mut Plan) {
+    let Some(prng) = prng.figures() else { return };
+    for row in &mut plan.first {
+        row[OF_SELECTION] = some(prng);
+    }
+    for row in plan.set.iter_mut().flatten() {
+        let alike = plan.first.iter().filter(|own| own[1] == row[1]);
+        let figures: Vec<u16> = alike.map(|own| own[OF_SELECTION]).collect();
+        if let Some(&figure) = prng.one_of(&figures).filter(|_| prng.percent(40)) {
+            let near = [figure, figure.saturating_sub(1), figure + 1];
+            row[OF_SELECTION] = near[prng.below(3)].min(FIGURE_MOST);
+        }
+    }
+}
+
 /// Figures of a volume: the most or the least everywhere, or any.
 pub fn give(prng: &mut Prng, rows: &mut [VolumeRow]) {
     let Some(prng) = prng.figures() else { return };
     let all = [Some(FIGURE_MOST), Some(0), None, None][prng.below(4)];
     for row in rows {
         row[OF_VOLUME] = all.unwrap_or_else(|| some(prng));
+    }
+}
+
+/// Every node has more than a selection can ask for.
+pub fn grant(rows: &mut [VolumeRow]) {
+    for row in rows {
+        row[OF_VOLUME] = u16::MAX;
     }
 }
 

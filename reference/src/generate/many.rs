@@ -2,10 +2,12 @@
 //! limit, exactly at it and one past it; one failing placement far down, and
 //! many behind a long run that passes; all passing, at different places or
 //! through different members by turns; passing by turns up to a failure at the
-//! first rank, in the middle, at the limit and one past it.
+//! first rank, in the middle, at the limit and one past it; failing by figures
+//! alone.
 
 use super::callers;
 use super::cases;
+use super::figures::{self, OF_SELECTION};
 use super::plan::{least_length, OutlineRow, Plan, SelectionRow};
 use super::prng::{Prng, Seed};
 use super::sets;
@@ -46,6 +48,12 @@ pub fn many(seed: impl Into<Seed>, count: usize) -> Vec<Vector> {
         // all of 800,000 pass, through eight members by turns.
         (member_each(10, 6), LIMIT),
         (alternating(9, 5), LIMIT),
+        // By figures alone: the first that fails is the 800,001st, or the 9th.
+        (one_figure(10, 6, 1), LIMIT),
+        (one_figure(10, 6, 1), 800_000),
+        (one_figure(10, 6, 6), LIMIT),
+        // Those pass that have an own node at x, which is the last place of all.
+        (own_node_at_x(9, 6), LIMIT),
     ];
     let fixed = fixed.into_iter().map(|(plan, limit)| verdict(plan, limit));
     let sizes = (1..=SET_SELECTIONS).flat_map(|members| at_ranks(&mut prng, members));
@@ -98,7 +106,16 @@ fn drawn_turns(prng: &mut Prng) -> Vector {
             made = made.crossed(prng);
         }
     }
-    verdict(made.plan(), limit)
+    let mut plan = made.plan();
+    now_and_then(prng, &mut plan);
+    verdict(plan, limit)
+}
+
+/// What all ask for drawn anew, now and then.
+fn now_and_then(prng: &mut Prng, plan: &mut Plan) {
+    if prng.figures().is_some_and(|prng| prng.percent(40)) {
+        figures::ask_all(prng, plan);
+    }
 }
 
 fn verdict(plan: Plan, limit: u64) -> Vector {
@@ -118,17 +135,26 @@ fn drawn(prng: &mut Prng) -> Vector {
     let (most, nodes) = [(31, 3), (31, 4), (15, 5), (10, 6), (5, 8)][prng.below(5)];
     let width = prng.between(most * 2 / 3, most);
     let soon = 1 + prng.draw() % 30_000;
-    let plan = match prng.below(20) {
-        0 | 1 => one_without(width, nodes, prng.below(width)),
-        2 | 3 => two_blocks(width, prng.between(1, 4), nodes),
-        4 => star(width, nodes),
-        5 => return verdict(vast(prng), soon),
-        6 => return verdict(by_turns(prng), soon),
-        7 => member_each(width, nodes),
-        8 => return verdict(alternating(width, nodes), soon),
-        9 => return verdict(cases::many(prng), soon),
+    let (mut plan, whole) = match prng.below(20) {
+        0 | 1 => (one_without(width, nodes, prng.below(width)), true),
+        2 | 3 => (two_blocks(width, prng.between(1, 4), nodes), true),
+        4 => (star(width, nodes), true),
+        5 => (vast(prng), false),
+        6 => (by_turns(prng), false),
+        7 => (member_each(width, nodes), true),
+        8 => (alternating(width, nodes), false),
+        9 => (cases::many(prng), false),
         _ => return drawn_turns(prng),
     };
+    if let Some(prng) = prng.figures() {
+        if whole && prng.percent(20) {
+            plan = one_figure(width, nodes, prng.between(1, nodes));
+        }
+    }
+    now_and_then(prng, &mut plan);
+    if !whole {
+        return verdict(plan, soon);
+    }
     let all = (width as u64).pow(nodes as u32);
     let limit = [all - 1, all, all + 1, 1 + prng.draw() % all, LIMIT][prng.below(5)];
     verdict(plan, limit.clamp(1, LIMIT))
@@ -163,6 +189,37 @@ fn member_each(width: usize, free: usize) -> Plan {
     let mut made = star(width, free);
     let asking = |child| vec![[0, ROOT, CHILD, 1, 0], [0, 10 + child as u16, CHILD, 0, 0]];
     made.set = (0..width.min(SET_SELECTIONS)).map(asking).collect();
+    made
+}
+
+/// A star with a member for each child, as far as eight go, that asks for a figure
+/// there; one of the free nodes alone has it, and the others one less. So a trial
+/// fails where that one is at a child without a member.
+fn one_figure(width: usize, free: usize, number: usize) -> Plan {
+    const FIGURE: u16 = 256;
+    let mut made = member_each(width, free);
+    for (q, node) in made.first.iter_mut().enumerate().skip(1) {
+        node[OF_SELECTION] = FIGURE - u16::from(q != number);
+    }
+    for member in &mut made.set {
+        member[1][OF_SELECTION] = FIGURE;
+    }
+    made
+}
+
+/// A child x of the root with the other places below it, and free nodes that have a
+/// figure, which the member asks for at x: there are as many placements as with one
+/// place more, and only those fail that have no free node at x itself.
+fn own_node_at_x(width: usize, free: usize) -> Plan {
+    let mut made = star(width, free);
+    for place in &mut made.outline[1..] {
+        place[0] = 1;
+    }
+    made.outline.insert(1, [0, X, 0]);
+    for node in &mut made.first[1..] {
+        node[OF_SELECTION] = 1;
+    }
+    made.set = vec![vec![[0, ROOT, CHILD, 1, 0], [0, X, CHILD, 0, 1]]];
     made
 }
 

@@ -565,3 +565,46 @@ fn the_cases_to_be_written_are_of_all_kinds() {
     assert!(of(&whole) > 200 && of(&again) > 50 && of(&|case| !again(case)) > 1_000);
     assert!(all.iter().filter(|vector| vector.refusal() == 2).count() > 20);
 }
+
+/// The same without figures.
+fn plain(plan: &Plan) -> Plan {
+    let mut plan = plan.clone();
+    plan.forget_figures();
+    for row in &mut plan.volume {
+        row[2] = 0;
+    }
+    plan
+}
+
+/// Figures only take results away: verdicts and results that hold with them hold
+/// without them, and each way it is often the figure alone that decides.
+#[test]
+fn figures_decide_either_way() {
+    let mut prng = Prng::new(24u64);
+    let (mut within, mut outside, mut result_in, mut result_out) = (0, 0, 0, 0);
+    for _ in 0..1_500 {
+        let mut plan = selections(&mut prng);
+        plan.selection = prng.between(1, plan.last_selection() as usize) as u64;
+        plan.volume = around_embedding(&mut prng, &plan, 30);
+        let (with, without) = (plan.judged(60), plain(&plan).judged(60));
+        assert!(with.kind == without.kind || with.kind == NOT_INCLUDED);
+        assert!(with.tried <= without.tried);
+        let asks = |rows: &Vec<SelectionRow>| rows.iter().any(|row| row[4] > 0);
+        within += u32::from(with.kind == INCLUDED && plan.set.iter().all(asks));
+        outside += u32::from(with != without);
+        let list = list_bytes(&result(&mut prng, &plan));
+        let holds = |plan: &Plan| {
+            let (case, volume) = (plan.case_bytes(), volume_bytes(&plan.volume));
+            is_result(&case, plan.selection, &volume, &list).holds
+        };
+        let (with, without) = (holds(&plan), holds(&plain(&plan)));
+        assert!(without || !with);
+        result_in += u32::from(with && asks(&plan.chosen().to_vec()));
+        result_out += u32::from(without && !with);
+    }
+    assert!(within > 150 && outside > 100, "{within} in, {outside} out");
+    assert!(
+        result_in > 150 && result_out > 50,
+        "{result_in} results, {result_out} none by figures"
+    );
+}

@@ -68,6 +68,8 @@ pub fn fixed() -> Vec<Vector> {
         // Labels by number, with any label first.
         of(&[(0, 256), (0, 255), (0, u16::MAX), (0, 0), (0, 1)]),
         label_edge_position(),
+        figure_last(),
+        figures_below(),
         // Equal ones, and all but one equal.
         of(&[(0, a), (1, b), (0, a), (3, b), (0, a), (5, b)]),
         heap(None),
@@ -123,6 +125,35 @@ fn label_edge_position() -> Plan {
         [0, 2, CHILD, 2, 0],
         [0, 2, CHILD, 0, 0],
     ]);
+    over_root(rows)
+}
+
+/// The figure decides by number, after all else.
+fn figure_last() -> Plan {
+    let mut rows = vec![HEAD];
+    rows.extend([
+        [0, 2, CHILD, 0, 256],
+        [0, 2, CHILD, 2, 0],
+        [0, 2, DESCENDANT, 0, 0],
+        [0, 2, CHILD, 0, 2_000],
+        [0, 2, CHILD, 0, 255],
+        [0, 1, CHILD, 0, 2_000],
+        [0, 2, CHILD, 0, 0],
+    ]);
+    over_root(rows)
+}
+
+/// Subtrees that are alike but for a figure, above and below.
+fn figures_below() -> Plan {
+    let mut rows = vec![HEAD];
+    for (above, below) in [(1, 0), (0, 2), (0, 1), (1, 0), (0, 1)] {
+        let number = rows.len() as u16;
+        rows.extend([
+            [0, 2, CHILD, 0, above],
+            [number, 3, CHILD, 0, below],
+            [number, 3, CHILD, 0, 1],
+        ]);
+    }
     over_root(rows)
 }
 

@@ -208,11 +208,16 @@ pub fn around_embedding(prng: &mut Prng, plan: &Plan, size: usize) -> Vec<Volume
     rows
 }
 
-/// Often a result, often one with a node changed, sometimes any nodes.
+/// Often a result, often one with a node changed, sometimes any nodes; now and then
+/// what would be a result but for figures.
 pub fn result(prng: &mut Prng, plan: &Plan) -> Vec<u16> {
     let k = plan.positions() as usize;
     let any = |prng: &mut Prng| prng.below(plan.volume.len()) as u16;
-    let images = trees::embedding(prng, plan.chosen(), &plan.volume);
+    let mut volume = plan.volume.clone();
+    if prng.figures().is_some_and(|prng| prng.percent(40)) {
+        figures::grant(&mut volume);
+    }
+    let images = trees::embedding(prng, plan.chosen(), &volume);
     let mut list: Vec<u16> = match images.filter(|_| prng.percent(85)) {
         Some(images) => (1..=k)
             .filter_map(|p| {
@@ -226,7 +231,7 @@ pub fn result(prng: &mut Prng, plan: &Plan) -> Vec<u16> {
     };
     if prng.percent(40) {
         // Another result's node at one position is the subtler change.
-        let other = trees::embedding(prng, plan.chosen(), &plan.volume);
+        let other = trees::embedding(prng, plan.chosen(), &volume);
         let p = prng.below(list.len());
         let holder = plan
             .chosen()

@@ -72,7 +72,8 @@ pub fn fixed() -> Vec<Vector> {
     let of = |outline: &[OutlineRow], rows: &[SelectionRow]| plan(outline.to_vec(), headed(rows));
     let any = [0, ANY, CHILD, 0, 0];
     let below = [0, ANY, DESCENDANT, 0, 0];
-    let leaf = |label| [0, label, CHILD, 0, 0];
+    let good = |label, figure| [0, label, CHILD, 0, figure];
+    let leaf = |label| good(label, 0);
     let mut all = vec![
         // All that has no position goes: 15, 14, .. of a line, 1, 2, .. of a star.
         (plan(line(64), chain(16)), LIMIT),
@@ -117,6 +118,19 @@ pub fn fixed() -> Vec<Vector> {
         // Eight stay and are asked about again after each of seven that go.
         (kept_and_granted(), LIMIT),
         (eight_positions(), LIMIT),
+        // Of two the one that asks for less goes, and of equal ones the lower.
+        (of(&plain, &[good(a, 5), good(a, 7)]), LIMIT),
+        (of(&plain, &[good(a, 7), good(a, 5)]), LIMIT),
+        (of(&plain, &[good(a, 7), good(a, 7)]), LIMIT),
+        (
+            of(&plain, &[good(ANY, 256), good(a, 255), good(a, 256)]),
+            LIMIT,
+        ),
+        (of(&plain, &[good(a, 1_999), good(ANY, 2_000)]), LIMIT),
+        // What is granted has 0.
+        (of(&granted, &[good(a, 1), good(c, 0)]), LIMIT),
+        (of(&inner, &[good(a, 9), [1, b, CHILD, 0, 1]]), LIMIT),
+        (of(&inner, &[good(a, 9), [1, b, CHILD, 0, 0]]), LIMIT),
     ];
     // Sets of all sizes, which have to do with nothing; the tally at its bound.
     for members in 1..=SET_SELECTIONS {
