@@ -9,11 +9,12 @@ use borrow.Author.Tests.{eqb-true}
 use Rattle.model.specs.Limits.{maxSummary, maxDocument, summaryWidth, documentWidth}
 use Rattle.model.specs.Tree.{Document, IsTree}
 use Rattle.model.specs.Pattern.{Pattern}
-use Rattle.model.specs.Bytes.{firstAt, setAt, memberAt, setOf, sectionEnd, caseOf, WholeSection, isWholeDocument}
+use Rattle.model.specs.Bytes.{firstAt, setAt, memberAt, setOf, sectionEnd, caseOf, documentOf, WholeSection, isWholeDocument}
 use Rattle.model.specs.Facts.{MemberFacts, DocumentFacts, AcceptedCase}
 use Rattle.model.proofs.ListLaws.{mem-at}
 use Rattle.model.proofs.TreeLaws.{length-asDocument}
 use Rattle.format.specs.Given.{summaryIn, patternAt, SummaryGiven, PatternGiven, SetGiven, DocumentGiven, TreeGiven}
+use Rattle.format.proofs.BareLaws.{bare-length, bare-tree}
 use Rattle.format.proofs.SectionLaws.{set-below, set-member, tree-document, tree-summary}
 
 -- ---- a tree that may be either
@@ -36,8 +37,8 @@ document-as-tree {w} G =
       narrow = omega arith;
       pair = omega arith;
       whole = G .whole;
-      tree = subst (λ (T : Document). IsTree T) (sym same) (G .tree);
-      few = subst (λ (T : Document). length T ≤ maxDocument) (sym same) (G .few);
+      tree = subst (λ (T : Document). IsTree T) (sym same) (bare-tree (documentOf w) (G .tree));
+      few = subst (λ (T : Document). length T ≤ maxDocument) (sym same) (let l = bare-length (documentOf w) in let f = G .few in omega arith);
     }
 
 -- ---- accepted bytes

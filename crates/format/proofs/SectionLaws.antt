@@ -1,7 +1,7 @@
 -- Sections by their fields: how many records a section has, where each field of a record stands, and that it stands inside; the
 -- tables of a case and of a document, a set of patterns, and a tree that may be either, as sections. Assumes nothing.
 use Prim.Native.Nat.{ℕ, suc, _+_, _*_, _≤_, _<_}
-use mathlib.Core.Path.{_≡_, refl, sym, ap, _∙_, subst}
+use mathlib.Core.Path.{_≡_, sym, ap, _∙_, subst}
 use mathlib.Core.List.{List, [], map-map}
 use native.Mathlib.Omega.{arith}
 use native.Mathlib.Nat.{mul-suc, mul-le-mul-left, add-zero}
@@ -15,7 +15,7 @@ use Rattle.model.specs.Pattern.{PatternRecord, noPatternRecord}
 use Rattle.model.specs.Bytes.{field, section, recordsAt, summaryRecordAt, patternRecordAt, documentRecordAt, sectionEnd, memberAt, setOf, caseOf, documentOf, WholeSection, WholeSet}
 use Rattle.model.proofs.ListLaws.{length-map-upFrom}
 use Rattle.model.proofs.Bytes.{member-next}
-use Rattle.format.specs.Given.{summaryIn, patternAt, treeOf}
+use Rattle.format.specs.Given.{summaryIn, patternAt, withoutFigure, bare, bareRecordAt, treeOf}
 use Rattle.format.proofs.RangeLaws.{getD-map-below}
 
 -- a record of a whole section ends inside
@@ -28,7 +28,7 @@ record-ends b at width i j w h k =
     (omega arith, omega arith)
 
 -- the records that a count announces have few fields
-pub records-few : (width n : ℕ) → width ≤ patternWidth → n < 65_536 → width * n ≤ 262_140
+pub records-few : (width n : ℕ) → width ≤ patternWidth → n < 65_536 → width * n ≤ 327_675
 records-few width n h l = let more : width * n ≤ width * 65_535 = mul-le-mul-left width (omega arith) in omega arith
 
 module _ {A : Type 0} (read : List ℕ → ℕ → A) (width : ℕ) (b : List ℕ) (at : ℕ) where
@@ -107,20 +107,20 @@ member-section b on k w h e = subst (WholeSection patternWidth b) (sym e) (w .se
 
 pub tree-count : (width : ℕ) (t : List ℕ) → length (treeOf width t) ≡ field t 0
 unfolding treeOf
-tree-count width t = section-length documentRecordAt width t 0
+tree-count width t = section-length bareRecordAt width t 0
 
 pub tree-below : (width : ℕ) (t : List ℕ) (i : ℕ) → i < length (treeOf width t) → i < field t 0
 tree-below width t i h = subst (λ (n : ℕ). i < n) (tree-count width t) h
 
-pub tree-field : (width : ℕ) (t : List ℕ) (get : DocumentRecord → ℕ) (i j : ℕ) → ((a : ℕ) → get (documentRecordAt t a) ≡ field t (a + j)) → i < length (treeOf width t)
+pub tree-field : (width : ℕ) (t : List ℕ) (get : DocumentRecord → ℕ) (i j : ℕ) → ((a : ℕ) → get (bareRecordAt t a) ≡ field t (a + j)) → i < length (treeOf width t)
     → field t (1 + width * i + j) ≡ get (getD (treeOf width t) i noDocumentRecord)
 unfolding treeOf
-tree-field width t get i j e h = section-field documentRecordAt width t 0 noDocumentRecord get i j e h
+tree-field width t get i j e h = section-field bareRecordAt width t 0 noDocumentRecord get i j e h
 
--- a document is the tree of its records
-pub tree-document : (w : List ℕ) → treeOf documentWidth w ≡ documentOf w
-unfolding treeOf documentOf
-tree-document w = refl
+-- a bare document is the tree of its records
+pub tree-document : (w : List ℕ) → treeOf documentWidth w ≡ bare (documentOf w)
+unfolding treeOf documentOf section recordsAt
+tree-document w = sym (map-map withoutFigure (λ i. documentRecordAt w (0 + 1 + documentWidth * i)) (upFrom 0 (field w 0)))
 
 -- and a summary read as one is that of its own
 pub tree-summary : (b : List ℕ) → treeOf summaryWidth b ≡ asDocument (summaryIn b)

@@ -136,16 +136,16 @@ written-out {fs} {b₀} {b} {at} w v e =
 
 -- ---- a document
 
-pub document-fields : (W : Document) → length (flatMap documentFields W) ≡ 2 * length W
+pub document-fields : (W : Document) → length (flatMap documentFields W) ≡ 3 * length W
 unfolding flatMap
 document-fields [] = refl
-document-fields (r ∷ W) = let ih : length (flatMap documentFields W) ≡ 2 * length W = document-fields W in omega arith
+document-fields (r ∷ W) = let ih : length (flatMap documentFields W) ≡ 3 * length W = document-fields W in omega arith
 
 -- the byte after the last record
-pub document-size : (W : Document) → length (encodeDocument W) ≡ 2 + 4 * length W
+pub document-size : (W : Document) → length (encodeDocument W) ≡ 2 + 6 * length W
 unfolding encodeDocument sectionFields
 document-size W =
-    let f : length (flatMap documentFields W) ≡ 2 * length W = document-fields W in
+    let f : length (flatMap documentFields W) ≡ 3 * length W = document-fields W in
     length-bytes (length W ∷ flatMap documentFields W) ∙ omega arith
 
 -- ---- a count and its numbers

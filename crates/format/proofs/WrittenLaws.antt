@@ -25,10 +25,11 @@ module _ (w b : List ℕ) (whole : WholeSection documentWidth w 0) where
 
   front-record : (i : ℕ) → i < field w 0 → documentRecordAt (writtenAtFront w b) (0 + 1 + documentWidth * i) ≡ documentRecordAt w (0 + 1 + documentWidth * i)
   front-record i h =
-      let k = record-ends w 0 documentWidth i 1 whole h (omega arith) .1 in
+      let k = record-ends w 0 documentWidth i 2 whole h (omega arith) .1 in
       let p = front-field w b (0 + 1 + documentWidth * i) (omega arith) in
-      let l = front-field w b (0 + 1 + documentWidth * i + 1) k in
-      λ j. record { parent = p j; label = l j }
+      let l = front-field w b (0 + 1 + documentWidth * i + 1) (omega arith) in
+      let f = front-field w b (0 + 1 + documentWidth * i + 2) k in
+      λ j. record { parent = p j; label = l j; figure = f j }
 
   front-document : documentOf (writtenAtFront w b) ≡ documentOf w
   unfolding documentOf section recordsAt

@@ -1,12 +1,12 @@
 -- Given data stay bytes: the tables that stand in them, and what a function that reads one asks of its bytes.
-use Prim.Native.Nat.{ℕ, _≤_, _<_}
-use mathlib.Core.List.{List}
+use Prim.Native.Nat.{ℕ, _+_, _≤_, _<_}
+use mathlib.Core.List.{List, map}
 use lib.ListN.{length}
 use Rattle.model.specs.Limits.{maxSummary, maxPattern, maxMembers, maxDocument, summaryWidth, patternWidth, documentWidth}
-use Rattle.model.specs.Tree.{Document, IsTree}
+use Rattle.model.specs.Tree.{DocumentRecord, Document, IsTree}
 use Rattle.model.specs.Summary.{Summary, asDocument}
 use Rattle.model.specs.Pattern.{Pattern, IsPatternTree}
-use Rattle.model.specs.Bytes.{patternRecordAt, documentRecordAt, section, memberAt, setOf, caseOf, documentOf, WholeSection, WholeSet}
+use Rattle.model.specs.Bytes.{field, patternRecordAt, section, memberAt, setOf, caseOf, documentOf, WholeSection, WholeSet}
 
 -- the summary of a case (document 01: outline)
 abbrev pub summaryIn : List ℕ → Summary
@@ -16,9 +16,20 @@ summaryIn b = caseOf b .summary
 abbrev pub patternAt : List ℕ → ℕ → Pattern
 patternAt b at = section patternRecordAt patternWidth b at
 
--- a tree whose records have that width, the first two fields parent and label: a document, or a summary read as one
+-- a node without its figure
+abbrev pub withoutFigure : DocumentRecord → DocumentRecord
+withoutFigure r = record { parent = r .parent; label = r .label; figure = 0 }
+
+-- a document whose figures are left aside
+abbrev pub bare : Document → Document
+bare W = map withoutFigure W
+
+abbrev pub bareRecordAt : List ℕ → ℕ → DocumentRecord
+bareRecordAt b at = record { parent = field b at; label = field b (at + 1); figure = 0 }
+
+-- a tree whose records have that width, the first two fields parent and label: a bare document, or a summary read as one
 unfoldable pub treeOf : ℕ → List ℕ → Document
-treeOf width t = section documentRecordAt width t 0
+treeOf width t = section bareRecordAt width t 0
 
 -- the section is whole and its table a tree of few enough nodes
 pub record SummaryGiven (b : List ℕ) : Type 0 where
@@ -45,7 +56,7 @@ pub record DocumentGiven (w : List ℕ) : Type 0 where
 -- of a tree that may be either, with at most `most` nodes
 pub record TreeGiven (width : ℕ) (t : List ℕ) (most : ℕ) : Type 0 where
   pub narrow : width ≤ patternWidth
-  pub pair : documentWidth ≤ width
+  pub pair : 2 ≤ width
   pub whole : WholeSection width t 0
   pub tree : IsTree (treeOf width t)
   pub few : length (treeOf width t) ≤ most

@@ -8,7 +8,7 @@ ghost use mathlib.Core.Path.{_≡_};
 ghost use Prim.Native.Nat.{_<_};
 ghost use lib.ListN.{length};
 ghost use Rattle.model.specs.Limits.{documentWidth};
-ghost use Rattle.model.specs.Tree.{parentOf, labelOf};
+ghost use Rattle.model.specs.Tree.{parentOf, labelOf, figureOf};
 ghost use Rattle.model.specs.Bytes.{documentOf, WholeSection};
 
 // How many nodes it has.
@@ -35,4 +35,13 @@ pub fn document_label(w: &[u8], v: DocumentNode) -> u16
     ensures { λ r. ⌜ r ≡ labelOf (documentOf (now (w .entry))) (v .0) ⌝ }
 {
     record_field(w, 0, DOCUMENT_WIDTH, v.0, 1) as u16
+}
+
+// Its figure.
+pub fn document_figure(w: &[u8], v: DocumentNode) -> u16
+    requires { ⌜ WholeSection documentWidth (now w) 0 ⌝ }
+    requires { ⌜ v .0 < length (documentOf (now w)) ⌝ }
+    ensures { λ r. ⌜ r ≡ figureOf (documentOf (now (w .entry))) (v .0) ⌝ }
+{
+    record_field(w, 0, DOCUMENT_WIDTH, v.0, 2) as u16
 }

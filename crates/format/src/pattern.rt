@@ -9,7 +9,7 @@ ghost use mathlib.Core.Path.{_≡_};
 ghost use Prim.Native.Nat.{_<_};
 ghost use lib.ListN.{length, getD};
 ghost use Rattle.model.specs.Limits.{patternWidth};
-ghost use Rattle.model.specs.Pattern.{noPatternRecord, patternParent, patternLabel, position};
+ghost use Rattle.model.specs.Pattern.{noPatternRecord, patternParent, patternLabel, position, patternFigure};
 ghost use Rattle.model.specs.Bytes.{WholeSection};
 ghost use Rattle.format.specs.Given.{patternAt};
 
@@ -55,4 +55,13 @@ pub fn pattern_position(b: &[u8], at: usize, q: PatternNode) -> usize
     ensures { λ r. ⌜ (r ≡ position (patternAt (now (b .entry)) at) (q .0)) × (r < 65536) ⌝ }
 {
     record_field(b, at, PATTERN_WIDTH, q.0, 3)
+}
+
+// The least figure that it accepts.
+pub fn pattern_figure(b: &[u8], at: usize, q: PatternNode) -> usize
+    requires { ⌜ WholeSection patternWidth (now b) at ⌝ }
+    requires { ⌜ q .0 < length (patternAt (now b) at) ⌝ }
+    ensures { λ r. ⌜ (r ≡ patternFigure (patternAt (now (b .entry)) at) (q .0)) × (r < 65536) ⌝ }
+{
+    record_field(b, at, PATTERN_WIDTH, q.0, 4)
 }

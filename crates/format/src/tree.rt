@@ -1,5 +1,5 @@
 // A tree that is a document or a summary read as one: (t, width), records of that width whose first two fields are parent and label.
-// Its nodes may be of either kind, so their numbers are plain.
+// Its nodes may be of either kind, so their numbers are plain, and figures are left aside: what stands there is a summary's own.
 
 use crate::field::field;
 use crate::records::record_field;
