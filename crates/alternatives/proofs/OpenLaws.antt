@@ -104,11 +104,11 @@ among-made {n} {F} {count} {sets} {made} {f} v room r =
 
 -- ---- a list is joined into another
 
-pub turned-join : {ts : List (List ℕ)} {P : Pattern} {j : ℕ} {Known : (ℕ → ℕ → Bool) → Type 0} {lists : List (List (List ℕ))} {counts : List ℕ} {list : List (List ℕ)} {r : ℕ}
+pub turned-join : {ts : List (List ℕ)} {j : ℕ} {Known : (ℕ → ℕ → Bool) → Type 0} {lists : List (List (List ℕ))} {counts : List ℕ} {list : List (List ℕ)} {r : ℕ}
     → j < length lists → j < length counts → r ≤ 64
     → ((f : ℕ → ℕ → Bool) → Among (length ts) (getD lists j []) (getD counts j 0) f → Known f → Among (length ts) list r f ⊎ Met ts (eqb j 0) f)
     → Turned ts j Known lists counts (set lists j list) (set counts j r)
-turned-join {ts} {P} {j} {Known} {lists} {counts} {list} {r} h k few joined =
+turned-join {ts} {j} {Known} {lists} {counts} {list} {r} h k few joined =
     let here : getD (set lists j list) j [] ≡ list = getD-set-same lists j list [] h in
     let many : getD (set counts j r) j 0 ≡ r = getD-set-same counts j r 0 k in
     record {

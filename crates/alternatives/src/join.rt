@@ -63,13 +63,7 @@ pub fn add_bare(t: &[Member], x: SummaryNode, k: usize, list: &mut List, count: 
 }
 
 // The list with a. At the root, `top`, a need not be kept where the root of some member meets by it.
-fn keep(
-    t: &[Member],
-    top: bool,
-    list: &mut List,
-    count: usize,
-    a: Offer,
-) -> usize
+fn keep(t: &[Member], top: bool, list: &mut List, count: usize, a: Offer) -> usize
     requires { ⌜ (length (now t) ≤ 8) × (count ≤ 64) ⌝ }
     ensures { λ r. ⌜ Grown (length (now (t .entry))) (now (list .entry)) count (now (list .exit)) r
         × ((f : ℕ → ℕ → Bool) → Inside (length (now (t .entry))) a f
@@ -117,13 +111,7 @@ pub fn copy_sets(sets: &[Offer], count: usize, to: &mut [Offer], at: usize)
 }
 
 // The unions of each set of the list and each of the others, in the list's place. How many there are.
-pub fn join(
-    t: &[Member],
-    top: bool,
-    list: &mut List,
-    count: usize,
-    others: &[Offer],
-) -> usize
+pub fn join(t: &[Member], top: bool, list: &mut List, count: usize, others: &[Offer]) -> usize
     requires { ⌜ (length (now t) ≤ 8) × (count ≤ 64) ⌝ }
     ensures { λ r. ⌜ (r ≤ 64) × ((f : ℕ → ℕ → Bool) → Among (length (now (t .entry))) (now (list .entry)) count f
         → Among (length (now (t .entry))) (now (others .entry)) (length (now (others .entry))) f

@@ -31,7 +31,7 @@ slice-aggregate-join-one : tie.Need-slice-aggregate-join-one Inv-loop μ-loop
 slice-aggregate-join-one c = sym (length-take-le _ _ (c .before .before .before .loop .inv .1 .room))
 
 join-one-requires : tie.Need-join-one-requires Inv-loop μ-loop
-join-one-requires c κs = (c .before .before .before .before .before .before .before .before .before .before .before .pre .0, c .before .before .before .before .loop .inv .0 .grown .few)
+join-one-requires c κs = (c .before .before .before .before .before .before .before .before .before .before .pre .0, c .before .before .before .before .loop .inv .0 .grown .few)
 
 loop-again : tie.Need-loop-again Inv-loop μ-loop
 loop-again c =

@@ -16,10 +16,10 @@ abbrev μ-loop : tie.MeasureT-loop
 μ-loop t top list₀ count sets a n r₀ i₀ list r i = n - i
 
 loop-holds : tie.Need-loop-holds Inv-loop μ-loop
-loop-holds c = growing-start (c .before .pre .1)
+loop-holds c = growing-start (c .pre .1)
 
 keep-requires : tie.Need-keep-requires Inv-loop μ-loop
-keep-requires c κs = (c .before .before .before .before .before .before .pre .0, c .before .before .before .before .loop .inv .grown .few)
+keep-requires c κs = (c .before .before .before .before .before .pre .0, c .before .before .before .before .loop .inv .grown .few)
 
 loop-again : tie.Need-loop-again Inv-loop μ-loop
 loop-again c =
