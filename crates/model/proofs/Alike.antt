@@ -58,8 +58,9 @@ module _ {P Q : Pattern} (s : IsPatternTree P) (t : IsPatternTree Q) (r : Patter
       let f = r .fields i h in
       let g = tail-eq-of-cons-eq f in
       let k = tail-eq-of-cons-eq g in
+      let l = tail-eq-of-cons-eq k in
       let d : depthOf P i ≡ depthOf Q (r .to i) = depth-within (suc i) i (omega arith) h in
-      λ x. record { depth = d x; label = sym (head-eq-of-cons-eq f) x; edge = sym (head-eq-of-cons-eq g) x; position = sym (head-eq-of-cons-eq k) x }
+      λ x. record { depth = d x; label = sym (head-eq-of-cons-eq f) x; edge = sym (head-eq-of-cons-eq g) x; position = sym (head-eq-of-cons-eq k) x; figure = sym (head-eq-of-cons-eq l) x }
 
   pub children-matched : (i : ℕ) → i < length P → Matched (r .to) (childrenOf P i) (childrenOf Q (r .to i))
   children-matched i h =
@@ -161,7 +162,7 @@ module _ (S : Summary) (f : SummaryFacts S) where
       below x = flatten (ordered bySubtree (map rowOf (childrenOf read x)))
 
       rest : ℕ → List ℕ
-      rest x = getD read x noPatternRecord .edge ∷ getD read x noPatternRecord .position ∷ flatMap entryNumbers (below x)
+      rest x = getD read x noPatternRecord .edge ∷ getD read x noPatternRecord .position ∷ getD read x noPatternRecord .figure ∷ flatMap entryNumbers (below x)
 
   preorder-same : (n i : ℕ) → i < length read → length read ≤ n + i → preorder byLabel (length read) read i ≡ preorder bySubtree (length read) read i
   preorder-same zero i h k = absurd (omega arith)

@@ -226,22 +226,31 @@ summary-readable =
           λ i. record { parent = p i; label = l i; strong = s i };
     }
 
--- four fields that the bytes hold
-four-held : (b : List ℕ) (at p l e k : ℕ) → Holds b at (p ∷ l ∷ e ∷ k ∷ []) → (field b at ≡ p) × (field b (at + 1) ≡ l) × (field b (at + 2) ≡ e) × (field b (at + 3) ≡ k)
-four-held b at p l e k h = (holds-head b at p (l ∷ e ∷ k ∷ []) h, h 1 (lit< tt), h 2 (lit< tt), h 3 (lit< tt))
-
 pub pattern-readable : Readable patternRecordAt patternFields patternWidth
 pattern-readable =
     record {
       size = λ r. refl;
-      back = λ b at r h. (let f = four-held b at (r .parent) (r .label) (r .edge) (r .position) h in λ i. record { parent = f .0 i; label = f .1 i; edge = f .2 i; position = f .3 i });
+      back = λ b at r h. (
+          let p : field b at ≡ r .parent = holds-head b at (r .parent) (r .label ∷ r .edge ∷ r .position ∷ r .figure ∷ []) h in
+          let l : field b (at + 1) ≡ r .label = h 1 (lit< tt) in
+          let e : field b (at + 2) ≡ r .edge = h 2 (lit< tt) in
+          let k : field b (at + 3) ≡ r .position = h 3 (lit< tt) in
+          let f : field b (at + 4) ≡ r .figure = h 4 (lit< tt) in
+          λ i. record { parent = p i; label = l i; edge = e i; position = k i; figure = f i }
+          );
     }
 
 pub old-readable : Readable oldRecordAt oldRecordFields oldWidth
 old-readable =
     record {
       size = λ r. refl;
-      back = λ b at r h. (let f = four-held b at (r .parent) (r .label) (r .edge) (r .position) h in λ i. record { parent = f .0 i; label = f .1 i; edge = f .2 i; position = f .3 i });
+      back = λ b at r h. (
+          let p : field b at ≡ r .parent = holds-head b at (r .parent) (r .label ∷ r .edge ∷ r .position ∷ []) h in
+          let l : field b (at + 1) ≡ r .label = h 1 (lit< tt) in
+          let e : field b (at + 2) ≡ r .edge = h 2 (lit< tt) in
+          let k : field b (at + 3) ≡ r .position = h 3 (lit< tt) in
+          λ i. record { parent = p i; label = l i; edge = e i; position = k i }
+          );
     }
 
 document-readable : Readable documentRecordAt documentFields documentWidth
@@ -249,9 +258,10 @@ document-readable =
     record {
       size = λ r. refl;
       back = λ b at r h.
-          let p : field b at ≡ r .parent = holds-head b at (r .parent) (r .label ∷ []) h in
+          let p : field b at ≡ r .parent = holds-head b at (r .parent) (r .label ∷ r .figure ∷ []) h in
           let l : field b (at + 1) ≡ r .label = h 1 (lit< tt) in
-          λ i. record { parent = p i; label = l i };
+          let f : field b (at + 2) ≡ r .figure = h 2 (lit< tt) in
+          λ i. record { parent = p i; label = l i; figure = f i };
     }
 
 -- ---- decoding what was encoded gives it back
@@ -261,7 +271,7 @@ decoded true x y w e = ap tables e
 decoded false x y w e = absurd (false≢true w)
 
 -- a volume
-pub length-document : (W : Document) → length (encodeDocument W) ≡ 2 * (1 + 2 * length W)
+pub length-document : (W : Document) → length (encodeDocument W) ≡ 2 * (1 + documentWidth * length W)
 unfolding encodeDocument
 length-document W =
     length-bytes (sectionFields documentFields W)

@@ -3,19 +3,19 @@
 use Prim.Native.Nat.{ℕ, _+_, _*_, _≤_, _<_}
 use mathlib.Core.Path.{_≡_, sym, subst}
 use mathlib.Core.Bool.{true, _&&_}
-use mathlib.Core.List.{List, [], _∷_, List·Memᴰ}
+use mathlib.Core.List.{List, [], _∷_, _++_, List·Memᴰ}
 use native.Mathlib.Omega.{arith}
 use lib.Dec.{eqb, ltb}
 use lib.ListN.{length}
 use borrow.Author.Tests.{eqb-true, leb-true, ltb-true}
 use Rattle.model.specs.Lists.{sameList}
-use Rattle.model.specs.Limits.{maxLimit, maxTally, maxVerdicts, callers, minBuffer, minTable, maxDocument}
-use Rattle.model.specs.Tree.{parentOf, labelOf}
+use Rattle.model.specs.Limits.{maxLimit, maxTally, maxVerdicts, callers, minBuffer, minTable, maxDocument, maxFigure}
+use Rattle.model.specs.Tree.{parentOf, labelOf, figureOf}
 use Rattle.model.specs.Pattern.{arity}
 use Rattle.model.specs.Embeddings.{summaryEmbeddings}
 use Rattle.model.specs.Fitting.{parentRule}
 use Rattle.model.specs.Bytes.{Case, caseOf, documentOf, listOf, isWholeDocument, isWholeList}
-use Rattle.model.specs.Questions.{refusal, chargedQuestions, minimiseRefusal, between, limitInRange, bufferLargeEnough, tableLargeEnough, callerInRange, tallyInRange, documentRecordKept, documentKept, listInRange, patternGiven, selected, positionGiven, isSummaryEmbedding, ask, caseQuestions, verdictRefusal, fitsRefusal, resultRefusal, nodesRefusal, pathsRefusal, layoutRefusal}
+use Rattle.model.specs.Questions.{refusal, chargedQuestions, minimiseRefusal, between, limitInRange, bufferLargeEnough, tableLargeEnough, callerInRange, tallyInRange, documentRecordKept, documentKept, figureInRange, documentFigures, listInRange, patternGiven, selected, positionGiven, isSummaryEmbedding, ask, caseQuestions, documentQuestions, verdictRefusal, fitsRefusal, resultRefusal, nodesRefusal, pathsRefusal, layoutRefusal}
 use Rattle.model.specs.Facts.{AcceptedCase, DocumentFacts, ListFacts}
 use Rattle.model.proofs.ListLaws.{and-left, and-right, all-elim, all-below, any-elim, same-eq}
 use Rattle.model.proofs.Fitting.{rooted}
@@ -24,10 +24,10 @@ use Rattle.model.proofs.Refusals.{AllYes}
 
 -- ---- the other questions
 
--- 10: the volume
-pub document-facts : (w : List ℕ) → documentKept w ≡ true → DocumentFacts w
-unfolding documentKept documentRecordKept
-document-facts w kept =
+-- 10 and 17: the volume
+pub document-facts : (w : List ℕ) → documentKept w ≡ true → documentFigures (documentOf w) ≡ true → DocumentFacts w
+unfolding documentKept documentRecordKept documentFigures figureInRange
+document-facts w kept few =
     let size = between-facts 1 maxDocument (length (documentOf w)) (and-right (isWholeDocument w) _ (and-left _ _ kept)) in
     let every : (i : ℕ) → i < length (documentOf w) → documentRecordKept (documentOf w) i ≡ true =
     all-below (documentRecordKept (documentOf w)) (length (documentOf w))
@@ -38,6 +38,7 @@ document-facts w kept =
       size = size .1;
       tree = rooted (length (documentOf w)) (parentOf (documentOf w)) (size .0) (λ i h. and-left _ _ (every i h));
       labels = λ i h. ltb-true 0 (labelOf (documentOf w) i) (and-right (parentRule i (parentOf (documentOf w) i)) _ (every i h));
+      figures = λ i h. leb-true (figureOf (documentOf w) i) maxFigure (all-below (λ j. figureInRange (figureOf (documentOf w) j)) (length (documentOf w)) few i h);
     }
 
 -- 11: the list
@@ -102,8 +103,8 @@ pub record FitsFacts (b w : List ℕ) : Type 0 where
 pub accepted-fits : (b w : List ℕ) → fitsRefusal b w ≡ 0 → FitsFacts b w
 unfolding fitsRefusal
 accepted-fits b w e =
-    let y = asked b [] (ask 10 (documentKept w) ∷ []) tt (omega arith, tt) e in
-    record { case = y .1; document = document-facts w (y .2 .0) }
+    let y = asked b [] (documentQuestions w) tt (omega arith, (omega arith, tt)) e in
+    record { case = y .1; document = document-facts w (y .2 .0) (y .2 .1 .0) }
 
 pub record ResultFacts (b : List ℕ) (s : ℕ) (w r : List ℕ) : Type 0 where
   pub case : AcceptedCase b
@@ -116,13 +117,13 @@ unfolding resultRefusal
 accepted-result b s w r e =
     let k : ℕ = arity (selected (caseOf b) s) in
     let y =
-    asked b [] (ask 10 (documentKept w) ∷ ask 12 (patternGiven (caseOf b) s) ∷ ask 11 (listInRange k (length (documentOf w)) r) ∷ [])
-    tt (omega arith, (omega arith, (omega arith, tt))) e in
+    asked b [] (documentQuestions w ++ ask 12 (patternGiven (caseOf b) s) ∷ ask 11 (listInRange k (length (documentOf w)) r) ∷ [])
+    tt (omega arith, (omega arith, (omega arith, (omega arith, tt)))) e in
     record {
       case = y .1;
-      document = document-facts w (y .2 .0);
-      number = y .2 .1 .0;
-      list = list-facts k (length (documentOf w)) r (y .2 .1 .1 .0);
+      document = document-facts w (y .2 .0) (y .2 .1 .0);
+      number = y .2 .1 .1 .0;
+      list = list-facts k (length (documentOf w)) r (y .2 .1 .1 .1 .0);
     }
 
 pub record NodesFacts (b : List ℕ) (s : ℕ) (w : List ℕ) (p bufferBytes : ℕ) : Type 0 where
@@ -137,14 +138,14 @@ pub accepted-nodes : (b : List ℕ) (s : ℕ) (w : List ℕ) (p bufferBytes : �
 unfolding nodesRefusal bufferLargeEnough positionGiven
 accepted-nodes b s w p bufferBytes e =
     let y =
-    asked b (ask 2 (bufferLargeEnough bufferBytes) ∷ []) (ask 10 (documentKept w) ∷ ask 12 (positionGiven (caseOf b) s p) ∷ [])
-    (omega arith, tt) (omega arith, (omega arith, tt)) e in
-    let given : positionGiven (caseOf b) s p ≡ true = y .2 .1 .0 in
+    asked b (ask 2 (bufferLargeEnough bufferBytes) ∷ []) (documentQuestions w ++ ask 12 (positionGiven (caseOf b) s p) ∷ [])
+    (omega arith, tt) (omega arith, (omega arith, (omega arith, tt))) e in
+    let given : positionGiven (caseOf b) s p ≡ true = y .2 .1 .1 .0 in
     let range = between-facts 1 (arity (selected (caseOf b) s)) p (and-right (patternGiven (caseOf b) s) _ given) in
     record {
       case = y .1;
       buffer = leb-true minBuffer bufferBytes (y .0 .0);
-      document = document-facts w (y .2 .0);
+      document = document-facts w (y .2 .0) (y .2 .1 .0);
       number = and-left _ _ given;
       positionLow = range .0;
       positionHigh = range .1;

@@ -6,19 +6,25 @@ use mathlib.Core.Logic.{_⊎_, inl, inr}
 use mathlib.Core.List.{List, _∷_}
 use native.Mathlib.Omega.{arith}
 use native.Mathlib.Nat.{mul-le-mul}
-use lib.ListN.{length, getD, length-map}
+use lib.ListN.{length, getD}
 use Rattle.model.specs.Limits.{maxSummary, maxPattern, maxCanonical}
 use Rattle.model.specs.Tree.{IsTree}
 use Rattle.model.specs.Summary.{Summary, asDocument}
 use Rattle.model.specs.Pattern.{Pattern, IsPatternTree, patternParent, descends, SummaryEmbedding}
 use Rattle.model.specs.Embeddings.{imageIn}
-use Rattle.model.specs.Canonical.{Spot, rootSpot, spotParent, chain, chains, nodeBound, canonicalSpots, canonical, ownNodes, spotRecord}
+use Rattle.model.specs.Canonical.{Spot, rootSpot, spotParent, chain, chains, nodeBound, canonicalSpots, canonical, ownNodes}
 use Rattle.model.proofs.TreeLaws.{edge-below}
 use Rattle.model.proofs.Chains.{step, below-way, chain-way}
 use Rattle.model.proofs.Laid.{InChain, TopOfChain, Laid}
+use Rattle.model.proofs.SpotLaws.{length-spots}
 use Rattle.model.proofs.Built.{ChainedTo, FirstOf, NodeFacts, Built}
 use Rattle.model.proofs.ChainPhase.{chains-built}
 use Rattle.model.proofs.FillPhase.{Served, Complete, fill-built, fill-complete, few-nodes}
+
+-- as many nodes as the table has
+pub length-canonical : (S : Summary) (P : Pattern) (es : List ℕ) → length (canonical S P es) ≡ length (canonicalSpots S P es)
+unfolding canonical
+length-canonical S P es = length-spots S _ (canonicalSpots S P es)
 
 module _ (S : Summary) (P : Pattern) (es : List ℕ) (tree : IsTree (asDocument S)) (ordered : IsPatternTree P) (placed : SummaryEmbedding S P (imageIn es)) where
   pub canonical-built : Built S P es (length P) (canonicalSpots S P es) (ownNodes S P es)
@@ -80,9 +86,8 @@ module _ (S : Summary) (P : Pattern) (es : List ℕ) (tree : IsTree (asDocument 
 
   -- at most 1,009 nodes result
   pub canonical-small : length S ≤ maxSummary → length P ≤ maxPattern → length (canonical S P es) ≤ maxCanonical
-  unfolding canonical
   canonical-small s p =
-      let e : length (canonical S P es) ≡ length (canonicalSpots S P es) = length-map (canonicalSpots S P es) (spotRecord S) in
+      let e : length (canonical S P es) ≡ length (canonicalSpots S P es) = length-canonical S P es in
       let h : length (canonicalSpots S P es) ≤ 1 + length P * (length S - 1) = canonical-spots-few in
       let l : length S - 1 ≤ 63 = omega arith in
       let k : length P * (length S - 1) ≤ 16 * 63 = mul-le-mul p l in

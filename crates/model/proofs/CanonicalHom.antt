@@ -13,7 +13,7 @@ use Rattle.model.specs.Summary.{Summary, asDocument, summaryLabel, OnPat
 use Rattle.model.specs.Pattern.{Pattern, IsPatternTree, patternParent, descends, returnNodes, Embeds, SummaryEmbedding}
 use Rattle.model.specs.Embeddings.{imageIn}
 use Rattle.model.specs.Fitting.{pathIn}
-use Rattle.model.specs.Canonical.{Spot, spotParent, spotAt, chain}
+use Rattle.model.specs.Canonical.{Spot, spotParent, spotAt, chain, spotRecords}
 use Rattle.model.specs.Facts.{SummaryFacts, PatternFacts}
 use Rattle.model.proofs.ListLaws.{map-agree}
 use Rattle.model.proofs.TreeLaws.{length-asDocument, below-lt, edge-below, hom-below, hom-embeds}
@@ -22,7 +22,7 @@ use Rattle.model.proofs.Paths.{hom-on-path, path-hom, path-on}
 use Rattle.model.proofs.Embeddings.{embeds-ext, imagesOf, image-imagesOf}
 use Rattle.model.proofs.ReturnNodes.{return-inside}
 use Rattle.model.proofs.Chains.{hom-at-or-below, first-step, chain-self, chain-step}
-use Rattle.model.proofs.SpotLaws.{spotDocument, in-table, spot-label, child-spot, laid-inside}
+use Rattle.model.proofs.SpotLaws.{in-table, spot-label, child-spot, laid-inside}
 use Rattle.model.proofs.CanonicalFits.{chain-down}
 use Rattle.model.proofs.TreeChoice.{Chosen, choose}
 
@@ -148,19 +148,19 @@ module _ {S : Summary} {P : Pattern} {W : Document} {e : ℕ → ℕ} {es : List
   over-all = choose (length spots) (record { inhabited = d .some; root = d .rootParent; earlier = d .earlier }) over-root over-next
 
   -- the map that carries the own nodes to the images
-  pub laid-hom : (h : ℕ → ℕ) × Hom (spotDocument S spots) W h × ((q : ℕ) → q < length P → h (imageIn own q) ≡ e q)
-  laid-hom = go over-all
+  pub laid-hom : (g : ℕ → ℕ) → (h : ℕ → ℕ) × Hom (spotRecords S g spots) W h × ((q : ℕ) → q < length P → h (imageIn own q) ≡ e q)
+  laid-hom g = go over-all
     where
-      go : Chosen (spotParent spots) (Over S W e spots) (λ i. Child W) (length spots) → (h : ℕ → ℕ) × Hom (spotDocument S spots) W h × ((q : ℕ) → q < length P → h (imageIn own q) ≡ e q)
+      go : Chosen (spotParent spots) (Over S W e spots) (λ i. Child W) (length spots) → (h : ℕ → ℕ) × Hom (spotRecords S g spots) W h × ((q : ℕ) → q < length P → h (imageIn own q) ≡ e q)
       go c = (
         c .image,
         record {
           root = c .root;
-          inside = λ i h. c .good i (in-table S spots i h) .inside;
+          inside = λ i h. c .good i (in-table S g spots i h) .inside;
           labels = λ i h.
-              let o : Over S W e spots i (c .image i) = c .good i (in-table S spots i h) in
-              sym (paths .labels (c .image i) (o .inside)) ∙ ap (summaryLabel S) (o .on) ∙ sym (spot-label S spots i (in-table S spots i h));
-          children = λ x y k. child x y (child-spot S spots x y k);
+              let o : Over S W e spots i (c .image i) = c .good i (in-table S g spots i h) in
+              sym (paths .labels (c .image i) (o .inside)) ∙ ap (summaryLabel S) (o .on) ∙ sym (spot-label S g spots i (in-table S g spots i h));
+          children = λ x y k. child x y (child-spot S g spots x y k);
         },
         λ q h. over-own q (c .image (imageIn own q)) h (c .good (imageIn own q) (d .ownInside q h)),
       )

@@ -9,8 +9,8 @@ use lib.Dec.{eqb}
 use lib.ListN.{length}
 use borrow.Author.Tests.{eqb-true, eq-eqb}
 use Rattle.model.specs.Lists.{upFrom}
-use Rattle.model.specs.Tree.{Document, labelOf, Edge}
-use Rattle.model.specs.Pattern.{Pattern, position, arity, nodeAt, IsPatternTree, labelFits, Embeds, Result, Carries}
+use Rattle.model.specs.Tree.{Document, labelOf, figureOf, Edge}
+use Rattle.model.specs.Pattern.{Pattern, position, arity, nodeAt, IsPatternTree, labelFits, figureFits, Embeds, Result, Carries}
 use Rattle.model.specs.Facts.{PatternFacts}
 use Rattle.model.proofs.ListLaws.{upFrom-mem, mem-upFrom, first-hit, map-agree}
 
@@ -25,6 +25,7 @@ carries-self P =
       labels = λ i h. refl;
       edges = λ i h. refl;
       positions = λ i h. refl;
+      figures = λ i h. refl;
       apart = λ i j h k e. e;
       positioned = λ j h z. (j, h, refl);
       arities = refl;
@@ -40,6 +41,7 @@ carries-after {R} {Q} {P} {f} {g} a b =
       labels = λ i h. b .labels (f i) (a .inside i h) ∙ a .labels i h;
       edges = λ i h. b .edges (f i) (a .inside i h) ∙ a .edges i h;
       positions = λ i h. b .positions (f i) (a .inside i h) ∙ a .positions i h;
+      figures = λ i h. b .figures (f i) (a .inside i h) ∙ a .figures i h;
       apart = λ i j h k e. a .apart i j h k (b .apart (f i) (f j) (a .inside i h) (a .inside j k) e);
       positioned = λ j h z. (
           let m = b .positioned j h z in
@@ -80,6 +82,7 @@ module _ {Q P : Pattern} {f : ℕ → ℕ} (c : Carries Q P f) where
         record {
           image = λ i. k .image (f i);
           embeds = carried-embeds (k .embeds);
+          figures = λ i h. subst (λ (l : ℕ). figureFits l (figureOf W (k .image (f i))) ≡ true) (c .figures i h) (k .figures (f i) (c .inside i h));
           returns =
               k .returns ∙ map-map (k .image) (nodeAt P) (upFrom 1 (arity P))
               ∙ map-agree (λ n. k .image (nodeAt P n)) (λ n. k .image (f (nodeAt Q n))) (upFrom 1 (arity P))

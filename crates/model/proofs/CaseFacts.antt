@@ -11,14 +11,14 @@ use lib.Dec.{eqb, leb, ltb}
 use lib.ListN.{length, getD, List·getD-map}
 use borrow.Author.Tests.{eqb-true, eqb-false, leb-true, ltb-true, ltb-false, eq-eqb, lt-ltb, not-true}
 use Rattle.model.specs.Lists.{upFrom, allOf, countOf}
-use Rattle.model.specs.Limits.{maxSummary, maxPattern, maxMembers, maxPosition}
+use Rattle.model.specs.Limits.{maxSummary, maxPattern, maxMembers, maxPosition, maxFigure}
 use Rattle.model.specs.Tree.{DocumentRecord, IsTree, Child}
 use Rattle.model.specs.Summary.{Summary, noSummaryRecord, withoutStrong, asDocument, summaryParent, summaryLabel}
-use Rattle.model.specs.Pattern.{PatternRecord, Pattern, noPatternRecord, IsPatternTree, patternParent, position, arity, nodeAt}
+use Rattle.model.specs.Pattern.{PatternRecord, Pattern, noPatternRecord, IsPatternTree, patternParent, position, patternFigure, arity, nodeAt}
 use Rattle.model.specs.Fitting.{parentRule}
 use Rattle.model.specs.Bytes.{Case, caseOf}
-use Rattle.model.specs.Questions.{between, caseWhole, countInRange, countsInRange, setInRange, summaryRecordKept, summaryKept, alike, siblingsDiffer, patternRecordKept, patternKept, patternsKept, positionsOnce, positionsKept, patternGiven, selected, Question, refusal, caseQuestions}
-use Rattle.model.specs.Facts.{SummaryFacts, PatternFacts, MemberFacts, CaseFacts, AcceptedCase}
+use Rattle.model.specs.Questions.{between, caseWhole, countInRange, countsInRange, setInRange, summaryRecordKept, summaryKept, alike, siblingsDiffer, patternRecordKept, patternKept, patternsKept, figureInRange, patternFigures, figuresKept, positionsOnce, positionsKept, patternGiven, selected, Question, refusal, caseQuestions}
+use Rattle.model.specs.Facts.{SummaryFacts, PatternFacts, FewFigures, MemberFacts, CaseFacts, AcceptedCase}
 use Rattle.model.proofs.ListLaws.{mem-at, and-intro, and-left, and-right, not-both, true-or-false, all-elim, all-below, mem-upFrom, upFrom-mem, first-hit}
 use Rattle.model.proofs.TreeLaws.{length-asDocument}
 use Rattle.model.proofs.Fitting.{rooted}
@@ -149,6 +149,10 @@ module _ (P : Pattern) where
 pub between-facts : (low high n : ℕ) → between low high n ≡ true → (low ≤ n) × (n ≤ high)
 between-facts low high n e = (leb-true low n (and-left _ _ e), leb-true n high (and-right (leb low n) _ e))
 
+few-figures : (P : Pattern) → patternFigures P ≡ true → FewFigures P
+unfolding patternFigures figureInRange
+few-figures P e q h = leb-true (patternFigure P q) maxFigure (all-below (λ p. figureInRange (patternFigure P p)) (length P) e q h)
+
 member-facts : (c : Case) → allOf countInRange (c .members) ≡ true → allOf patternKept (c .members) ≡ true
     → allOf (λ Q. positionsOnce Q && eqb (arity (c .first)) (arity Q)) (c .members) ≡ true → (Q : Pattern) → List·Memᴰ Q (c .members) → MemberFacts (c .first) Q
 member-facts c counts patterns positions Q m =
@@ -160,9 +164,9 @@ member-facts c counts patterns positions Q m =
       size = n .1;
     }
 
-kept-facts : (c : Case) → countsInRange c ≡ true → setInRange c ≡ true → summaryKept (c .summary) ≡ true → siblingsDiffer (c .summary) ≡ true → patternsKept c ≡ true → positionsKept c ≡ true → CaseFacts c
-unfolding countsInRange setInRange patternsKept positionsKept
-kept-facts c counts few kept differ patterns positions =
+kept-facts : (c : Case) → countsInRange c ≡ true → setInRange c ≡ true → summaryKept (c .summary) ≡ true → siblingsDiffer (c .summary) ≡ true → patternsKept c ≡ true → figuresKept c ≡ true → positionsKept c ≡ true → CaseFacts c
+unfolding countsInRange setInRange patternsKept figuresKept positionsKept
+kept-facts c counts few kept differ patterns figures positions =
     let s = between-facts 1 maxSummary (length (c .summary)) (and-left _ _ (and-left _ _ counts)) in
     let f = between-facts 1 maxPattern (length (c .first)) (and-right (between 1 maxSummary (length (c .summary))) _ (and-left _ _ counts)) in
     let m = between-facts 1 maxMembers (length (c .members)) few in
@@ -180,15 +184,17 @@ kept-facts c counts few kept differ patterns positions =
       arityBound = arity-bound (c .first) keptFirst onceFirst;
       summarySize = s .1;
       firstSize = f .1;
+      firstFigures = few-figures (c .first) (and-left _ _ figures);
+      memberFigures = λ Q m. few-figures Q (all-elim patternFigures (c .members) (and-right (patternFigures (c .first)) _ figures) Q m);
     }
 
 all-yes-case : (b : List ℕ) → AllYes (caseQuestions b) → CaseFacts (caseOf b)
 unfolding caseQuestions
-all-yes-case b y = kept-facts (caseOf b) (y .1 .0) (y .1 .1 .0) (y .1 .1 .1 .0) (y .1 .1 .1 .1 .0) (y .1 .1 .1 .1 .1 .0) (y .1 .1 .1 .1 .1 .1 .0)
+all-yes-case b y = kept-facts (caseOf b) (y .1 .0) (y .1 .1 .0) (y .1 .1 .1 .0) (y .1 .1 .1 .1 .0) (y .1 .1 .1 .1 .1 .0) (y .1 .1 .1 .1 .1 .1 .0) (y .1 .1 .1 .1 .1 .1 .1 .0)
 
 numbered-case : (b : List ℕ) → Numbered (caseQuestions b)
 unfolding caseQuestions
-numbered-case b = (omega arith, (omega arith, (omega arith, (omega arith, (omega arith, (omega arith, (omega arith, tt)))))))
+numbered-case b = (omega arith, (omega arith, (omega arith, (omega arith, (omega arith, (omega arith, (omega arith, (omega arith, tt))))))))
 
 -- a case that questions 3 to 8 accept has the facts of an accepted case
 pub accepted-case : (b : List ℕ) → refusal (caseQuestions b) ≡ 0 → CaseFacts (caseOf b)

@@ -13,17 +13,17 @@ use lib.ListN.{length, getD, take, length-append, length-map}
 use lib.Seq.{set-getD, getD-set-same, getD-set-other}
 use borrow.Author.Tests.{lt-ltb, eq-eqb, ne-eqb}
 use Rattle.model.specs.Lists.{upFrom}
-use Rattle.model.specs.Limits.{callers, maxVerdicts, maxPattern, maxPosition, maxCanonical, minBuffer}
-use Rattle.model.specs.Tree.{Document, labelOf}
+use Rattle.model.specs.Limits.{callers, maxVerdicts, maxPattern, maxPosition, maxCanonical, minBuffer, maxFigure, documentWidth}
+use Rattle.model.specs.Tree.{Document, labelOf, figureOf}
 use Rattle.model.specs.Summary.{Summary}
 use Rattle.model.specs.Pattern.{Pattern, patternParent, position, arity, returnNodes, SummaryEmbedding, Contained, CounterExample}
 use Rattle.model.specs.Embeddings.{imageIn, summaryEmbeddings, isResult, nodesAt, pathMask, pathCount}
 use Rattle.model.specs.Fitting.{fits}
-use Rattle.model.specs.Canonical.{canonical, canonicalSpots, ownNodes, ownResult, covered, spotRecord}
+use Rattle.model.specs.Canonical.{canonical, canonicalSpots, ownNodes, ownResult, covered, ownFigure}
 use Rattle.model.specs.Verdict.{Verdict, included, notIncluded, stopped, verdict, triedOf}
 use Rattle.model.specs.Bytes.{AreBytes, Case, caseOf, documentOf, listOf, documentFields, sectionFields, encodeDocument, encodeCounted, writtenAtFront}
 use Rattle.model.specs.Questions.{selected, caseQuestions, verdictRefusal, minimiseRefusal, fitsRefusal, resultRefusal, nodesRefusal, pathsRefusal, layoutRefusal}
-use Rattle.model.specs.Calls.{kindIncluded, kindNotIncluded, kindStopped, kindOf, shown, Received, OnEight, VerdictOutcome, verdictAccepted, verdictCall, tallyOf, charged, talliedCall, TestAnswer, fitsCall, resultCall, CountOutcome, nodesAccepted, nodesCall, PathsAnswer, pathsAccepted, pathsCall, LaidRecord, laidRecord, LayoutOutcome, layoutAccepted, layoutCall}
+use Rattle.model.specs.Calls.{kindIncluded, kindNotIncluded, kindStopped, kindOf, shown, Received, OnEight, VerdictOutcome, verdictAccepted, verdictCall, tallyOf, charged, talliedCall, TestAnswer, fitsCall, resultCall, CountOutcome, nodesAccepted, nodesCall, PathsAnswer, pathsAccepted, pathsCall, LaidRecord, laidRecord, LayoutOutcome, layoutAccepted, layoutCall, laidRecords}
 use Rattle.model.specs.Striking.{childless, mayGo, verdictWithout, Struck, strikeAll, MinimiseOutcome, minimiseAccepted, minimiseCall, talliedMinimise}
 use Rattle.model.specs.Runs.{Call, ofOne, ofOther, given, after, receipts, talliesAfter, callsOf, receivedBy}
 use Rattle.model.specs.Facts.{SummaryFacts, PatternFacts, MemberFacts, CaseFacts}
@@ -48,7 +48,8 @@ use Rattle.model.proofs.Removing.{not-root, no-position, no-children}
 use Rattle.model.proofs.StruckBack.{struck-back}
 use Rattle.model.proofs.Striking.{LoopFacts, all-facts, struck-shortened, few-verdicts, each-limited}
 use Rattle.model.proofs.Moving.{moved-accepted, moved-refused, upgrade-moved, downgrade-moved}
-use Rattle.model.proofs.ReadBack.{label-small, canonical-labels, canonical-fields, reads-back}
+use Rattle.model.proofs.Canonical.{length-canonical}
+use Rattle.model.proofs.ReadBack.{label-small, canonical-labels, canonical-fields, reads-back, canonical-figures}
 
 -- ---- Demand 2: fits, results, nodes at a position and paths are told exactly by the definitions
 
@@ -105,9 +106,14 @@ paths-told b s e =
     subst (PathsTold (caseOf b .summary) (selected (caseOf b) s)) (sym (paths-accepted b s e))
     (paths-accepted-told (f .case .facts .summary) (selected-facts (caseOf b) s (f .case .facts) (f .number) .pattern))
 
+-- as many records as the table has nodes
+length-laid : (S : Summary) (P : Pattern) (es : List ℕ) → length (laidRecords S P es) ≡ length (canonicalSpots S P es)
+unfolding laidRecords
+length-laid S P es = length-map-upFrom (laidRecord S (ownFigure P (ownNodes S P es)) (canonicalSpots S P es)) 0 (length (canonicalSpots S P es))
+
 pub layout-told : (b : List ℕ) (s : ℕ) (l : List ℕ) (table : List LaidRecord) → layoutRefusal b s l (length table) ≡ 0
     → LayoutTold (caseOf b .summary) (selected (caseOf b) s) (listOf l) table (layoutCall b s l table)
-unfolding layoutAccepted canonical
+unfolding layoutAccepted
 layout-told b s l table e =
     let f = accepted-layout b s l (length table) e in
     let S : Summary = caseOf b .summary in
@@ -118,7 +124,7 @@ layout-told b s l table e =
     let q : layoutCall b s l table ≡ layoutAccepted S P es table = layout-accepted b s l table e in
     let n : layoutCall b s l table .answer .count ≡ length (canonical S P es) =
     ap (λ (o : LayoutOutcome). o .answer .count) q
-    ∙ (length-map (canonicalSpots S P es) (laidRecord S) ∙ sym (length-map (canonicalSpots S P es) (spotRecord S))) in
+    ∙ (length-laid S P es ∙ sym (length-canonical S P es)) in
     let k : length (canonical S P es) ≤ maxCanonical = listed-small (f .case .facts .summary) g (f .embedding) (f .case .facts .summarySize) (m .size) in
     record {
       accepted = ap (λ (o : LayoutOutcome). o .answer .refused) q;
@@ -249,8 +255,9 @@ shown-back : (b : List ℕ) → AreBytes b → AllYes (caseQuestions b) → Case
 shown-back b small asked f {L} {n} {before} {after} s =
     reads-back b asked f (s .counterExample) (let few : length (s .document) ≤ maxCanonical = s .small in omega arith)
     (subst (λ (W : Document). (i : ℕ) → i < length W → 0 < labelOf W i) (sym (s .trial)) (canonical-labels S P es (f .summary .tree) (f .first .tree) placed (λ l. 0 < l) (labels-some b asked)))
+    (subst (λ (W : Document). (i : ℕ) → i < length W → figureOf W i ≤ maxFigure) (sym (s .trial)) (canonical-figures S P es (f .summary .tree) (f .first .tree) placed (f .firstFigures)))
     (subst (λ (W : Document). FitFields (sectionFields documentFields W)) (sym (s .trial))
-    (canonical-fields S P es (f .summary .tree) (f .first .tree) placed (label-small b small) (subst (λ (W : Document). length W ≤ maxCanonical) (s .trial) (s .small))))
+    (canonical-fields S P es (f .summary .tree) (f .first .tree) placed (label-small b small) (f .firstFigures) (subst (λ (W : Document). length W ≤ maxCanonical) (s .trial) (s .small))))
     before (s .written)
   where
     S : Summary
@@ -525,7 +532,7 @@ normalise-answered b small before e = move-answered (normaliseRefusal b (length 
 
 -- ---- What is lent keeps its length: what a call writes fits
 
--- at most 2 + 4 × 1,009 bytes of a volume and 2 + 2 × 8 of a result
+-- at most 2 + 6 × 1,009 bytes of a volume and 2 + 2 × 8 of a result
 shown-small : (c : Case) → CaseFacts c → (L : ℕ) → length (shown (c .summary) (c .first) (verdict (c .summary) (c .first) (c .members) L)) ≤ minBuffer
 unfolding ownResult
 shown-small c f L = go (verdict (c .summary) (c .first) (c .members) L) refl
@@ -534,7 +541,7 @@ shown-small c f L = go (verdict (c .summary) (c .first) (c .members) L) refl
     size n es h =
         let W : Document = canonical (c .summary) (c .first) es in
         let r : List ℕ = ownResult (c .summary) (c .first) es in
-        let a : length (encodeDocument W) ≡ 2 * (1 + 2 * length W) = length-document W in
+        let a : length (encodeDocument W) ≡ 2 * (1 + documentWidth * length W) = length-document W in
         let b : length (encodeCounted r) ≡ 2 * suc (length r) = length-counted r in
         let k : length r ≡ arity (c .first) = length-map (returnNodes (c .first)) (imageIn (ownNodes (c .summary) (c .first) es)) ∙ length-returnNodes (c .first) in
         let l : arity (c .first) ≤ maxPosition = f .arityBound in

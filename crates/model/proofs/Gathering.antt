@@ -60,7 +60,7 @@ after-alike (x ∷ p) us vs = after-same x x (p ++ us) (p ++ vs) refl ∙ after-
 numbers-append : (a b : List Entry) → flatMap entryNumbers (a ++ b) ≡ flatMap entryNumbers a ++ flatMap entryNumbers b
 unfolding flatMap
 numbers-append [] b = refl
-numbers-append (x ∷ a) b = ap (λ (ns : List ℕ). x .depth ∷ x .label ∷ x .edge ∷ x .position ∷ ns) (numbers-append a b)
+numbers-append (x ∷ a) b = ap (λ (ns : List ℕ). x .depth ∷ x .label ∷ x .edge ∷ x .position ∷ x .figure ∷ ns) (numbers-append a b)
 
 -- nothing, or a list that begins at depth d
 abbrev Opening : ℕ → List Entry → Type 0
@@ -89,7 +89,7 @@ module _ (d : ℕ) (s : List Entry) (o : Opening d s) where
       go (inl n) = ap (bySubtree (x ∷ a)) n
       go (inr (y, ys, n, k)) =
           let l : d < x .depth = deep x (List·Memᴰ·head refl) in
-          ap (bySubtree (x ∷ a)) n ∙ after-greater (x .depth) (y .depth) (x .label ∷ x .edge ∷ x .position ∷ flatMap entryNumbers a) (y .label ∷ y .edge ∷ y .position ∷ flatMap entryNumbers ys) (omega arith)
+          ap (bySubtree (x ∷ a)) n ∙ after-greater (x .depth) (y .depth) (x .label ∷ x .edge ∷ x .position ∷ x .figure ∷ flatMap entryNumbers a) (y .label ∷ y .edge ∷ y .position ∷ y .figure ∷ flatMap entryNumbers ys) (omega arith)
   after-rest (x ∷ a) (y ∷ b) deep e = after-next x y a b (λ p. after-rest a b (λ z m. deep z (List·Memᴰ·tail m)) p) e
 
   -- a subtree's list comes after the rest of a list that begins with one as deep exactly when it comes after that one

@@ -24,6 +24,7 @@ pub mod ChainPhase
 pub mod FillPhase
 pub mod Canonical
 pub mod SpotLaws
+pub mod Figures
 pub mod CanonicalFits
 pub mod CanonicalHom
 pub mod Containment

@@ -4,28 +4,28 @@
 use Prim.Native.Nat.{ℕ, zero, suc, _+_, _-_, _*_, _≤_, _<_}
 use mathlib.Core.Path.{_≡_, refl, sym, ap, ap₂, _∙_, subst}
 use mathlib.Core.Bool.{true, _&&_}
-use mathlib.Core.Logic.{_≢_}
-use mathlib.Core.List.{List, [], _∷_, _++_, append-nil, List·Memᴰ}
+use mathlib.Core.Logic.{_⊎_, inl, inr, _≢_}
+use mathlib.Core.List.{List, [], _∷_, _++_, append-nil, List·Memᴰ, List·Memᴰ·cases-cons, List·Memᴰ·not-nil}
 use native.Mathlib.Omega.{arith}
-use native.Mathlib.Nat.{zero-add, le-refl}
-use lib.ListN.{length, getD, length-append}
+use lib.Dec.{eqb}
+use lib.ListN.{length, getD, length-append, length-map}
 use borrow.Author.Tests.{eqb-true, leb-true, le-leb}
 use Rattle.model.specs.Lists.{allOf}
-use Rattle.model.specs.Limits.{callers, minBuffer, maxSummary, maxPattern, maxMembers, summaryWidth, patternWidth}
+use Rattle.model.specs.Limits.{callers, minBuffer, maxSummary, maxPattern, summaryWidth, patternWidth}
 use Rattle.model.specs.Pattern.{Pattern}
-use Rattle.model.specs.Bytes.{field, fieldsAt, recordsAt, summaryRecordAt, patternRecordAt, section, memberAt, setOf, setAt, caseEnd, Case, caseOf, summaryFields, sectionFields, caseFields, encodeCase, AreBytes}
-use Rattle.model.specs.Questions.{between, bufferLargeEnough, caseWhole, countInRange, countsInRange, setInRange, Question, ask, refusal, caseQuestions}
+use Rattle.model.specs.Bytes.{summaryRecordAt, patternRecordAt, Case, caseOf, summaryFields, patternFields, sectionFields, setFields, caseFields, encodeCase, AreBytes}
+use Rattle.model.specs.Questions.{between, bufferLargeEnough, caseWhole, countsInRange, Question, ask, refusal, caseQuestions}
 use Rattle.model.specs.Calls.{CountOutcome, countRefused, verdictCall}
-use Rattle.model.specs.OldForm.{OldCase, oldWidth, oldRecordAt, oldRecordFields, secondAt, oldEnd, oldCaseOf, oldFields, encodeOldCase, newPattern, oneOf, oldPattern, oldOf, oldWhole, oldCountsInRange, oldQuestions, SetOfOne, oldVerdictCall}
-use Rattle.model.specs.Moving.{goesBack, upgradeRefusal, downgradeRefusal, upgraded, downgraded, movedAccepted, movedCall, upgradeCall, downgradeCall}
+use Rattle.model.specs.OldForm.{OldPattern, OldCase, oldWidth, oldRecordAt, oldRecordFields, oldCaseOf, oldFields, encodeOldCase, newRecord, newPattern, oneOf, oldPattern, oldOf, oldWhole, oldCountsInRange, oldQuestions, SetOfOne, oldVerdictCall}
+use Rattle.model.specs.Moving.{figureless, goesBack, upgradeRefusal, downgradeRefusal, upgraded, downgraded, movedAccepted, movedCall, upgradeCall, downgradeCall}
 use Rattle.model.specs.Demands.{Upgraded, Downgraded}
-use Rattle.model.proofs.ListLaws.{and-left, and-right, all-elim, mem-at, length-map-upFrom, getD-map-upFrom}
-use Rattle.model.proofs.Bytes.{FitFields, fit-append, fit-next, length-bytes, length-section, summary-readable, old-readable, member-first, member-next, whole-set-ends, whole-case, case-back, case-whole}
+use Rattle.model.proofs.ListLaws.{and-intro, and-left, and-right, all-intro, all-elim, mem-at}
+use Rattle.model.proofs.Bytes.{length-bytes, length-section, summary-readable, pattern-readable, old-readable, case-back, case-whole}
 use Rattle.model.proofs.Refusals.{AllYes, refusal-none, accepted-all-yes, all-yes-append}
 use Rattle.model.proofs.CaseFacts.{between-facts, all-asked}
 use Rattle.model.proofs.Calls.{chosen-accepted, chosen-refused}
 use Rattle.model.proofs.Sets.{counts-one, refused-one, call-one, old-back, old-whole}
-use Rattle.model.proofs.WriteBack.{old-new, new-old, new-fields, one-fields, fields-fit, upgraded-fields, downgraded-fields, old-whole-facts, encode-case, encode-old}
+use Rattle.model.proofs.WriteBack.{old-new, new-old, one-fields, upgraded-fit, downgraded-fit, encode-case, encode-old}
 
 -- ---- the calls go by their refusals
 
@@ -65,19 +65,20 @@ accepted-downgrade b bufferBytes e =
 -- ---- sizes
 
 module _ (c : OldCase) where
-  -- one field more
-  one-size : length (caseFields (oneOf c)) ≡ suc (length (oldFields c))
-  unfolding caseFields oldFields
-  one-size =
+  new-size : length (caseFields (oneOf c)) ≡ 4 + 3 * length (c .summary) + 5 * length (c .first) + 5 * length (c .second)
+  unfolding caseFields
+  new-size =
       let S : List ℕ = sectionFields summaryFields (c .summary) in
-      let P : List ℕ = sectionFields oldRecordFields (c .first) in
-      let Q : List ℕ = sectionFields oldRecordFields (c .second) in
-      let e : caseFields (oneOf c) ≡ S ++ (P ++ (1 ∷ Q)) =
-      ap₂ (λ (x y : List ℕ). S ++ (x ++ y)) (new-fields (c .first)) (one-fields (newPattern (c .second)) ∙ ap (λ (fs : List ℕ). 1 ∷ fs) (new-fields (c .second))) in
+      let P : List ℕ = sectionFields patternFields (newPattern (c .first)) in
+      let Q : List ℕ = sectionFields patternFields (newPattern (c .second)) in
+      let e : S ++ (P ++ setFields (newPattern (c .second) ∷ [])) ≡ S ++ (P ++ (1 ∷ Q)) = ap (λ (y : List ℕ). S ++ (P ++ y)) (one-fields (newPattern (c .second))) in
       let f : length (S ++ (P ++ (1 ∷ Q))) ≡ length S + length (P ++ (1 ∷ Q)) = length-append S (P ++ (1 ∷ Q)) in
       let g : length (P ++ (1 ∷ Q)) ≡ length P + suc (length Q) = length-append P (1 ∷ Q) in
-      let h : length (S ++ (P ++ Q)) ≡ length S + length (P ++ Q) = length-append S (P ++ Q) in
-      let k : length (P ++ Q) ≡ length P + length Q = length-append P Q in
+      let s : length S ≡ 1 + 3 * length (c .summary) = length-section summaryRecordAt summaryFields summaryWidth summary-readable (c .summary) in
+      let p : length P ≡ 1 + 5 * length (newPattern (c .first)) = length-section patternRecordAt patternFields patternWidth pattern-readable (newPattern (c .first)) in
+      let q : length Q ≡ 1 + 5 * length (newPattern (c .second)) = length-section patternRecordAt patternFields patternWidth pattern-readable (newPattern (c .second)) in
+      let m = length-map (c .first) newRecord in
+      let n = length-map (c .second) newRecord in
       ap length e ∙ omega arith
 
   old-size : length (oldFields c) ≡ 3 + 3 * length (c .summary) + 4 * length (c .first) + 4 * length (c .second)
@@ -94,45 +95,54 @@ module _ (c : OldCase) where
       omega arith
 
   module _ (counts : oldCountsInRange c ≡ true) where
-    fields-few : length (oldFields c) ≤ 323
+    counts-few : (length (c .summary) ≤ 64) × (length (c .first) ≤ 16) × (length (c .second) ≤ 16)
     unfolding oldCountsInRange
-    fields-few =
+    counts-few =
         let s = between-facts 1 maxSummary (length (c .summary)) (and-left _ _ (and-left _ _ counts)) in
         let p = between-facts 1 maxPattern (length (c .first)) (and-right (between 1 maxSummary (length (c .summary))) _ (and-left _ _ counts)) in
         let q = between-facts 1 maxPattern (length (c .second))
         (and-right (between 1 maxSummary (length (c .summary)) && between 1 maxPattern (length (c .first))) _ counts) in
-        omega (arith, old-size, s .1, p .1, q .1)
+        (s .1, p .1, q .1)
 
-    new-small : length (encodeCase (oneOf c)) ≤ 648
+    new-small : length (encodeCase (oneOf c)) ≤ 712
     unfolding encodeCase
-    new-small = omega (arith, length-bytes (caseFields (oneOf c)), one-size, fields-few)
+    new-small = omega (arith, length-bytes (caseFields (oneOf c)), new-size, counts-few .0, counts-few .1, counts-few .2)
 
     old-small : length (encodeOldCase c) ≤ 646
     unfolding encodeOldCase
-    old-small = omega (arith, length-bytes (oldFields c), fields-few)
+    old-small = omega (arith, length-bytes (oldFields c), old-size, counts-few .0, counts-few .1, counts-few .2)
 
 -- ---- old to new
 
+-- figures given are 0
+given-figureless : (P : OldPattern) → figureless (newPattern P) ≡ true
+unfolding figureless allOf
+given-figureless [] = refl
+given-figureless (r ∷ P) = given-figureless P
+
+-- so the case that an old one is goes back
+one-goes-back : (c : OldCase) → goesBack (oneOf c) ≡ true
+unfolding goesBack
+one-goes-back c = and-intro refl (and-intro (given-figureless (c .first)) (all-intro figureless (newPattern (c .second) ∷ []) (λ Q m. only Q (List·Memᴰ·cases-cons m))))
+  where
+    only : (Q : Pattern) → (Q ≡ newPattern (c .second)) ⊎ List·Memᴰ Q [] → figureless Q ≡ true
+    only Q (inl e) = ap figureless e ∙ given-figureless (c .second)
+    only Q (inr n) = absurd (List·Memᴰ·not-nil n)
+
 module _ (b : List ℕ) (small : AreBytes b) where
   module _ (whole : oldWhole b ≡ true) (counts : oldCountsInRange (oldCaseOf b) ≡ true) where
-    upgraded-fit : FitFields (caseFields (oneOf (oldCaseOf b)))
-    upgraded-fit =
-        subst FitFields (sym (upgraded-fields b))
-        (fit-append (fieldsAt b 0 (secondAt b)) (1 ∷ fieldsAt b (secondAt b) (oldEnd b - secondAt b)) (fields-fit b small 0 (secondAt b))
-        (fit-next 1 (fieldsAt b (secondAt b) (oldEnd b - secondAt b)) (omega arith) (fields-fit b small (secondAt b) (oldEnd b - secondAt b))))
-
     -- what is written is the old case with a set of one
     pub upgraded-one : SetOfOne b (upgraded b)
     unfolding upgraded
     upgraded-one =
         record {
           old = whole;
-          new = case-whole (oneOf (oldCaseOf b)) upgraded-fit (omega (arith, new-small (oldCaseOf b) counts));
-          same = case-back (oneOf (oldCaseOf b)) upgraded-fit;
+          new = case-whole (oneOf (oldCaseOf b)) (upgraded-fit b small) (omega (arith, new-small (oldCaseOf b) counts));
+          same = case-back (oneOf (oldCaseOf b)) (upgraded-fit b small);
         }
 
     -- and small
-    pub upgraded-small : length (upgraded b) ≤ 648
+    pub upgraded-small : length (upgraded b) ≤ 712
     unfolding upgraded
     upgraded-small = new-small (oldCaseOf b) counts
 
@@ -150,10 +160,10 @@ module _ (b : List ℕ) (small : AreBytes b) where
         ap (λ (d : Case). encodeOldCase (oldOf d)) (upgraded-one .same) ∙ ap encodeOldCase again ∙ encode-old b small whole
 
   upgraded-returns : AllYes (oldQuestions b) → (lent : List ℕ) → minBuffer ≤ length lent → downgradeCall (upgraded b) lent ≡ movedAccepted b lent
-  unfolding downgradeRefusal bufferLargeEnough oldQuestions goesBack
+  unfolding downgradeRefusal bufferLargeEnough oldQuestions
   upgraded-returns y lent h =
       let one : SetOfOne b (upgraded b) = upgraded-one (y .0) (y .1 .0) in
-      let single : goesBack (caseOf (upgraded b)) ≡ true = ap goesBack (one .same) in
+      let single : goesBack (caseOf (upgraded b)) ≡ true = ap goesBack (one .same) ∙ one-goes-back (oldCaseOf b) in
       let large : bufferLargeEnough (length lent) ≡ true = le-leb minBuffer (length lent) h in
       let none : downgradeRefusal (upgraded b) (length lent) ≡ 0 =
       refused-one one (ask 2 (bufferLargeEnough (length lent)) ∷ []) (ask 15 (goesBack (caseOf (upgraded b))) ∷ [])
@@ -192,23 +202,34 @@ first-alone [] e = absurd (omega arith)
 first-alone (Q ∷ []) e = refl
 first-alone (Q ∷ R ∷ Qs) e = absurd (omega arith)
 
+-- what goes back has one member, and no figures
+pub record GoesBack (c : Case) : Type 0 where
+  pub one : length (c .members) ≡ 1
+  pub first : figureless (c .first) ≡ true
+  pub second : figureless (getD (c .members) 0 []) ≡ true
+
+pub goes-back : (c : Case) → goesBack c ≡ true → GoesBack c
+unfolding goesBack
+goes-back c e =
+    let n : length (c .members) ≡ 1 = eqb-true (length (c .members)) 1 (and-left _ _ e) in
+    let f : (figureless (c .first) && allOf figureless (c .members)) ≡ true = and-right (eqb (length (c .members)) 1) _ e in
+    record {
+      one = n;
+      first = and-left _ _ f;
+      second = all-elim figureless (c .members) (and-right (figureless (c .first)) _ f) (getD (c .members) 0 []) (mem-at (c .members) 0 [] (omega arith));
+    }
+
 -- and goes back to the old case that it is
 pub one-again : (c : Case) → goesBack c ≡ true → oneOf (oldOf c) ≡ c
-unfolding goesBack
 one-again c e =
+    let g = goes-back c e in
     let m : newPattern (oldPattern (getD (c .members) 0 [])) ∷ [] ≡ c .members =
-    ap (λ (Q : Pattern). Q ∷ []) (old-new (getD (c .members) 0 [])) ∙ first-alone (c .members) (eqb-true (length (c .members)) 1 e) in
-    λ i. record { summary = c .summary; first = old-new (c .first) i; members = m i }
+    ap (λ (Q : Pattern). Q ∷ []) (old-new (getD (c .members) 0 []) (g .second)) ∙ first-alone (c .members) (g .one) in
+    λ i. record { summary = c .summary; first = old-new (c .first) (g .first) i; members = m i }
 
 module _ (b : List ℕ) (small : AreBytes b) (y : AllYes (caseQuestions b)) (single : goesBack (caseOf b) ≡ true) where
   abbrev d : OldCase
   d = oldOf (caseOf b)
-
-  downgraded-fit : FitFields (oldFields d)
-  downgraded-fit =
-      subst FitFields (sym (downgraded-fields b single))
-      (fit-append (fieldsAt b 0 (setAt b)) (fieldsAt b (setAt b + 1) (caseEnd b - (setAt b + 1))) (fields-fit b small 0 (setAt b))
-      (fields-fit b small (setAt b + 1) (caseEnd b - (setAt b + 1))))
 
   downgraded-counts : oldCountsInRange d ≡ true
   unfolding caseQuestions
@@ -219,9 +240,9 @@ module _ (b : List ℕ) (small : AreBytes b) (y : AllYes (caseQuestions b)) (sin
   unfolding downgraded caseQuestions caseWhole
   downgraded-one =
       record {
-        old = old-whole d downgraded-fit (omega (arith, old-small d downgraded-counts));
+        old = old-whole d (downgraded-fit b small (goes-back (caseOf b) single .one)) (omega (arith, old-small d downgraded-counts));
         new = y .0;
-        same = sym (ap oneOf (old-back d downgraded-fit) ∙ one-again (caseOf b) single);
+        same = sym (ap oneOf (old-back d (downgraded-fit b small (goes-back (caseOf b) single .one))) ∙ one-again (caseOf b) single);
       }
 
   -- and small
@@ -258,36 +279,3 @@ downgrade-moved b small before e =
       same = downgraded-one b small (f .asked) (f .one);
       returns = downgraded-returns b small (f .asked) (f .one);
     }
-
--- ---- no bytes are a case in both forms
-
--- k members, each of a node at least, take five fields each at least
-members-take : (b : List ℕ) (on n : ℕ) → ((i : ℕ) → i < n → 1 ≤ field b (memberAt b on i)) → (k : ℕ) → k ≤ n → on + 1 + 5 * k ≤ memberAt b on k
-members-take b on n some zero h = rw (member-first b on) (omega arith)
-members-take b on n some (suc k) h =
-    let ih = members-take b on n some k (omega arith) in
-    let s = some k (omega arith) in
-    rw (member-next b on k) (omega arith)
-
--- so a set of selections is longer than the one section that its count would announce
-pub one-form : (b : List ℕ) → AllYes (oldQuestions b) → AllYes (caseQuestions b) → ⊥
-unfolding oldQuestions caseQuestions caseWhole countsInRange setInRange caseOf setOf section recordsAt
-one-form b old new =
-    let on : ℕ = setAt b in
-    let at : ℕ → ℕ = memberAt b on in
-    let Qs : List Pattern = caseOf b .members in
-    let size : length Qs ≡ field b on = length-map-upFrom (λ i. section patternRecordAt patternWidth b (at i)) 0 (field b on) in
-    let counts : allOf countInRange Qs ≡ true = and-right (between 1 maxSummary (length (caseOf b .summary)) && countInRange (caseOf b .first)) _ (new .1 .0) in
-    let some : (i : ℕ) → i < field b on → 1 ≤ field b (at i) =
-    λ i h.
-    let Q : Pattern = section patternRecordAt patternWidth b (at i) in
-    let e : getD Qs i [] ≡ Q = getD-map-upFrom (λ j. section patternRecordAt patternWidth b (at j)) 0 (field b on) i [] h ∙ ap (λ (j : ℕ). section patternRecordAt patternWidth b (at j)) (zero-add i) in
-    let m : List·Memᴰ Q Qs = subst (λ (R : Pattern). List·Memᴰ R Qs) e (mem-at Qs i [] (omega arith)) in
-    let l : length Q ≡ field b (at i) = length-map-upFrom (λ j. patternRecordAt b (at i + 1 + patternWidth * j)) 0 (field b (at i)) in
-    omega (arith, between-facts 1 maxPattern (length Q) (all-elim countInRange Qs counts Q m) .0) in
-    let long = members-take b on (field b on) some (field b on) (le-refl (field b on)) in
-    let n = between-facts 1 maxMembers (length Qs) (new .1 .1 .0) .0 in
-    let whole = whole-case b .0 (new .0) in
-    let ends = whole-set-ends b on (whole .members) in
-    let oldLength : length b ≡ 2 * oldEnd b = old-whole-facts b (old .0) .1 in
-    omega arith

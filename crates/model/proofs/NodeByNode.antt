@@ -9,8 +9,8 @@ use mathlib.Core.List.{List, map}
 use native.Mathlib.Omega.{arith}
 use lib.ListN.{length, getD, length-map}
 use lib.Seq.{ext-getD}
-use Rattle.model.specs.Tree.{Document, labelOf, Edge}
-use Rattle.model.specs.Pattern.{Pattern, IsPatternTree, patternLabel, patternParent, descends, position, labelFits, arity, nodeAt, returnNodes, Embeds, Result}
+use Rattle.model.specs.Tree.{Document, labelOf, figureOf, Edge}
+use Rattle.model.specs.Pattern.{Pattern, IsPatternTree, patternLabel, patternParent, descends, position, patternFigure, labelFits, figureFits, arity, nodeAt, returnNodes, Embeds, Result}
 use Rattle.model.specs.Facts.{PatternFacts}
 use Rattle.model.proofs.TreeLaws.{rooted-lt}
 use Rattle.model.proofs.ReturnNodes.{length-returnNodes, returns-at}
@@ -88,8 +88,12 @@ can-embeds {Q} {W} {pin} t k = (
 abbrev pub Pinned : Pattern → List ℕ → ℕ → ℕ → Type 0
 Pinned Q r q v = (position Q q ≡ 0) ⊎ (v ≡ getD r (position Q q - 1) 0)
 
--- a list is a result exactly when the whole pattern embeds at the root with its return nodes pinned to the list
-pub result-can : {Q : Pattern} {W : Document} {r : List ℕ} → PatternFacts Q → length r ≡ arity Q → Result Q W r ↔ Can Q W (Pinned Q r) 0 0
+-- and every node to one whose figure fits
+abbrev pub PinnedIn : Pattern → Document → List ℕ → ℕ → ℕ → Type 0
+PinnedIn Q W r q v = Pinned Q r q v × (figureFits (patternFigure Q q) (figureOf W v) ≡ true)
+
+-- a list is a result exactly when the whole pattern embeds at the root with its return nodes pinned to the list, and figures fit
+pub result-can : {Q : Pattern} {W : Document} {r : List ℕ} → PatternFacts Q → length r ≡ arity Q → Result Q W r ↔ Can Q W (PinnedIn Q W r) 0 0
 result-can {Q} {W} {r} F n = (there, back)
   where
     pin : (m : Result Q W r) (q : ℕ) → q < length Q → (k : ℕ) → position Q q ≡ k → Pinned Q r q (m .image q)
@@ -97,10 +101,10 @@ result-can {Q} {W} {r} F n = (there, back)
     pin m q h (suc k) p =
         inr (sym (ap (λ (l : List ℕ). getD l (position Q q - 1) 0) (m .returns) ∙ returns-at (m .image) q F h (omega arith)))
 
-    there : Result Q W r → Can Q W (Pinned Q r) 0 0
+    there : Result Q W r → Can Q W (PinnedIn Q W r) 0 0
     there m =
-        subst (λ (x : ℕ). Can Q W (Pinned Q r) 0 x) (m .embeds .root)
-        (embeds-can (Pinned Q r) (F .tree) (m .embeds) (λ q h. pin m q h (position Q q) refl) 0 (F .tree .inhabited))
+        subst (λ (x : ℕ). Can Q W (PinnedIn Q W r) 0 x) (m .embeds .root)
+        (embeds-can (PinnedIn Q W r) (F .tree) (m .embeds) (λ q h. (pin m q h (position Q q) refl, m .figures q h)) 0 (F .tree .inhabited))
 
     -- where the pins hold, the list holds the return nodes' images
     entry : (e : ℕ → ℕ) → ((q : ℕ) → q < length Q → Pinned Q r q (e q)) → (i : ℕ) → i < arity Q → getD r i 0 ≡ getD (map e (returnNodes Q)) i 0
@@ -121,12 +125,13 @@ result-can {Q} {W} {r} F n = (there, back)
             let s : position Q q - 1 ≡ i = omega (arith, at) in
             subst (λ (x : ℕ). getD r x 0 ≡ getD (map e (returnNodes Q)) x 0) s (sym p ∙ sym (returns-at e q F inside (omega (arith, at))))
 
-    back : Can Q W (Pinned Q r) 0 0 → Result Q W r
+    back : Can Q W (PinnedIn Q W r) 0 0 → Result Q W r
     back k =
         let m = can-embeds (F .tree) k in
         let s : length r ≡ length (map (m .0) (returnNodes Q)) = n ∙ sym (length-map (returnNodes Q) (m .0) ∙ length-returnNodes Q) in
         record {
           image = m .0;
           embeds = m .1;
-          returns = ext-getD 0 r (map (m .0) (returnNodes Q)) s (λ i h. let a : i < arity Q = subst (λ (x : ℕ). i < x) n h in entry (m .0) (m .2) i a);
+          figures = λ q h. m .2 q h .1;
+          returns = ext-getD 0 r (map (m .0) (returnNodes Q)) s (λ i h. let a : i < arity Q = subst (λ (x : ℕ). i < x) n h in entry (m .0) (λ q k. m .2 q k .0) i a);
         }

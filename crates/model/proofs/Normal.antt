@@ -48,7 +48,7 @@ module _ (S : Summary) (f : SummaryFacts S) where
   abbrev written : Pattern
   written = normalPattern (asPattern S)
 
-  -- which has no positions, so it reads as an outline again
+  -- which has no positions and no figures, so it reads as an outline again
   no-position : (r : PatternRecord) → List·Memᴰ r written → readAs (readBack r) ≡ r
   no-position r m =
       let at = at-mem written r noPatternRecord m in
@@ -57,7 +57,9 @@ module _ (S : Summary) (f : SummaryFacts S) where
       let same = tail-eq-of-cons-eq (tail-eq-of-cons-eq (fields-back n j (at .1))) in
       let none : r .position ≡ 0 =
       ap (λ (x : PatternRecord). x .position) (sym (at .2)) ∙ sym (head-eq-of-cons-eq same) ∙ ap (λ (x : PatternRecord). x .position) (record-asPattern S (n .from j)) in
-      λ k. record { parent = r .parent; label = r .label; edge = r .edge; position = sym none k }
+      let bare : r .figure ≡ 0 =
+      ap (λ (x : PatternRecord). x .figure) (sym (at .2)) ∙ sym (head-eq-of-cons-eq (tail-eq-of-cons-eq same)) ∙ ap (λ (x : PatternRecord). x .figure) (record-asPattern S (n .from j)) in
+      λ k. record { parent = r .parent; label = r .label; edge = r .edge; position = sym none k; figure = sym bare k }
 
   reads-again : asPattern (asSummary written) ≡ written
   reads-again = map-map readAs readBack written ∙ map-agree (λ (r : PatternRecord). readAs (readBack r)) (λ r. r) written no-position ∙ map-id written
@@ -207,8 +209,8 @@ pub normalise-accepted : (b : List ℕ) (bufferBytes : ℕ) → AllYes (caseQues
 unfolding normaliseRefusal bufferLargeEnough
 normalise-accepted b bufferBytes y h = refusal-none (ask 2 (bufferLargeEnough bufferBytes) ∷ caseQuestions b) (le-leb minBuffer bufferBytes h, y)
 
--- an accepted case has at most 1 + 3 × 64 fields, 1 + 4 × 16, and 1 + 8 × (1 + 4 × 16)
-members-small : (Qs : List Pattern) → ((Q : Pattern) → List·Memᴰ Q Qs → length Q ≤ maxPattern) → length (flatMap (sectionFields patternFields) Qs) ≤ 65 * length Qs
+-- an accepted case has at most 1 + 3 × 64 fields, 1 + 5 × 16, and 1 + 8 × (1 + 5 × 16)
+members-small : (Qs : List Pattern) → ((Q : Pattern) → List·Memᴰ Q Qs → length Q ≤ maxPattern) → length (flatMap (sectionFields patternFields) Qs) ≤ 81 * length Qs
 unfolding flatMap
 members-small [] h = omega arith
 members-small (Q ∷ Qs) h =
@@ -216,7 +218,7 @@ members-small (Q ∷ Qs) h =
     length-append (sectionFields patternFields Q) (flatMap (sectionFields patternFields) Qs) in
     let b : length (sectionFields patternFields Q) ≡ 1 + patternWidth * length Q = length-section patternRecordAt patternFields patternWidth pattern-readable Q in
     let c : length Q ≤ maxPattern = h Q (List·Memᴰ·head refl) in
-    let d : length (flatMap (sectionFields patternFields) Qs) ≤ 65 * length Qs = members-small Qs (λ R m. h R (List·Memᴰ·tail m)) in
+    let d : length (flatMap (sectionFields patternFields) Qs) ≤ 81 * length Qs = members-small Qs (λ R m. h R (List·Memᴰ·tail m)) in
     omega arith
 
 pub case-small : (b : List ℕ) → AreBytes b → AllYes (caseQuestions b) → length b ≤ minBuffer
@@ -234,7 +236,7 @@ case-small b s q =
     length-append (sectionFields patternFields (c .first)) (setFields (c .members)) in
     let u : length (sectionFields summaryFields (c .summary)) ≡ 1 + summaryWidth * length (c .summary) = length-section summaryRecordAt summaryFields summaryWidth summary-readable (c .summary) in
     let v : length (sectionFields patternFields (c .first)) ≡ 1 + patternWidth * length (c .first) = length-section patternRecordAt patternFields patternWidth pattern-readable (c .first) in
-    let w : length (flatMap (sectionFields patternFields) (c .members)) ≤ 65 * length (c .members) = members-small (c .members) (λ Q m. f .members Q m .size) in
+    let w : length (flatMap (sectionFields patternFields) (c .members)) ≤ 81 * length (c .members) = members-small (c .members) (λ Q m. f .members Q m .size) in
     let g = f .summarySize in
     let h = f .firstSize in
     let i = f .fewMembers in

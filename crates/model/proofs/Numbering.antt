@@ -358,7 +358,7 @@ module _ (P : Pattern) (t : IsPatternTree P) where
       let at = placed-at P t i h in
       let inside : placeOf P t i < length P = let l = at .0 in omega arith in
       ap patternOthers (record-of (placeOf P t i) inside)
-      ∙ ap (λ (e : Entry). e .label ∷ e .edge ∷ e .position ∷ []) (entry-of (placeOf P t i) inside)
+      ∙ ap (λ (e : Entry). e .label ∷ e .edge ∷ e .position ∷ e .figure ∷ []) (entry-of (placeOf P t i) inside)
       ∙ ap (λ (x : ℕ). patternOthers (getD P x noPatternRecord)) (at .1)
 
   -- what is written of a selection is a renumbering of it, and a tree

@@ -135,8 +135,9 @@ numbers-same (x ∷ xs) (y ∷ ys) e =
     let e1 = tail-eq-of-cons-eq e in
     let e2 = tail-eq-of-cons-eq e1 in
     let e3 = tail-eq-of-cons-eq e2 in
-    let head : x ≡ y = λ k. record { depth = head-eq-of-cons-eq e k; label = head-eq-of-cons-eq e1 k; edge = head-eq-of-cons-eq e2 k; position = head-eq-of-cons-eq e3 k } in
-    cc (head, numbers-same xs ys (tail-eq-of-cons-eq e3))
+    let e4 = tail-eq-of-cons-eq e3 in
+    let head : x ≡ y = λ k. record { depth = head-eq-of-cons-eq e k; label = head-eq-of-cons-eq e1 k; edge = head-eq-of-cons-eq e2 k; position = head-eq-of-cons-eq e3 k; figure = head-eq-of-cons-eq e4 k } in
+    cc (head, numbers-same xs ys (tail-eq-of-cons-eq e4))
 
 -- subtrees by what is written of them
 pub subtree-order : Order bySubtree

@@ -5,8 +5,8 @@ use mathlib.Core.Path.{_≡_, refl, sym, ap, ap₂, _∙_, subst}
 use mathlib.Core.List.{List, List·Memᴰ, List·Memᴰ·head, Memᴰ·append-right}
 use native.Mathlib.Omega.{arith}
 use lib.ListN.{length, replicate, length-replicate}
-use Rattle.model.specs.Limits.{maxLimit, minBuffer, maxText}
-use Rattle.model.specs.Tree.{Document, labelOf}
+use Rattle.model.specs.Limits.{maxLimit, minBuffer, maxText, maxFigure}
+use Rattle.model.specs.Tree.{Document, labelOf, figureOf}
 use Rattle.model.specs.Summary.{Summary}
 use Rattle.model.specs.Pattern.{Pattern, arity}
 use Rattle.model.specs.Embeddings.{summaryEmbeddings}
@@ -22,7 +22,7 @@ use Rattle.model.proofs.Verdict.{included-judge, not-included-judge, st
 use Rattle.model.proofs.Calls.{by-number, verdict-accepted}
 use Rattle.model.proofs.CallFacts.{accepted-verdict}
 use Rattle.model.proofs.Decision.{placed}
-use Rattle.model.proofs.ReadBack.{label-small, parent-inside, canonical-labels, result-count, result-inside}
+use Rattle.model.proofs.ReadBack.{label-small, parent-inside, canonical-labels, result-count, result-inside, canonical-figures}
 use Rattle.model.proofs.Demands.{verdict-answered}
 use Rattle.model.proofs.Text.{Printable, shown-small, refused-small, first-fits, printed-refused, printed-accepted}
 
@@ -58,6 +58,11 @@ shown-printable b small f s =
           (canonical-labels (caseOf b .summary) (caseOf b .first) (s .placement) (f .summary .tree) (f .first .tree)
           (placed (f .summary) (f .first) (subst (λ (l : List (List ℕ)). List·Memᴰ (s .placement) l) (sym (s .ordered)) (Memᴰ·append-right (s .earlier) (List·Memᴰ·head refl))) .1)
           (λ l. l < 65_536) (label-small b small));
+      figures =
+          subst (λ (W : Document). (i : ℕ) → i < length W → figureOf W i ≤ maxFigure) (sym (s .trial))
+          (canonical-figures (caseOf b .summary) (caseOf b .first) (s .placement) (f .summary .tree) (f .first .tree)
+          (placed (f .summary) (f .first) (subst (λ (l : List (List ℕ)). List·Memᴰ (s .placement) l) (sym (s .ordered)) (Memᴰ·append-right (s .earlier) (List·Memᴰ·head refl))) .1)
+          (f .firstFigures));
       positions = omega arith;
       nodes = result-inside (f .first) ofFirst;
     }

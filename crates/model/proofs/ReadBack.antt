@@ -13,24 +13,25 @@ use lib.ListN.{length, getD, take, drop, length-map, List·getD-map, List·getD-
 use lib.Seq.{getD-append-add, take-at, drop-append-add}
 use borrow.Author.Tests.{eq-eqb, ne-eqb, lt-ltb, le-leb}
 use Rattle.model.specs.Lists.{upFrom, allOf}
-use Rattle.model.specs.Limits.{summaryWidth, documentWidth, maxDocument, maxCanonical}
-use Rattle.model.specs.Tree.{DocumentRecord, Document, IsTree, parentOf, labelOf}
+use Rattle.model.specs.Limits.{summaryWidth, documentWidth, maxDocument, maxCanonical, maxFigure}
+use Rattle.model.specs.Tree.{DocumentRecord, Document, IsTree, parentOf, labelOf, figureOf}
 use Rattle.model.specs.Summary.{Summary, SummaryRecord, noSummaryRecord, withoutStrong, asDocument, summaryLabel}
-use Rattle.model.specs.Pattern.{Pattern, IsPatternTree, arity, returnNodes, Result, SummaryEmbedding, CounterExample}
+use Rattle.model.specs.Pattern.{Pattern, IsPatternTree, arity, returnNodes, Result, SummaryEmbedding, CounterExample, patternFigure}
 use Rattle.model.specs.Embeddings.{imageIn, isResult}
 use Rattle.model.specs.Fitting.{fits}
-use Rattle.model.specs.Canonical.{canonicalSpots, canonical, spotAt}
+use Rattle.model.specs.Canonical.{canonicalSpots, canonical, spotAt, ownNodes, ownFigure, spotRecords}
 use Rattle.model.specs.Bytes.{field, fieldBytes, bytesOf, recordsAt, summaryRecordAt, section, sectionEnd, caseOf, documentOf, listOf, isWholeList, documentFields, sectionFields, encodeDocument, encodeList, encodeCounted, writtenAtFront, shownSection, shownList, AreBytes}
-use Rattle.model.specs.Questions.{between, documentRecordKept, documentKept, listInRange, patternGiven, selected, ask, refusal, caseQuestions, fitsRefusal, resultRefusal}
+use Rattle.model.specs.Questions.{between, documentRecordKept, documentKept, listInRange, patternGiven, selected, ask, refusal, caseQuestions, fitsRefusal, resultRefusal, figureInRange, documentFigures, documentQuestions, Question}
 use Rattle.model.specs.Calls.{TestAnswer, yesAnswer, noAnswer, fitsCall, resultCall}
-use Rattle.model.specs.Facts.{PatternFacts, MemberFacts, CaseFacts}
+use Rattle.model.specs.Facts.{PatternFacts, MemberFacts, CaseFacts, FewFigures}
 use Rattle.model.specs.Demands.{ReadsBack}
 use Rattle.model.proofs.ListLaws.{mem-at, true-or-false, and-intro, below-all, all-intro, length-map-upFrom, getD-map-upFrom}
 use Rattle.model.proofs.TreeLaws.{rooted-inside, length-asDocument}
 use Rattle.model.proofs.Fitting.{rooted-rule, fits-exact}
 use Rattle.model.proofs.ReturnNodes.{length-returnNodes, return-inside}
 use Rattle.model.proofs.Results.{result-exact}
-use Rattle.model.proofs.SpotLaws.{in-table, spot-label, laid-tree, laid-inside}
+use Rattle.model.proofs.Figures.{own-figure-cases}
+use Rattle.model.proofs.SpotLaws.{in-table, spot-label, laid-tree, laid-inside, spot-figure}
 use Rattle.model.proofs.Canonical.{canonical-laid}
 use Rattle.model.proofs.Bytes.{FitFields, length-bytes, field-bytes, length-document, document-back, document-whole, list-back}
 use Rattle.model.proofs.Refusals.{AllYes, refusal-yes, refusal-after}
@@ -56,14 +57,18 @@ label-small b h s l =
     ∙ ap (λ (r : SummaryRecord). r .label) (getD-map-upFrom read 0 (field b 0) s noSummaryRecord (subst (λ (k : ℕ). s < k) n l)) in
     subst (λ (x : ℕ). x < 65_536) (sym e) (field-fits b h (0 + 1 + summaryWidth * (0 + s) + 1))
 
--- the fields of a document's section fit, if its count does and of each node the parent and the label do
-records-fit : (W : Document) → ((i : ℕ) → i < length W → (parentOf W i < 65_536) × (labelOf W i < 65_536)) → FitFields (flatMap documentFields W)
+-- the fields of a document's section fit, if its count does and of each node the parent, the label and the figure do
+abbrev FieldsFit : Document → Type 0
+FieldsFit W = (i : ℕ) → i < length W → (parentOf W i < 65_536) × (labelOf W i < 65_536) × (figureOf W i < 65_536)
+
+records-fit : (W : Document) → FieldsFit W → FitFields (flatMap documentFields W)
 unfolding flatMap
 records-fit (r ∷ W) h f (List·Memᴰ·head e) = subst (λ (x : ℕ). x < 65_536) (sym e) (h 0 (omega arith) .0)
 records-fit (r ∷ W) h f (List·Memᴰ·tail (List·Memᴰ·head e)) = subst (λ (x : ℕ). x < 65_536) (sym e) (h 0 (omega arith) .1)
-records-fit (r ∷ W) h f (List·Memᴰ·tail (List·Memᴰ·tail m)) = records-fit W (λ i l. h (suc i) (omega arith)) f m
+records-fit (r ∷ W) h f (List·Memᴰ·tail (List·Memᴰ·tail (List·Memᴰ·head e))) = subst (λ (x : ℕ). x < 65_536) (sym e) (h 0 (omega arith) .2)
+records-fit (r ∷ W) h f (List·Memᴰ·tail (List·Memᴰ·tail (List·Memᴰ·tail m))) = records-fit W (λ i l. h (suc i) (omega arith)) f m
 
-fields-fit : (W : Document) → length W < 65_536 → ((i : ℕ) → i < length W → (parentOf W i < 65_536) × (labelOf W i < 65_536)) → FitFields (sectionFields documentFields W)
+fields-fit : (W : Document) → length W < 65_536 → FieldsFit W → FitFields (sectionFields documentFields W)
 unfolding sectionFields
 fields-fit W n h f (List·Memᴰ·head e) = subst (λ (x : ℕ). x < 65_536) (sym e) n
 fields-fit W n h f (List·Memᴰ·tail m) = records-fit W h f m
@@ -75,27 +80,42 @@ parent-inside W t = rooted-inside t
 -- ---- a canonical document
 
 module _ (S : Summary) (P : Pattern) (es : List ℕ) (tree : IsTree (asDocument S)) (ordered : IsPatternTree P) (placed : SummaryEmbedding S P (imageIn es)) where
+  abbrev figures : ℕ → ℕ
+  figures = ownFigure P (ownNodes S P es)
+
   canonical-tree : IsTree (canonical S P es)
   unfolding canonical
-  canonical-tree = laid-tree (canonical-laid S P es tree ordered placed)
+  canonical-tree = laid-tree figures (canonical-laid S P es tree ordered placed)
 
   -- its labels are the summary's
   canonical-label : (i : ℕ) → i < length (canonical S P es) → (s : ℕ) × (s < length S) × (labelOf (canonical S P es) i ≡ summaryLabel S s)
   unfolding canonical
   canonical-label i h =
-      let l : i < length (canonicalSpots S P es) = in-table S (canonicalSpots S P es) i h in (
+      let l : i < length (canonicalSpots S P es) = in-table S figures (canonicalSpots S P es) i h in (
         spotAt (canonicalSpots S P es) i,
         subst (λ (k : ℕ). spotAt (canonicalSpots S P es) i < k) (length-asDocument S) (laid-inside tree (canonical-laid S P es tree ordered placed) i l),
-        spot-label S (canonicalSpots S P es) i l,
+        spot-label S figures (canonicalSpots S P es) i l,
       )
 
   pub canonical-labels : (Ok : ℕ → Type 0) → ((s : ℕ) → s < length S → Ok (summaryLabel S s)) → (i : ℕ) → i < length (canonical S P es) → Ok (labelOf (canonical S P es) i)
   canonical-labels Ok each i h = let k = canonical-label i h in subst Ok (sym (k .2)) (each (k .0) (k .1))
 
-  pub canonical-fields : ((s : ℕ) → s < length S → summaryLabel S s < 65_536) → length (canonical S P es) ≤ maxCanonical → FitFields (sectionFields documentFields (canonical S P es))
-  canonical-fields each few =
+  -- its figures are the pattern's least ones, or 0
+  pub canonical-figures : FewFigures P → (i : ℕ) → i < length (canonical S P es) → figureOf (canonical S P es) i ≤ maxFigure
+  unfolding canonical
+  canonical-figures few i h = go (own-figure-cases P (ownNodes S P es) i)
+    where
+      same : figureOf (spotRecords S figures (canonicalSpots S P es)) i ≡ figures i
+      same = spot-figure S figures (canonicalSpots S P es) i (in-table S figures (canonicalSpots S P es) i h)
+
+      go : ((q : ℕ) × (q < length P) × (imageIn (ownNodes S P es) q ≡ i) × (figures i ≡ patternFigure P q)) ⊎ (figures i ≡ 0) → figureOf (spotRecords S figures (canonicalSpots S P es)) i ≤ maxFigure
+      go (inl (q, k, at, e)) = let b : patternFigure P q ≤ maxFigure = few q k in omega (arith, same)
+      go (inr z) = omega (arith, same)
+
+  pub canonical-fields : ((s : ℕ) → s < length S → summaryLabel S s < 65_536) → FewFigures P → length (canonical S P es) ≤ maxCanonical → FitFields (sectionFields documentFields (canonical S P es))
+  canonical-fields each low few =
       fields-fit (canonical S P es) (omega arith)
-      (λ i h. (let k = parent-inside (canonical S P es) canonical-tree i h in omega arith, canonical-labels (λ l. l < 65_536) each i h))
+      (λ i h. (let k = parent-inside (canonical S P es) canonical-tree i h in omega arith, canonical-labels (λ l. l < 65_536) each i h, let k = canonical-figures low i h in omega arith))
 
 -- ---- a result
 
@@ -131,7 +151,7 @@ module _ (W : Document) (r t : List ℕ) (fitW : FitFields (sectionFields docume
   count-front =
       field-before (encodeDocument W) (encodeCounted r ++ t) 0 (let l = length-document W in omega arith) ∙ field-bytes (sectionFields documentFields W) fitW 0
 
-  section-ends : sectionEnd documentWidth all 0 ≡ 1 + 2 * length W
+  section-ends : sectionEnd documentWidth all 0 ≡ 1 + documentWidth * length W
   section-ends = let e = count-front in omega arith
 
   section-read : shownSection all ≡ encodeDocument W
@@ -140,15 +160,15 @@ module _ (W : Document) (r t : List ℕ) (fitW : FitFields (sectionFields docume
   count-next : field all (sectionEnd documentWidth all 0) ≡ length r
   unfolding encodeCounted
   count-next =
-      ap (field all) (section-ends ∙ sym (add-zero (1 + 2 * length W)))
-      ∙ field-behind (encodeDocument W) (encodeCounted r ++ t) (1 + 2 * length W) 0 (length-document W)
+      ap (field all) (section-ends ∙ sym (add-zero (1 + documentWidth * length W)))
+      ∙ field-behind (encodeDocument W) (encodeCounted r ++ t) (1 + documentWidth * length W) 0 (length-document W)
       ∙ field-before (encodeCounted r) t 0 (let l = length-bytes (length r ∷ r) in omega arith) ∙ field-bytes (length r ∷ r) fitR 0
 
   list-follows : drop (2 * (sectionEnd documentWidth all 0 + 1)) all ≡ encodeList r ++ t
   unfolding encodeCounted encodeList bytesOf flatMap fieldBytes
   list-follows =
       let e = section-ends in
-      let l : length (encodeDocument W) ≡ 2 * (1 + 2 * length W) = length-document W in
+      let l : length (encodeDocument W) ≡ 2 * (1 + documentWidth * length W) = length-document W in
       let at : 2 * (sectionEnd documentWidth all 0 + 1) ≡ length (encodeDocument W) + 2 = omega arith in
       ap (λ (n : ℕ). drop n all) at ∙ drop-append-add (encodeDocument W) (encodeCounted r ++ t) 2
 
@@ -157,7 +177,7 @@ module _ (W : Document) (r t : List ℕ) (fitW : FitFields (sectionFields docume
   list-read =
       ap₂ (λ (n : ℕ) (l : List ℕ). take (2 * n) l) count-next list-follows ∙ take-at (encodeList r) t (2 * length r) (length-bytes r)
 
--- ---- questions 10 and 11
+-- ---- questions 10, 17 and 11
 
 document-kept : (W : Document) → FitFields (sectionFields documentFields W) → IsTree W → length W ≤ maxDocument → ((i : ℕ) → i < length W → 0 < labelOf W i)
     → documentKept (encodeDocument W) ≡ true
@@ -170,6 +190,11 @@ document-kept W fit tree few some =
     (ap (λ (D : Document). between 1 maxDocument (length D)) e ∙ and-intro (le-leb 1 (length W) n) (le-leb (length W) maxDocument few)))
     (ap (λ (D : Document). allOf (documentRecordKept D) (upFrom 0 (length D))) e
     ∙ below-all (documentRecordKept W) (length W) (λ i h. and-intro (rooted-rule tree i h) (lt-ltb 0 (labelOf W i) (some i h))))
+
+figures-kept : (W : Document) → FitFields (sectionFields documentFields W) → ((i : ℕ) → i < length W → figureOf W i ≤ maxFigure) → documentFigures (documentOf (encodeDocument W)) ≡ true
+unfolding documentFigures figureInRange
+figures-kept W fit low =
+    ap documentFigures (document-back W fit) ∙ below-all (λ i. figureInRange (figureOf W i)) (length W) (λ i h. le-leb (figureOf W i) maxFigure (low i h))
 
 list-kept : (k n : ℕ) (r : List ℕ) → FitFields r → length r ≡ k → ((v : ℕ) → List·Memᴰ v r → v < n) → listInRange k n (encodeList r) ≡ true
 unfolding listInRange isWholeList encodeList
@@ -187,10 +212,10 @@ answer-says : {a : TestAnswer} (test : Bool) {v : Bool} → a ≡ record { refus
     → a ≡ record { refused = 0; holds = elim v as (λ _. ℕ) [ true ↦ 1 | false ↦ 0 ] }
 answer-says test e p = e ∙ ap {B = TestAnswer} (λ (t : Bool). record { refused = 0; holds = elim t as (λ _. ℕ) [ true ↦ 1 | false ↦ 0 ] }) p
 
--- a counter-example of an accepted case, small enough and of labels that are not 0, answers the calls
+-- a counter-example of an accepted case, small enough, of labels that are not 0 and of figures that are not too great, answers the calls
 module _ (b : List ℕ) (asked : AllYes (caseQuestions b)) (f : CaseFacts (caseOf b)) {W : Document} {r : List ℕ}
     (k : CounterExample (caseOf b .summary) (caseOf b .first) (caseOf b .members) W r) (few : length W ≤ maxDocument)
-    (some : (i : ℕ) → i < length W → 0 < labelOf W i) (fit : FitFields (sectionFields documentFields W)) where
+    (some : (i : ℕ) → i < length W → 0 < labelOf W i) (low : (i : ℕ) → i < length W → figureOf W i ≤ maxFigure) (fit : FitFields (sectionFields documentFields W)) where
   abbrev w : List ℕ
   w = encodeDocument W
 
@@ -200,9 +225,15 @@ module _ (b : List ℕ) (asked : AllYes (caseQuestions b)) (f : CaseFacts (caseO
   kept : documentKept w ≡ true
   kept = document-kept W fit (k .fits .tree) few some
 
+  inRange : documentFigures (documentOf w) ≡ true
+  inRange = figures-kept W fit low
+
+  asked-document : (after : List Question) → refusal (caseQuestions b ++ (documentQuestions w ++ after)) ≡ refusal after
+  asked-document after = refusal-after (caseQuestions b) (documentQuestions w ++ after) asked ∙ refusal-after (documentQuestions w) after (kept, (inRange, tt))
+
   fits-asked : fitsRefusal b w ≡ 0
   unfolding fitsRefusal refusal
-  fits-asked = refusal-after (caseQuestions b) (ask 10 (documentKept w) ∷ []) asked ∙ refusal-yes (ask 10 (documentKept w)) [] kept
+  fits-asked = asked-document []
 
   fits-says : fitsCall b w ≡ yesAnswer
   fits-says =
@@ -232,8 +263,7 @@ module _ (b : List ℕ) (asked : AllYes (caseQuestions b)) (f : CaseFacts (caseO
       let list : listInRange n (length (documentOf w)) (encodeList r) ≡ true =
       subst (λ (D : Document). listInRange n (length D) (encodeList r) ≡ true) (sym back) (list-kept n (length W) r fit-list same inside) in
       let q11 = ask 11 (listInRange n (length (documentOf w)) (encodeList r)) in
-      refusal-after (caseQuestions b) (ask 10 (documentKept w) ∷ ask 12 (patternGiven (caseOf b) s) ∷ q11 ∷ []) asked
-      ∙ refusal-yes (ask 10 (documentKept w)) (ask 12 (patternGiven (caseOf b) s) ∷ q11 ∷ []) kept ∙ refusal-yes (ask 12 (patternGiven (caseOf b) s)) (q11 ∷ []) given
+      asked-document (ask 12 (patternGiven (caseOf b) s) ∷ q11 ∷ []) ∙ refusal-yes (ask 12 (patternGiven (caseOf b) s)) (q11 ∷ []) given
       ∙ refusal-yes q11 [] list
 
   result-says : (s : ℕ) {v : Bool} → patternGiven (caseOf b) s ≡ true → length r ≡ arity (selected (caseOf b) s) → isResult (selected (caseOf b) s) W r ≡ v

@@ -178,6 +178,7 @@ module _ (P : Pattern) (q : ℕ) (h : q < length P) where
           labels = λ i l. sym (ap (λ (r : PatternRecord). r .label) (record-without i l));
           edges = λ i l. sym (ap (λ (r : PatternRecord). eqb (r .edge) 1) (record-without i l));
           positions = λ i l. sym (ap (λ (r : PatternRecord). r .position) (record-without i l));
+          figures = λ i l. sym (ap (λ (r : PatternRecord). r .figure) (record-without i l));
           apart = λ i j l m e. raised-apart q i j e;
           positioned = λ j l z. (
               let d : j ≡ q → ⊥ = (λ e. let p : position P j ≡ 0 = ap (position P) e ∙ no-position in omega arith) in

@@ -136,7 +136,7 @@ all-yes-tables : (w : List ℕ) {d : Case} → caseOf w ≡ d → isWholeCase w 
 unfolding caseQuestions caseWhole
 all-yes-tables w e whole k =
     let t : TablesKept (caseOf w) = subst TablesKept (sym e) k in
-    (whole, (t .counts, (t .few, (t .summary, (t .siblings, (t .patterns, (t .positions, tt)))))))
+    (whole, (t .counts, (t .few, (t .summary, (t .siblings, (t .patterns, (t .figures, (t .positions, tt))))))))
 
 tables-all-yes : (b : List ℕ) → AllYes (caseQuestions b) → TablesKept (caseOf b)
 unfolding caseQuestions
@@ -147,7 +147,8 @@ tables-all-yes b y =
       summary = y .1 .1 .1 .0;
       siblings = y .1 .1 .1 .1 .0;
       patterns = y .1 .1 .1 .1 .1 .0;
-      positions = y .1 .1 .1 .1 .1 .1 .0;
+      figures = y .1 .1 .1 .1 .1 .1 .0;
+      positions = y .1 .1 .1 .1 .1 .1 .1 .0;
     }
 
 -- the bytes of a renumbering d of the case with bytes b

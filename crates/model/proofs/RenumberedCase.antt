@@ -14,17 +14,17 @@ use Rattle.model.specs.Lists.{upFrom, allOf, countOf}
 use Rattle.model.specs.Limits.{maxSummary, maxPattern, maxMembers, maxPosition}
 use Rattle.model.specs.Tree.{IsTree}
 use Rattle.model.specs.Summary.{Summary, noSummaryRecord, asDocument, summaryParent, summaryLabel}
-use Rattle.model.specs.Pattern.{PatternRecord, Pattern, noPatternRecord, IsPatternTree, patternParent, arity, Result, Contained}
+use Rattle.model.specs.Pattern.{PatternRecord, Pattern, noPatternRecord, IsPatternTree, patternParent, arity, Result, Contained, patternFigure}
 use Rattle.model.specs.Fitting.{parentRule}
 use Rattle.model.specs.Bytes.{Case}
-use Rattle.model.specs.Questions.{between, countInRange, countsInRange, setInRange, summaryRecordKept, summaryKept, alike, siblingsDiffer, patternRecordKept, patternKept, patternsKept, positionsOnce, positionsKept}
+use Rattle.model.specs.Questions.{between, countInRange, countsInRange, setInRange, summaryRecordKept, summaryKept, alike, siblingsDiffer, patternRecordKept, patternKept, patternsKept, positionsOnce, positionsKept, figureInRange, patternFigures, figuresKept}
 use Rattle.model.specs.Renumbering.{SummaryRenumbering, PatternRenumbering, CaseRenumbering}
 use Rattle.model.specs.Facts.{SummaryFacts, CaseFacts}
 use Rattle.model.proofs.ListLaws.{true-or-false, and-intro, and-left, and-right, or-left, mem-at, at-mem, all-intro, all-elim, all-agree, all-below, below-all}
 use Rattle.model.proofs.TreeLaws.{length-asDocument}
 use Rattle.model.proofs.Fitting.{rooted-rule}
 use Rattle.model.proofs.CaseFacts.{between-facts, summary-facts}
-use Rattle.model.proofs.Renumbering.{renumbering-self, renumbering-after, renumbering-back, renumbered-length, fields-back, root-back, summary-rooted}
+use Rattle.model.proofs.Renumbering.{renumbering-self, renumbering-after, renumbering-back, renumbered-length, fields-back, root-back, summary-rooted, pattern-figure}
 use Rattle.model.proofs.RenumberedTables.{renumbered-arity, renumbered-holders, renumbered-result, renumbered-fits, renumbered-summary-facts}
 
 -- each table of the case is a rooted tree
@@ -167,18 +167,28 @@ module _ {P Q : Pattern} (r : PatternRenumbering P Q) where
       (λ p m. ap (λ (n : ℕ). eqb n 1) (renumbered-holders r p)))
       ∙ ap (λ (n : ℕ). leb 1 n && allOf (λ p. eqb (countOf (λ (x : PatternRecord). eqb (x .position) p) Q) 1) (upFrom 1 n)) (renumbered-arity r)
 
+  renumbered-figures : patternFigures P ≡ true → patternFigures Q ≡ true
+  unfolding patternFigures
+  renumbered-figures e =
+      below-all (λ q. figureInRange (patternFigure Q q)) (length Q)
+      (λ j h. (
+      let k = all-below (λ q. figureInRange (patternFigure P q)) (length P) e (r .from j) (r .insideBack j h) in
+      ap figureInRange (ap (patternFigure Q) (sym (r .forth j h)) ∙ pattern-figure r (r .from j) (r .insideBack j h)) ∙ k
+      ))
+
   renumbered-count-range : countInRange P ≡ countInRange Q
   renumbered-count-range = ap (λ (n : ℕ). between 1 maxPattern n) (renumbered-length r)
 
 -- ---- the questions on the tables
 
--- each is answered yes: 4, 14, 5, 6, 7, 8
+-- each is answered yes: 4, 14, 5, 6, 7, 17, 8
 pub record TablesKept (c : Case) : Type 0 where
   pub counts : countsInRange c ≡ true
   pub few : setInRange c ≡ true
   pub summary : summaryKept (c .summary) ≡ true
   pub siblings : siblingsDiffer (c .summary) ≡ true
   pub patterns : patternsKept c ≡ true
+  pub figures : figuresKept c ≡ true
   pub positions : positionsKept c ≡ true
 
 module _ {c d : Case} (r : CaseRenumbering c d) where
@@ -193,7 +203,7 @@ module _ {c d : Case} (r : CaseRenumbering c d) where
       ))
 
   pub renumbered-kept : CaseTrees c → CaseTrees d → TablesKept c → TablesKept d
-  unfolding countsInRange setInRange patternsKept positionsKept
+  unfolding countsInRange setInRange patternsKept figuresKept positionsKept
   renumbered-kept some trees k =
       record {
         counts =
@@ -210,6 +220,9 @@ module _ {c d : Case} (r : CaseRenumbering c d) where
             (members-kept patternKept patternKept
             (λ i h e. renumbered-pattern-kept (r .members i h) (some .members i h) (trees .members i (subst (λ (n : ℕ). i < n) (r .count) h)) e)
             (and-right (patternKept (c .first)) _ (k .patterns)));
+        figures =
+            and-intro (renumbered-figures (r .first) (and-left _ _ (k .figures)))
+            (members-kept patternFigures patternFigures (λ i h e. renumbered-figures (r .members i h) e) (and-right (patternFigures (c .first)) _ (k .figures)));
         positions =
             and-intro (sym (renumbered-positions (r .first)) ∙ and-left _ _ (k .positions))
             (members-kept (λ Q. positionsOnce Q && eqb (arity (c .first)) (arity Q)) (λ Q. positionsOnce Q && eqb (arity (d .first)) (arity Q))

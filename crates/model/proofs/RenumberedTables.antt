@@ -20,7 +20,7 @@ use Rattle.model.proofs.Paths.{hom-label-path}
 use Rattle.model.proofs.Carrying.{carried-embeds, carried-result, carried-facts}
 use Rattle.model.proofs.Embeddings.{embeddings-exact, embeddings-complete, embeddings-ascending, precedes-asym, imagesOf, image-imagesOf}
 use Rattle.model.proofs.Distinct.{ascending-distinct, no-longer}
-use Rattle.model.proofs.Renumbering.{renumbering-back, renumbered-apart, renumbered-not-root, renumbered-count, parent-of, label-of, summary-rooted, renumbered-label, renumbered-strong, pattern-label, pattern-edge, pattern-position}
+use Rattle.model.proofs.Renumbering.{renumbering-back, renumbered-apart, renumbered-not-root, renumbered-count, parent-of, label-of, summary-rooted, renumbered-label, renumbered-strong, pattern-label, pattern-edge, pattern-position, pattern-figure}
 
 -- ---- selections
 
@@ -43,6 +43,7 @@ module _ {P Q : Pattern} (r : PatternRenumbering P Q) where
         labels = pattern-label r;
         edges = λ i h. ap (λ (e : ℕ). eqb e 1) (pattern-edge r i h);
         positions = pattern-position r;
+        figures = pattern-figure r;
         apart = renumbered-apart r;
         positioned = λ j h z. (r .from j, r .insideBack j h, r .forth j h);
         arities = renumbered-arity;

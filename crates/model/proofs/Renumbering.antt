@@ -173,6 +173,9 @@ module _ {P Q : Pattern} (r : PatternRenumbering P Q) where
   pub pattern-position : (i : ℕ) → i < length P → getD Q (r .to i) noPatternRecord .position ≡ getD P i noPatternRecord .position
   pattern-position i h = field-of 2 (r .fields i h)
 
+  pub pattern-figure : (i : ℕ) → i < length P → getD Q (r .to i) noPatternRecord .figure ≡ getD P i noPatternRecord .figure
+  pattern-figure i h = field-of 3 (r .fields i h)
+
 -- ---- an outline read as a selection
 
 module _ (S : Summary) where
@@ -196,7 +199,7 @@ module _ (S T : Summary) where
         root = r .root;
         parents = λ i h. ap (λ (x : PatternRecord). x .parent) (record-asPattern T (r .to i)) ∙ r .parents i (here h) ∙ ap (λ (x : PatternRecord). r .to (x .parent)) (sym (record-asPattern S i));
         fields = λ i h.
-            ap patternOthers (record-asPattern T (r .to i)) ∙ ap₂ (λ (l e : ℕ). l ∷ e ∷ 0 ∷ []) (renumbered-label r i (here h)) (renumbered-strong r i (here h))
+            ap patternOthers (record-asPattern T (r .to i)) ∙ ap₂ (λ (l e : ℕ). l ∷ e ∷ 0 ∷ 0 ∷ []) (renumbered-label r i (here h)) (renumbered-strong r i (here h))
             ∙ ap patternOthers (sym (record-asPattern S i));
       }
     where

@@ -13,17 +13,39 @@ use lib.Pow.{pow-pos, pow-mono}
 use lib.Count.{ones}
 use borrow.Author.Tests.{eqb-true, eq-eqb, lt-ltb, le-ltb, ltb-true, ltb-false}
 use Rattle.model.specs.Lists.{upFrom, anyOf, sameList, maskBelow, countBelow, Ascending, has}
-use Rattle.model.specs.Tree.{Document, IsTree}
+use Rattle.model.specs.Tree.{Document, IsTree, figureOf}
 use Rattle.model.specs.Summary.{Summary, asDocument}
-use Rattle.model.specs.Pattern.{Pattern, IsPatternTree, arity, nodeAt, returnNodes, Embeds, Result, PathOf, AtPosition}
-use Rattle.model.specs.Embeddings.{embeddings, summaryEmbeddings, imageIn, isResult, isAt, nodesAt, isPath, pathMask, pathCount}
+use Rattle.model.specs.Pattern.{Pattern, IsPatternTree, patternFigure, figureFits, arity, nodeAt, returnNodes, Embeds, FiguresFit, SummaryEmbedding, Result, PathOf, AtPosition}
+use Rattle.model.specs.Embeddings.{embeddings, summaryEmbeddings, imageIn, figuresFit, figuredEmbeddings, isResult, isAt, nodesAt, isPath, pathMask, pathCount}
 use Rattle.model.specs.Facts.{SummaryFacts, PatternFacts}
-use Rattle.model.proofs.ListLaws.{not-both, map-agree, mem-upFrom, any-intro, any-elim, keep-intro, keep-elim, same-eq, eq-same}
+use Rattle.model.proofs.ListLaws.{not-both, map-agree, mem-upFrom, any-intro, any-elim, all-below, below-all, keep-intro, keep-elim, same-eq, eq-same}
 use Rattle.model.proofs.TreeLaws.{length-asDocument}
 use Rattle.model.proofs.Ascending.{ascending-keep, ascending-upFrom}
 use Rattle.model.proofs.Embeddings.{embeddings-sound, imagesOf, image-imagesOf, embeddings-complete}
 use Rattle.model.proofs.ReturnNodes.{return-inside}
 use Rattle.model.proofs.Masks.{has-past, mask-lt, mask-below, mask-none, ones-mask}
+
+-- ---- figures
+
+-- the test says whether every least figure fits
+figures-exact : (P : Pattern) (W : Document) (es : List ℕ) → (figuresFit P W es ≡ true) ↔ FiguresFit P W (imageIn es)
+unfolding figuresFit
+figures-exact P W es = (all-below (λ q. figureFits (patternFigure P q) (figureOf W (imageIn es q))) (length P), below-all (λ q. figureFits (patternFigure P q) (figureOf W (imageIn es q))) (length P))
+
+-- an embedding whose figures fit
+abbrev Figured : Pattern → Document → (ℕ → ℕ) → Type 0
+Figured P W e = Embeds P W e × FiguresFit P W e
+
+-- the list holds exactly those
+figured-sound : {P : Pattern} {W : Document} (es : List ℕ) → IsPatternTree P → IsTree W → List·Memᴰ es (figuredEmbeddings P W) → Figured P W (imageIn es)
+unfolding figuredEmbeddings
+figured-sound {P} {W} es t u m = let k = keep-elim (figuresFit P W) es (embeddings P W) m in (embeddings-sound t u (k .0) .1, figures-exact P W es .0 (k .1))
+
+figured-complete : {P : Pattern} {W : Document} (e : ℕ → ℕ) → IsPatternTree P → IsTree W → Figured P W e → List·Memᴰ (imagesOf P e) (figuredEmbeddings P W)
+unfolding figuredEmbeddings
+figured-complete {P} {W} e t u m =
+    keep-intro (figuresFit P W) (imagesOf P e) (embeddings P W) (embeddings-complete t u (m .0))
+    (figures-exact P W (imagesOf P e) .1 (λ q h. subst (λ (v : ℕ). figureFits (patternFigure P q) (figureOf W v) ≡ true) (sym (image-imagesOf P e q h)) (m .1 q h)))
 
 -- ---- results
 
@@ -32,35 +54,36 @@ pub result-exact : {P : Pattern} {W : Document} (r : List ℕ) → PatternFacts 
 unfolding isResult
 result-exact {P} {W} r f u = (sound, complete)
   where
-    sound : anyOf (λ es. sameList r (map (imageIn es) (returnNodes P))) (embeddings P W) ≡ true → Result P W r
+    sound : anyOf (λ es. sameList r (map (imageIn es) (returnNodes P))) (figuredEmbeddings P W) ≡ true → Result P W r
     sound e =
-        let x = any-elim (λ es. sameList r (map (imageIn es) (returnNodes P))) (embeddings P W) e in
-        record { image = imageIn (x .0); embeds = embeddings-sound (f .tree) u (x .1) .1; returns = same-eq r (map (imageIn (x .0)) (returnNodes P)) (x .2) }
+        let x = any-elim (λ es. sameList r (map (imageIn es) (returnNodes P))) (figuredEmbeddings P W) e in
+        let m = figured-sound (x .0) (f .tree) u (x .1) in
+        record { image = imageIn (x .0); embeds = m .0; figures = m .1; returns = same-eq r (map (imageIn (x .0)) (returnNodes P)) (x .2) }
 
     -- an embedding and the list of its images give the same result
     agree : (e : ℕ → ℕ) → map e (returnNodes P) ≡ map (imageIn (imagesOf P e)) (returnNodes P)
     agree e = map-agree e (imageIn (imagesOf P e)) (returnNodes P) (λ q n. sym (image-imagesOf P e q (return-inside f q n)))
 
-    complete : Result P W r → anyOf (λ es. sameList r (map (imageIn es) (returnNodes P))) (embeddings P W) ≡ true
+    complete : Result P W r → anyOf (λ es. sameList r (map (imageIn es) (returnNodes P))) (figuredEmbeddings P W) ≡ true
     complete m =
-        any-intro (λ es. sameList r (map (imageIn es) (returnNodes P))) (imagesOf P (m .image)) (embeddings P W) (embeddings-complete (f .tree) u (m .embeds))
+        any-intro (λ es. sameList r (map (imageIn es) (returnNodes P))) (imagesOf P (m .image)) (figuredEmbeddings P W) (figured-complete (m .image) (f .tree) u (m .embeds, m .figures))
         (eq-same r (map (imageIn (imagesOf P (m .image))) (returnNodes P)) (m .returns ∙ agree (m .image)))
 
 -- ---- what one node takes
 
--- some listed embedding takes q to v where some embedding does
-pub takes-exact : {P : Pattern} {W : Document} (q v : ℕ) → IsPatternTree P → IsTree W → q < length P
-    → (anyOf (λ es. eqb (imageIn es q) v) (embeddings P W) ≡ true) ↔ ((e : ℕ → ℕ) × Embeds P W e × (e q ≡ v))
-takes-exact {P} {W} q v t u h = (sound, complete)
+-- some listed map takes q to v where some map of its kind does, if the list holds exactly those
+pub takes-exact : (P : Pattern) (Good : (ℕ → ℕ) → Type 0) (listed : List (List ℕ)) (q v : ℕ) → q < length P → ((es : List ℕ) → List·Memᴰ es listed → Good (imageIn es))
+    → ((e : ℕ → ℕ) → Good e → List·Memᴰ (imagesOf P e) listed) → (anyOf (λ es. eqb (imageIn es q) v) listed ≡ true) ↔ ((e : ℕ → ℕ) × Good e × (e q ≡ v))
+takes-exact P Good listed q v h only all = (sound, complete)
   where
-    sound : anyOf (λ es. eqb (imageIn es q) v) (embeddings P W) ≡ true → (e : ℕ → ℕ) × Embeds P W e × (e q ≡ v)
+    sound : anyOf (λ es. eqb (imageIn es q) v) listed ≡ true → (e : ℕ → ℕ) × Good e × (e q ≡ v)
     sound e =
-        let x = any-elim (λ es. eqb (imageIn es q) v) (embeddings P W) e in
-        (imageIn (x .0), embeddings-sound t u (x .1) .1, eqb-true (imageIn (x .0) q) v (x .2))
+        let x = any-elim (λ es. eqb (imageIn es q) v) listed e in
+        (imageIn (x .0), only (x .0) (x .1), eqb-true (imageIn (x .0) q) v (x .2))
 
-    complete : (e : ℕ → ℕ) × Embeds P W e × (e q ≡ v) → anyOf (λ es. eqb (imageIn es q) v) (embeddings P W) ≡ true
+    complete : (e : ℕ → ℕ) × Good e × (e q ≡ v) → anyOf (λ es. eqb (imageIn es q) v) listed ≡ true
     complete m =
-        any-intro (λ es. eqb (imageIn es q) v) (imagesOf P (m .0)) (embeddings P W) (embeddings-complete t u (m .1))
+        any-intro (λ es. eqb (imageIn es q) v) (imagesOf P (m .0)) listed (all (m .0) (m .1))
         (eq-eqb (imageIn (imagesOf P (m .0)) q) v (image-imagesOf P (m .0) q h ∙ m .2))
 
 -- ---- nodes at a position
@@ -70,8 +93,8 @@ module _ {P : Pattern} {W : Document} (p v : ℕ) (f : PatternFacts P) (u : IsTr
   pub at-position-exact : (isAt P W p v ≡ true) ↔ AtPosition P W p v
   unfolding isAt
   at-position-exact =
-      let h = takes-exact (nodeAt P p) v (f .tree) u (f .holds p low top) in
-      (λ e. (let x = h .0 e in record { image = x .0; embeds = x .1; takes = x .2 }), λ m. h .1 (m .image, m .embeds, m .takes))
+      let h = takes-exact P (Figured P W) (figuredEmbeddings P W) (nodeAt P p) v (f .holds p low top) (λ es m. figured-sound es (f .tree) u m) (λ e m. figured-complete e (f .tree) u m) in
+      (λ e. (let x = h .0 e in record { image = x .0; embeds = x .1 .0; figures = x .1 .1; takes = x .2 }), λ m. h .1 (m .image, (m .embeds, m .figures), m .takes))
 
   -- the list of nodes at a position holds exactly those at that position
   pub nodes-at-exact : List·Memᴰ v (nodesAt P W p) ↔ AtPosition P W p v
@@ -93,8 +116,8 @@ nodes-at-ascending P W p = ascending-keep _<_ (isAt P W p) (upFrom 0 (length W))
 -- the test says whether s is one of the paths of selection node q
 pub path-exact : {S : Summary} {P : Pattern} (q s : ℕ) → IsPatternTree P → SummaryFacts S → q < length P → (isPath S P q s ≡ true) ↔ PathOf S P q s
 unfolding isPath
-path-exact q s t f h =
-    let k = takes-exact q s t (f .tree) h in
+path-exact {S} {P} q s t f h =
+    let k = takes-exact P (SummaryEmbedding S P) (summaryEmbeddings S P) q s h (λ es m. embeddings-sound t (f .tree) m .1) (λ e m. embeddings-complete t (f .tree) m) in
     (λ e. (let x = k .0 e in record { image = x .0; places = x .1; takes = x .2 }), λ m. k .1 (m .image, m .places, m .takes))
 
 pub path-inside : {S : Summary} {P : Pattern} {q s : ℕ} → PathOf S P q s → q < length P → s < length S

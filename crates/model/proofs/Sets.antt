@@ -7,23 +7,26 @@ use mathlib.Core.Bool.{Bool, true, false, _&&_}
 use mathlib.Core.Logic.{_↔_}
 use mathlib.Core.List.{List, [], _∷_, _++_, append-assoc, List·Memᴰ, List·Memᴰ·head, List·Memᴰ·eq-of-singleton}
 use lib.Dec.{eqb}
-use lib.ListN.{length, length-map}
+use lib.ListN.{length, length-map, List·getD-map}
 use borrow.Author.Tests.{le-leb, lt-ltb, eq-eqb}
 use Rattle.model.specs.Lists.{anyOf, allOf}
 use Rattle.model.specs.Limits.{callers, maxSummary, maxPattern, maxCaseBytes, summaryWidth}
 use Rattle.model.specs.Summary.{Summary}
-use Rattle.model.specs.Pattern.{Pattern, arity, Result, Contained, ContainedIn}
+use Rattle.model.specs.Pattern.{PatternRecord, Pattern, patternFigure, arity, Result, Contained, ContainedIn}
 use Rattle.model.specs.Embeddings.{summaryEmbeddings}
 use Rattle.model.specs.Canonical.{passes, covered}
 use Rattle.model.specs.Verdict.{Verdict, included, verdict}
 use Rattle.model.specs.Bytes.{summaryRecordAt, section, firstAt, Case, isWholeCase, sectionFields, caseFields, encodeCase}
-use Rattle.model.specs.Questions.{between, limitInRange, bufferLargeEnough, caseWhole, countInRange, countsInRange, setInRange, summaryKept, siblingsDiffer, patternKept, patternsKept, positionsOnce, positionsKept, callerInRange, tallyInRange, Question, ask, refusal, caseQuestions, verdictRefusal}
+use Rattle.model.specs.Questions.{between, limitInRange, bufferLargeEnough, caseWhole, countInRange, countsInRange, setInRange, summaryKept, siblingsDiffer, patternKept, patternsKept, figureInRange, patternFigures, figuresKept, positionsOnce, positionsKept, callerInRange, tallyInRange, Question, ask, refusal, caseQuestions, verdictRefusal}
 use Rattle.model.specs.Calls.{VerdictOutcome, outcomeBy, verdictAccepted, verdictCall, verdictRefused}
-use Rattle.model.specs.OldForm.{OldRecord, oldWidth, oldRecordFields, oldRecordAt, newRecord, newPattern, SetOfOne, OldCase, secondAt, oldEnd, oldCaseOf, oldFields, encodeOldCase, oneOf, oldWhole, oldCountsInRange, oldPatternsKept, oldPositionsKept, oldQuestions, oldVerdictRefusal, oldVerdict, oldAccepted, oldVerdictCall}
-use Rattle.model.proofs.ListLaws.{bool-ext, and-intro, any-intro, any-elim}
+use Rattle.model.specs.OldForm.{OldRecord, OldPattern, oldWidth, oldRecordFields, oldRecordAt, newRecord, newPattern, SetOfOne, OldCase, secondAt, oldEnd, oldCaseOf, oldFields, encodeOldCase, oneOf, oldWhole, oldCountsInRange, oldPatternsKept, oldPositionsKept, oldQuestions, oldVerdictRefusal, oldVerdict, oldAccepted, oldVerdictCall}
+use Rattle.model.proofs.ListLaws.{bool-ext, and-intro, below-all, any-intro, any-elim}
 use Rattle.model.proofs.Verdict.{judge-agree, judge-included, included-judge}
 use Rattle.model.proofs.Refusals.{refusal-drop}
 use Rattle.model.proofs.Bytes.{FitFields, Holds, old-readable, section-back, section-end, holds-rest, summary-back, first-back, written-length, case-back, case-whole}
+
+abbrev noOldRecord : OldRecord
+noOldRecord = record { parent = 0; label = 0; edge = 0; position = 0 }
 
 -- ---- which members there are decides, and nothing else
 
@@ -118,6 +121,17 @@ module _ (c : OldCase) where
       ap (λ (t : Bool). positionsOnce P && t) (all-one (λ R. positionsOnce R && eqb (arity P) (arity R)) Q)
       ∙ and-assoc (positionsOnce P) (positionsOnce Q) (eqb (arity P) (arity Q))
 
+-- figures given are 0, so question 17 is answered yes
+given-figures : (P : OldPattern) → patternFigures (newPattern P) ≡ true
+unfolding patternFigures figureInRange
+given-figures P =
+    below-all (λ q. figureInRange (patternFigure (newPattern P) q)) (length (newPattern P))
+    (λ q h. ap (λ (r : PatternRecord). figureInRange (r .figure)) (List·getD-map newRecord P q noOldRecord))
+
+figures-one : (c : OldCase) → figuresKept (oneOf c) ≡ true
+unfolding figuresKept
+figures-one c = and-intro (given-figures (c .first)) (all-one c patternFigures (newPattern (c .second)) ∙ given-figures (c .second))
+
 one-in-range : (c : OldCase) → setInRange (oneOf c) ≡ true
 unfolding setInRange
 one-in-range c = refl
@@ -135,10 +149,14 @@ module _ {a b : List ℕ} (s : SetOfOne a b) where
       let c : OldCase = oldCaseOf a in
       let four : List Question = ask 3 (isWholeCase b) ∷ ask 4 (countsInRange (oneOf c)) ∷ [] in
       let set : Question = ask 14 (setInRange (oneOf c)) in
-      let rest : List Question = ask 5 (summaryKept (c .summary)) ∷ ask 6 (siblingsDiffer (c .summary)) ∷ ask 7 (patternsKept (oneOf c)) ∷ ask 8 (positionsKept (oneOf c)) ∷ after in
+      let three : List Question = ask 5 (summaryKept (c .summary)) ∷ ask 6 (siblingsDiffer (c .summary)) ∷ ask 7 (patternsKept (oneOf c)) ∷ [] in
+      let figures : Question = ask 17 (figuresKept (oneOf c)) in
+      let rest : List Question = ask 8 (positionsKept (oneOf c)) ∷ after in
       ap (λ (d : Case). refusal (before ++ (ask 3 (isWholeCase b) ∷ ask 4 (countsInRange d) ∷ ask 14 (setInRange d) ∷ ask 5 (summaryKept (d .summary))
-      ∷ ask 6 (siblingsDiffer (d .summary)) ∷ ask 7 (patternsKept d) ∷ ask 8 (positionsKept d) ∷ after))) (s .same)
-      ∙ ap refusal (sym (append-assoc before four (set ∷ rest))) ∙ refusal-drop (before ++ four) set rest (one-in-range c) ∙ ap refusal (append-assoc before four rest)
+      ∷ ask 6 (siblingsDiffer (d .summary)) ∷ ask 7 (patternsKept d) ∷ ask 17 (figuresKept d) ∷ ask 8 (positionsKept d) ∷ after))) (s .same)
+      ∙ ap refusal (sym (append-assoc before four (set ∷ (three ++ (figures ∷ rest))))) ∙ refusal-drop (before ++ four) set (three ++ (figures ∷ rest)) (one-in-range c)
+      ∙ ap refusal (append-assoc before four (three ++ (figures ∷ rest)) ∙ sym (append-assoc before (four ++ three) (figures ∷ rest)))
+      ∙ refusal-drop (before ++ (four ++ three)) figures rest (figures-one c) ∙ ap refusal (append-assoc before (four ++ three) rest)
       ∙ λ i. refusal (before ++ asked c ((s .new ∙ sym (s .old)) i) (counts-one c i) (kept-one c i) (positions-one c i) after)
 
   refusal-one : (L caller tally bytes : ℕ) → caller < callers → verdictRefusal b L caller tally bytes ≡ oldVerdictRefusal a L tally bytes
@@ -159,9 +177,6 @@ module _ {a b : List ℕ} (s : SetOfOne a b) where
       ∙ ap (λ (v : Verdict). outcomeBy (c .summary) (newPattern (c .first)) v tally buffer) (verdict-one (c .summary) (newPattern (c .first)) (newPattern (c .second)) L))
 
 -- ---- such a pair of bytes, of every old case that fits
-
-abbrev noOldRecord : OldRecord
-noOldRecord = record { parent = 0; label = 0; edge = 0; position = 0 }
 
 module _ (c : OldCase) (old : FitFields (oldFields c)) where
   abbrev secondPart : List ℕ

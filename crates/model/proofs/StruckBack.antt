@@ -7,7 +7,7 @@ use native.Mathlib.Omega.{arith}
 use native.Mathlib.Nat.{zero-add}
 use lib.ListN.{length, getD, drop}
 use Rattle.model.specs.Lists.{upFrom}
-use Rattle.model.specs.Limits.{maxPattern, maxPosition, patternWidth}
+use Rattle.model.specs.Limits.{maxPattern, maxPosition, patternWidth, maxFigure}
 use Rattle.model.specs.Pattern.{PatternRecord, Pattern, noPatternRecord, patternParent}
 use Rattle.model.specs.Bytes.{field, recordsAt, patternRecordAt, section, sectionEnd, firstAt, caseOf, patternFields, sectionFields, encodePattern, encodeCounted, writtenAtFront, AreBytes}
 use Rattle.model.specs.Questions.{caseQuestions}
@@ -17,7 +17,7 @@ use Rattle.model.specs.Demands.{Shortened, StruckReadsBack}
 use Rattle.model.proofs.ListLaws.{mem-at, at-mem, length-map-upFrom, getD-map-upFrom}
 use Rattle.model.proofs.Bytes.{FitFields, Holds, length-bytes, field-bytes, section-count, section-end, section-back, counted-back, pattern-readable}
 use Rattle.model.proofs.Refusals.{AllYes}
-use Rattle.model.proofs.CaseFacts.{first-bounds}
+use Rattle.model.proofs.CaseFacts.{first-bounds, case-accepted}
 use Rattle.model.proofs.ReadBack.{field-fits, field-before, field-behind}
 use Rattle.model.proofs.Striking.{LoopFacts, all-facts, struck-shortened, every-record}
 use Rattle.model.proofs.Text.{Orderable}
@@ -61,9 +61,10 @@ pub record Small (r : PatternRecord) : Type 0 where
   pub label : r .label < 65_536
   pub edge : r .edge ≤ 1
   pub position : r .position ≤ maxPosition
+  pub figure : r .figure ≤ maxFigure
 
 small-again : (q : ℕ) (r : PatternRecord) → Small r → Small (relinked q r)
-small-again q r h = record { label = h .label; edge = h .edge; position = h .position }
+small-again q r h = record { label = h .label; edge = h .edge; position = h .position; figure = h .figure }
 
 -- of a case, a label is a field
 first-small : (b : List ℕ) → AreBytes b → AllYes (caseQuestions b) → (r : PatternRecord) → List·Memᴰ r (caseOf b .first) → Small r
@@ -79,6 +80,7 @@ first-small b small asked r m =
       label = subst (λ (x : PatternRecord). x .label < 65_536) (sym e) (field-fits b small (firstAt b + 1 + patternWidth * (0 + k .0) + 1));
       edge = f .0;
       position = f .1;
+      figure = case-accepted b asked .facts .firstFigures (k .0) (k .1);
     })
 
 -- the fields of a selection's section fit, if its records do
@@ -88,7 +90,8 @@ records-fit (r ∷ P) h f (List·Memᴰ·head e) = subst (λ (x : ℕ). x < 65_5
 records-fit (r ∷ P) h f (List·Memᴰ·tail (List·Memᴰ·head e)) = subst (λ (x : ℕ). x < 65_536) (sym e) (h 0 (omega arith) .label)
 records-fit (r ∷ P) h f (List·Memᴰ·tail (List·Memᴰ·tail (List·Memᴰ·head e))) = subst (λ (x : ℕ). x < 65_536) (sym e) (h 0 (omega arith) .edge)
 records-fit (r ∷ P) h f (List·Memᴰ·tail (List·Memᴰ·tail (List·Memᴰ·tail (List·Memᴰ·head e)))) = subst (λ (x : ℕ). x < 65_536) (sym e) (h 0 (omega arith) .position)
-records-fit (r ∷ P) h f (List·Memᴰ·tail (List·Memᴰ·tail (List·Memᴰ·tail (List·Memᴰ·tail m)))) = records-fit P (λ i l. h (suc i) (omega arith)) f m
+records-fit (r ∷ P) h f (List·Memᴰ·tail (List·Memᴰ·tail (List·Memᴰ·tail (List·Memᴰ·tail (List·Memᴰ·head e))))) = subst (λ (x : ℕ). x < 65_536) (sym e) (h 0 (omega arith) .figure)
+records-fit (r ∷ P) h f (List·Memᴰ·tail (List·Memᴰ·tail (List·Memᴰ·tail (List·Memᴰ·tail (List·Memᴰ·tail m))))) = records-fit P (λ i l. h (suc i) (omega arith)) f m
 
 pub section-fits : (P : Pattern) → length P ≤ maxPattern → ((i : ℕ) → i < length P → RecordFits (getD P i noPatternRecord)) → FitFields (sectionFields patternFields P)
 unfolding sectionFields
@@ -103,7 +106,8 @@ orderable-section {P} p =
     let inside = p .parents (i) h in
     let e = p .edges i h in
     let n = p .positions i h in
-    record { parent = omega arith; label = p .labels i h; edge = omega arith; position = omega arith }
+    let g = p .figures i h in
+    record { parent = omega arith; label = p .labels i h; edge = omega arith; position = omega arith; figure = omega arith }
     ))
 
 pub orderable-list : {P : Pattern} {struck : List ℕ} → Orderable P struck → FitFields (length struck ∷ struck)
@@ -124,6 +128,7 @@ module _ (b : List ℕ) (small : AreBytes b) (asked : AllYes (caseQuestions b)) 
         labels = λ i h. at i h .label;
         edges = λ i h. at i h .edge;
         positions = λ i h. at i h .position;
+        figures = λ i h. at i h .figure;
         fewStruck = let n = short .count in let k = f .firstSize in let i = l .facts .tree .inhabited in omega arith;
         nodes = λ v m. (let h = short .goes v m in let k = f .firstSize in omega arith);
       }

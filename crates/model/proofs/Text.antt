@@ -12,9 +12,9 @@ use lib.Dec.{ltb}
 use lib.ListN.{length, getD, length-append}
 use borrow.Author.Tests.{lt-ltb, le-ltb, ltb-true, ltb-false}
 use Rattle.model.specs.Lists.{upFrom}
-use Rattle.model.specs.Limits.{maxLimit, maxVerdicts, minBuffer, maxPattern, maxCanonical, maxPosition, maxText, maxOrderText}
-use Rattle.model.specs.Tree.{Document, parentOf, labelOf}
-use Rattle.model.specs.Pattern.{Pattern, noPatternRecord, patternParent, patternLabel, position}
+use Rattle.model.specs.Limits.{maxLimit, maxVerdicts, minBuffer, maxPattern, maxCanonical, maxPosition, maxText, maxOrderText, maxFigure}
+use Rattle.model.specs.Tree.{Document, parentOf, labelOf, figureOf}
+use Rattle.model.specs.Pattern.{Pattern, noPatternRecord, patternParent, patternLabel, position, patternFigure}
 use Rattle.model.specs.Text.{ascii, digit, decimalIn, decimal, readOn, number, numbers, line, nodeLine, nodeLines, answerLine, firstLines, shownText, refusedText, caseText, programCaller, programTallies, programRefusal, printed, patternLine, patternLines, orderText, struckText, orderRefusal, orderPrinted, Told, told}
 use Rattle.model.specs.Bytes.{caseOf}
 use Rattle.model.specs.Striking.{strikeAll}
@@ -196,38 +196,42 @@ first-small words n h =
     let g = one-line-small (ascii "tried") 6 n (omega arith) in
     omega arith
 
--- the most of a node line: a number and a parent below 10,000, a label below 100,000
-node-small : (W : Document) (i : ℕ) → i < 10_000 → parentOf W i < 10_000 → labelOf W i < 100_000 → length (nodeLine W i) ≤ 21
+-- the most of a node line: a number, a parent and a figure below 10,000, a label below 100,000
+node-small : (W : Document) (i : ℕ) → i < 10_000 → parentOf W i < 10_000 → labelOf W i < 100_000 → figureOf W i < 10_000 → length (nodeLine W i) ≤ 26
 unfolding nodeLine numbers flatMap
-node-small W i a b c =
-    let e = length-line (ascii "node") (i ∷ parentOf W i ∷ labelOf W i ∷ []) in
-    let f = length-numbers i (parentOf W i ∷ labelOf W i ∷ []) in
-    let g = length-numbers (parentOf W i) (labelOf W i ∷ []) in
-    let h = length-numbers (labelOf W i) [] in
+node-small W i a b c d =
+    let e = length-line (ascii "node") (i ∷ parentOf W i ∷ labelOf W i ∷ figureOf W i ∷ []) in
+    let f = length-numbers i (parentOf W i ∷ labelOf W i ∷ figureOf W i ∷ []) in
+    let g = length-numbers (parentOf W i) (labelOf W i ∷ figureOf W i ∷ []) in
+    let h = length-numbers (labelOf W i) (figureOf W i ∷ []) in
+    let k = length-numbers (figureOf W i) [] in
+    let s = decimal-length 3 (figureOf W i) d in
     let p = decimal-length 3 i a in
     let q = decimal-length 3 (parentOf W i) b in
     let r = decimal-length 4 (labelOf W i) c in
     omega arith
 
--- a volume that can be shown: few nodes, each with its parent among them and a 16-bit label; and a result in it
+-- a volume that can be shown: few nodes, each with its parent among them, a 16-bit label and a figure in range; and a result in it
 pub record Printable (W : Document) (result : List ℕ) : Type 0 where
   pub few : length W ≤ maxCanonical
   pub parents : (i : ℕ) → i < length W → parentOf W i < length W
   pub labels : (i : ℕ) → i < length W → labelOf W i < 65_536
+  pub figures : (i : ℕ) → i < length W → figureOf W i ≤ maxFigure
   pub positions : length result ≤ maxPosition
   pub nodes : (v : ℕ) → List·Memᴰ v result → v < length W
 
-nodes-small : {W : Document} {result : List ℕ} → Printable W result → length (nodeLines W) ≤ 21 * maxCanonical
+nodes-small : {W : Document} {result : List ℕ} → Printable W result → length (nodeLines W) ≤ 26 * maxCanonical
 unfolding nodeLines
 nodes-small {W} p =
     let few = p .few in
-    let every : (i : ℕ) → List·Memᴰ i (upFrom 0 (length W)) → length (nodeLine W i) ≤ 21 =
+    let every : (i : ℕ) → List·Memᴰ i (upFrom 0 (length W)) → length (nodeLine W i) ≤ 26 =
     λ i m.
     let h : i < length W = (let r = upFrom-mem 0 (length W) i m .1 in omega arith) in
     let a = p .parents i h in
     let b = p .labels i h in
-    node-small W i (omega arith) (omega arith) (omega arith) in
-    let f = flat-small (nodeLine W) 21 (upFrom 0 (length W)) every in
+    let c = p .figures i h in
+    node-small W i (omega arith) (omega arith) (omega arith) (omega arith) in
+    let f = flat-small (nodeLine W) 26 (upFrom 0 (length W)) every in
     let n = length-upFrom 0 (length W) in
     omega arith
 
@@ -251,51 +255,57 @@ shown-small n {W} {result} h p =
     let c = answer-small p in
     omega arith
 
--- the most of a selection's node line: a number and a parent below 100, a label below 100,000, an edge and a position below 10
-pattern-line-small : (P : Pattern) (i : ℕ) → i < 100 → patternParent P i < 100 → patternLabel P i < 100_000 → getD P i noPatternRecord .edge < 10 → position P i < 10 → length (patternLine P i) ≤ 21
+-- the most of a selection's node line: a number and a parent below 100, a label below 100,000, an edge and a position below 10, a figure
+-- below 10,000
+pattern-line-small : (P : Pattern) (i : ℕ) → i < 100 → patternParent P i < 100 → patternLabel P i < 100_000 → getD P i noPatternRecord .edge < 10 → position P i < 10 → patternFigure P i < 10_000 → length (patternLine P i) ≤ 26
 unfolding patternLine numbers flatMap
-pattern-line-small P i a b c d e =
+pattern-line-small P i a b c d e v =
     let parent : ℕ = patternParent P i in
     let label : ℕ = patternLabel P i in
     let edge : ℕ = getD P i noPatternRecord .edge in
     let place : ℕ = position P i in
-    let whole = length-line (ascii "node") (i ∷ parent ∷ label ∷ edge ∷ place ∷ []) in
-    let f = length-numbers i (parent ∷ label ∷ edge ∷ place ∷ []) in
-    let g = length-numbers parent (label ∷ edge ∷ place ∷ []) in
-    let h = length-numbers label (edge ∷ place ∷ []) in
-    let k = length-numbers edge (place ∷ []) in
-    let l = length-numbers place [] in
+    let least : ℕ = patternFigure P i in
+    let whole = length-line (ascii "node") (i ∷ parent ∷ label ∷ edge ∷ place ∷ least ∷ []) in
+    let f = length-numbers i (parent ∷ label ∷ edge ∷ place ∷ least ∷ []) in
+    let g = length-numbers parent (label ∷ edge ∷ place ∷ least ∷ []) in
+    let h = length-numbers label (edge ∷ place ∷ least ∷ []) in
+    let k = length-numbers edge (place ∷ least ∷ []) in
+    let l = length-numbers place (least ∷ []) in
+    let m = length-numbers least [] in
     let p = decimal-length 1 i a in
     let q = decimal-length 1 parent b in
     let r = decimal-length 4 label c in
     let s = decimal-length 0 edge d in
     let t = decimal-length 0 place e in
+    let u = decimal-length 3 least v in
     omega arith
 
--- a selection that can be printed as an order: few nodes, each with its parent among them, a 16-bit label, an edge and a position by the
--- rules; and the numbers of the nodes struck from one that has few
+-- a selection that can be printed as an order: few nodes, each with its parent among them, a 16-bit label, an edge, a position and a figure
+-- by the rules; and the numbers of the nodes struck from one that has few
 pub record Orderable (P : Pattern) (struck : List ℕ) : Type 0 where
   pub few : length P ≤ maxPattern
   pub parents : (i : ℕ) → i < length P → patternParent P i < length P
   pub labels : (i : ℕ) → i < length P → patternLabel P i < 65_536
   pub edges : (i : ℕ) → i < length P → getD P i noPatternRecord .edge ≤ 1
   pub positions : (i : ℕ) → i < length P → position P i ≤ maxPosition
+  pub figures : (i : ℕ) → i < length P → patternFigure P i ≤ maxFigure
   pub fewStruck : length struck < maxPattern
   pub nodes : (v : ℕ) → List·Memᴰ v struck → v < maxPattern
 
-pattern-lines-small : {P : Pattern} {struck : List ℕ} → Orderable P struck → length (patternLines P) ≤ 21 * maxPattern
+pattern-lines-small : {P : Pattern} {struck : List ℕ} → Orderable P struck → length (patternLines P) ≤ 26 * maxPattern
 unfolding patternLines
 pattern-lines-small {P} p =
     let few = p .few in
-    let every : (i : ℕ) → List·Memᴰ i (upFrom 0 (length P)) → length (patternLine P i) ≤ 21 =
+    let every : (i : ℕ) → List·Memᴰ i (upFrom 0 (length P)) → length (patternLine P i) ≤ 26 =
     λ i m.
     let h : i < length P = (let r = upFrom-mem 0 (length P) i m .1 in omega arith) in
     let a = p .parents i h in
     let b = p .labels i h in
     let c = p .edges i h in
     let d = p .positions i h in
-    pattern-line-small P i (omega arith) (omega arith) (omega arith) (omega arith) (omega arith) in
-    let f = flat-small (patternLine P) 21 (upFrom 0 (length P)) every in
+    let e = p .figures i h in
+    pattern-line-small P i (omega arith) (omega arith) (omega arith) (omega arith) (omega arith) (omega arith) in
+    let f = flat-small (patternLine P) 26 (upFrom 0 (length P)) every in
     let n = length-upFrom 0 (length P) in
     omega arith
 
@@ -333,17 +343,17 @@ refusal-most k (q ∷ qs) h = go (true-or-false (q .answer)) (refusal-most k qs 
     go (inl y) r = let e = refusal-yes q qs y in omega arith
     go (inr n) r = let e = refusal-no q qs n in let l = h .0 in omega arith
 
-charged-most : (b : List ℕ) (L most caller tally bufferBytes : ℕ) → refusal (ask 1 (limitInRange L) ∷ chargedQuestions b most caller tally bufferBytes) ≤ 16
+charged-most : (b : List ℕ) (L most caller tally bufferBytes : ℕ) → refusal (ask 1 (limitInRange L) ∷ chargedQuestions b most caller tally bufferBytes) ≤ 17
 unfolding caseQuestions
 charged-most b L most caller tally bufferBytes =
-    refusal-most 16 _
-    (omega arith, (omega arith, (omega arith, (omega arith, (omega arith, (omega arith, (omega arith, (omega arith, (omega arith, (omega arith, (omega arith, tt)))))))))))
+    refusal-most 17 _
+    (omega arith, (omega arith, (omega arith, (omega arith, (omega arith, (omega arith, (omega arith, (omega arith, (omega arith, (omega arith, (omega arith, (omega arith, tt))))))))))))
 
-verdict-most : (b : List ℕ) (L caller tally bufferBytes : ℕ) → verdictRefusal b L caller tally bufferBytes ≤ 16
+verdict-most : (b : List ℕ) (L caller tally bufferBytes : ℕ) → verdictRefusal b L caller tally bufferBytes ≤ 17
 unfolding verdictRefusal
 verdict-most b L caller tally bufferBytes = charged-most b L L caller tally bufferBytes
 
-minimise-most : (b : List ℕ) (L caller tally bufferBytes : ℕ) → minimiseRefusal b L caller tally bufferBytes ≤ 16
+minimise-most : (b : List ℕ) (L caller tally bufferBytes : ℕ) → minimiseRefusal b L caller tally bufferBytes ≤ 17
 unfolding minimiseRefusal
 minimise-most b L caller tally bufferBytes = charged-most b L (maxVerdicts * L) caller tally bufferBytes
 
@@ -391,17 +401,17 @@ module _ (refused : ℕ) (written : List ℕ) where
   unfolding told
   told-accepted e = chosen-accepted {A = Told} refused (record { stream = 1; bytes = written }) (record { stream = 2; bytes = refusedText refused }) e
 
-pub upgrade-most : (b : List ℕ) (bufferBytes : ℕ) → upgradeRefusal b bufferBytes ≤ 15
+pub upgrade-most : (b : List ℕ) (bufferBytes : ℕ) → upgradeRefusal b bufferBytes ≤ 17
 unfolding upgradeRefusal oldQuestions
 upgrade-most b bufferBytes =
-    refusal-most 15 _ (omega arith, (omega arith, (omega arith, (omega arith, (omega arith, (omega arith, (omega arith, tt)))))))
+    refusal-most 17 _ (omega arith, (omega arith, (omega arith, (omega arith, (omega arith, (omega arith, (omega arith, tt)))))))
 
-pub downgrade-most : (b : List ℕ) (bufferBytes : ℕ) → downgradeRefusal b bufferBytes ≤ 15
+pub downgrade-most : (b : List ℕ) (bufferBytes : ℕ) → downgradeRefusal b bufferBytes ≤ 17
 unfolding downgradeRefusal caseQuestions
 downgrade-most b bufferBytes =
-    refusal-most 15 _ (omega arith, (omega arith, (omega arith, (omega arith, (omega arith, (omega arith, (omega arith, (omega arith, (omega arith, tt)))))))))
+    refusal-most 17 _ (omega arith, (omega arith, (omega arith, (omega arith, (omega arith, (omega arith, (omega arith, (omega arith, (omega arith, (omega arith, tt))))))))))
 
-pub normalise-most : (b : List ℕ) (bufferBytes : ℕ) → normaliseRefusal b bufferBytes ≤ 15
+pub normalise-most : (b : List ℕ) (bufferBytes : ℕ) → normaliseRefusal b bufferBytes ≤ 17
 unfolding normaliseRefusal caseQuestions
 normalise-most b bufferBytes =
-    refusal-most 15 _ (omega arith, (omega arith, (omega arith, (omega arith, (omega arith, (omega arith, (omega arith, (omega arith, tt))))))))
+    refusal-most 17 _ (omega arith, (omega arith, (omega arith, (omega arith, (omega arith, (omega arith, (omega arith, (omega arith, (omega arith, tt)))))))))

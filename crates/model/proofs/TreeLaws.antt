@@ -8,10 +8,10 @@ use mathlib.Core.List.{List, map, map-map}
 use native.Mathlib.Omega.{arith}
 use lib.Dec.{eqb, ltb}
 use lib.ListN.{length, length-map, List·getD-eq-default}
-use borrow.Author.Tests.{ltb-true, ltb-false, eqb-true, lt-ltb, eq-eqb}
-use Rattle.model.specs.Tree.{Rooted, DocumentRecord, noDocumentRecord, Document, IsTree, parentOf, Child, Below, once, down, Edge, Hom}
+use borrow.Author.Tests.{leb-true, ltb-true, ltb-false, eqb-true, le-leb, lt-ltb, eq-eqb}
+use Rattle.model.specs.Tree.{Rooted, DocumentRecord, noDocumentRecord, Document, IsTree, parentOf, figureOf, Child, Below, once, down, Edge, Hom, Rises}
 use Rattle.model.specs.Summary.{Summary, withoutStrong, asDocument}
-use Rattle.model.specs.Pattern.{Pattern, patternLabel, patternParent, descends, labelFits, returnNodes, Embeds, Result}
+use Rattle.model.specs.Pattern.{Pattern, patternLabel, patternParent, patternFigure, descends, labelFits, figureFits, returnNodes, Embeds, Result}
 use Rattle.model.specs.Embeddings.{childTest, climbs, belowTest, edgeTest}
 use Rattle.model.proofs.ListLaws.{and-intro, and-left, and-right, or-cases, or-left, or-right}
 
@@ -177,11 +177,17 @@ hom-embeds {P} {W} {D} {e} {h} m k =
       edges = λ q p l. hom-edge (descends P q) (e (patternParent P q)) (e q) k (m .edges q p l);
     }
 
--- so a result goes to a result
-pub hom-result : {P : Pattern} {W D : Document} {h : ℕ → ℕ} {r : List ℕ} → Result P W r → Hom W D h → Result P D (map h r)
-hom-result {P} {h = h} r k =
+-- what fits a figure fits a greater one
+pub figure-raised : (least f g : ℕ) → figureFits least f ≡ true → f ≤ g → figureFits least g ≡ true
+unfolding figureFits
+figure-raised least f g e l = let k : least ≤ f = leb-true least f e in le-leb least g (omega arith)
+
+-- so a result goes to a result, where figures do not fall
+pub hom-result : {P : Pattern} {W D : Document} {h : ℕ → ℕ} {r : List ℕ} → Result P W r → Hom W D h → Rises W D h → Result P D (map h r)
+hom-result {P} {W} {D} {h} r k u =
     record {
       image = λ q. h (r .image q);
       embeds = hom-embeds (r .embeds) k;
+      figures = λ q l. figure-raised (patternFigure P q) (figureOf W (r .image q)) (figureOf D (h (r .image q))) (r .figures q l) (u (r .image q) (r .embeds .inside q l));
       returns = ap (map h) (r .returns) ∙ map-map h (r .image) (returnNodes P);
     }

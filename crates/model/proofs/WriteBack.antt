@@ -2,29 +2,39 @@
 -- another, and the two bytes of a field are those that it was made of. Assumes nothing.
 use Prim.Native.Nat.{ℕ, zero, suc, _+_, _-_, _*_, _/_, _%_, _≤_, _<_}
 use mathlib.Core.Path.{_≡_, refl, sym, ap, ap₂, _∙_, subst}
-use mathlib.Core.Bool.{true}
-use mathlib.Core.List.{List, [], _∷_, _++_, map, flatMap, append-assoc, append-nil, List·Memᴰ, Memᴰ·of-map}
+use mathlib.Core.Logic.{_⊎_, inl, inr}
+use mathlib.Core.Bool.{Bool, true, false, false≢true}
+use mathlib.Core.List.{List, [], _∷_, _++_, map, flatMap, append-assoc, append-nil, List·Memᴰ, List·Memᴰ·head, List·Memᴰ·tail, List·Memᴰ·append-cases, Memᴰ·append-left, Memᴰ·of-map}
 use native.Mathlib.Omega.{arith}
 use native.Mathlib.Nat.{add-zero, zero-add, add-assoc}
 use native.Mathlib.Numerals.{add-one}
 use lib.Dec.{eqb, leb}
 use lib.ListN.{length, getD, length-append, length-map}
 use borrow.Author.Tests.{eqb-true, leb-true}
-use Rattle.model.specs.Lists.{upFrom}
+use Rattle.model.specs.Lists.{upFrom, allOf}
 use Rattle.model.specs.Limits.{maxCaseBytes, summaryWidth, patternWidth}
-use Rattle.model.specs.Pattern.{Pattern}
+use Rattle.model.specs.Pattern.{PatternRecord, Pattern}
 use Rattle.model.specs.Bytes.{field, fieldBytes, bytesOf, fieldsAt, recordsAt, summaryRecordAt, patternRecordAt, section, sectionEnd, memberAt, setEnd, setOf, firstAt, setAt, caseEnd, caseOf, isWholeCase, summaryFields, patternFields, sectionFields, setFields, caseFields, encodeCase, AreBytes}
-use Rattle.model.specs.Moving.{goesBack}
-use Rattle.model.specs.OldForm.{OldPattern, oldWidth, oldRecordFields, oldRecordAt, secondAt, oldEnd, oldCaseOf, oldFields, encodeOldCase, newRecord, newPattern, oneOf, oldRecord, oldPattern, oldOf, oldWhole}
-use Rattle.model.proofs.ListLaws.{and-left, and-right, length-map-upFrom}
-use Rattle.model.proofs.Bytes.{FitFields, field-next, member-first, member-next}
+use Rattle.model.specs.Moving.{figureless}
+use Rattle.model.specs.OldForm.{OldRecord, OldPattern, oldWidth, oldRecordFields, oldRecordAt, secondAt, oldEnd, oldCaseOf, oldFields, encodeOldCase, newRecord, newPattern, oneOf, oldRecord, oldPattern, oldOf, oldWhole}
+use Rattle.model.proofs.ListLaws.{and-left, and-right, length-map-upFrom, flat-intro, flat-elim}
+use Rattle.model.proofs.Bytes.{FitFields, fit-append, fit-next, field-next, member-first, member-next}
 use Rattle.model.proofs.ReadBack.{field-fits}
 
 -- ---- there and back, record by record
 
-pub old-new : (P : Pattern) → newPattern (oldPattern P) ≡ P
-old-new [] = refl
-old-new (r ∷ P) = ap (λ (R : Pattern). r ∷ R) (old-new P)
+pub old-new : (P : Pattern) → figureless P ≡ true → newPattern (oldPattern P) ≡ P
+unfolding figureless allOf
+old-new [] e = refl
+old-new (r ∷ P) e = go (eqb (r .figure) 0) refl e (old-new P)
+  where
+    same : r .figure ≡ 0 → newRecord (oldRecord r) ≡ r
+    same z = λ i. record { parent = r .parent; label = r .label; edge = r .edge; position = r .position; figure = sym z i }
+
+    go : (t : Bool) → eqb (r .figure) 0 ≡ t → (elim t as (λ _. Bool) [ true ↦ figureless P | false ↦ false ]) ≡ true → (figureless P ≡ true → newPattern (oldPattern P) ≡ P)
+        → newRecord (oldRecord r) ∷ newPattern (oldPattern P) ≡ r ∷ P
+    go true z k rest = ap₂ (λ (x : PatternRecord) (R : Pattern). x ∷ R) (same (eqb-true (r .figure) 0 z)) (rest k)
+    go false z k rest = absurd (false≢true k)
 
 pub new-old : (P : OldPattern) → oldPattern (newPattern P) ≡ P
 new-old [] = refl
@@ -148,25 +158,21 @@ summary-rewritable b at =
     two : at + 2 ≡ suc (suc at)
     two = omega arith
 
-four-fields : (b : List ℕ) (at : ℕ) → Spans b at (field b at ∷ field b (at + 1) ∷ field b (at + 2) ∷ field b (at + 3) ∷ []) (at + 4)
-unfolding upFrom
-four-fields b at =
-    record { ends = refl; fields = λ i. field b at ∷ field b (one i) ∷ field b (two i) ∷ field b (three i) ∷ [] }
-  where
-    one : at + 1 ≡ suc at
-    one = add-one at
-
-    two : at + 2 ≡ suc (suc at)
-    two = omega arith
-
-    three : at + 3 ≡ suc (suc (suc at))
-    three = omega arith
+-- numbers one after another
+next-fields : (at : ℕ) → (at + 1 ≡ suc at) × (at + 2 ≡ suc (suc at)) × (at + 3 ≡ suc (suc (suc at))) × (at + 4 ≡ suc (suc (suc (suc at))))
+next-fields at = (add-one at, omega arith, omega arith, omega arith)
 
 pub pattern-rewritable : Rewritable patternRecordAt patternFields patternWidth
-pattern-rewritable = four-fields
+unfolding upFrom
+pattern-rewritable b at =
+    let n = next-fields at in
+    record { ends = refl; fields = λ i. field b at ∷ field b (n .0 i) ∷ field b (n .1 i) ∷ field b (n .2 i) ∷ field b (n .3 i) ∷ [] }
 
 old-rewritable : Rewritable oldRecordAt oldRecordFields oldWidth
-old-rewritable = four-fields
+unfolding upFrom
+old-rewritable b at =
+    let n = next-fields at in
+    record { ends = refl; fields = λ i. field b at ∷ field b (n .0 i) ∷ field b (n .1 i) ∷ field b (n .2 i) ∷ [] }
 
 module _ (b : List ℕ) where
   summary-again : Spans b 0 (sectionFields summaryFields (section summaryRecordAt summaryWidth b 0)) (firstAt b)
@@ -228,64 +234,61 @@ module _ (b : List ℕ) where
 
 -- ---- one form's fields out of the other's
 
--- a selection's fields are the same in both forms
-pub new-fields : (P : OldPattern) → sectionFields patternFields (newPattern P) ≡ sectionFields oldRecordFields P
-unfolding sectionFields flatMap
-new-fields P = ap₂ (λ (n : ℕ) (fs : List ℕ). n ∷ fs) (length-map P newRecord) (go P)
+-- a field of a selection of today is one of the old selection, or the figure 0; a field of an old one is one of today's
+new-fit : (P : OldPattern) → FitFields (sectionFields oldRecordFields P) → FitFields (sectionFields patternFields (newPattern P))
+unfolding sectionFields
+new-fit P h f (List·Memᴰ·head e) = h f (List·Memᴰ·head (e ∙ length-map P newRecord))
+new-fit P h f (List·Memᴰ·tail m) =
+    let r = flat-elim patternFields (newPattern P) f m in
+    let o = Memᴰ·of-map newRecord P (r .1) in
+    go (o .0) (o .1) (List·Memᴰ·append-cases (oldRecordFields (o .0)) (subst (λ (x : PatternRecord). List·Memᴰ f (patternFields x)) (sym (o .2)) (r .2)))
   where
-    go : (R : OldPattern) → flatMap patternFields (map newRecord R) ≡ flatMap oldRecordFields R
-    go [] = refl
-    go (r ∷ R) = ap (λ (fs : List ℕ). oldRecordFields r ++ fs) (go R)
+    go : (x : OldRecord) → List·Memᴰ x P → List·Memᴰ f (oldRecordFields x) ⊎ List·Memᴰ f (0 ∷ []) → f < 65_536
+    go x k (inl n) = h f (List·Memᴰ·tail (flat-intro oldRecordFields x P f k n))
+    go x k (inr (List·Memᴰ·head e)) = omega arith
 
-pub old-fields : (P : Pattern) → sectionFields oldRecordFields (oldPattern P) ≡ sectionFields patternFields P
-old-fields P = sym (new-fields (oldPattern P)) ∙ ap (sectionFields patternFields) (old-new P)
+old-fit : (P : Pattern) → FitFields (sectionFields patternFields P) → FitFields (sectionFields oldRecordFields (oldPattern P))
+unfolding sectionFields
+old-fit P h f (List·Memᴰ·head e) = h f (List·Memᴰ·head (e ∙ length-map P oldRecord))
+old-fit P h f (List·Memᴰ·tail m) =
+    let r = flat-elim oldRecordFields (oldPattern P) f m in
+    let o = Memᴰ·of-map oldRecord P (r .1) in
+    h f (List·Memᴰ·tail (flat-intro patternFields (o .0) P f (o .1) (Memᴰ·append-left (o .0 .figure ∷ []) (subst (λ (x : OldRecord). List·Memᴰ f (oldRecordFields x)) (sym (o .2)) (r .2)))))
 
 -- the fields of a set of one: the count, and the section
 pub one-fields : (Q : Pattern) → setFields (Q ∷ []) ≡ 1 ∷ sectionFields patternFields Q
 unfolding sectionFields flatMap
 one-fields Q = ap (λ (fs : List ℕ). 1 ∷ fs) (append-nil (sectionFields patternFields Q))
 
-module _ (b : List ℕ) where
-  spans-fields : {at end : ℕ} {fs : List ℕ} → Spans b at fs end → fs ≡ fieldsAt b at (end - at)
-  spans-fields {at} {end} {fs} s = s .fields ∙ ap (fieldsAt b at) (omega (arith, s .ends))
-
-  spans-front : {end : ℕ} {fs : List ℕ} → Spans b 0 fs end → fs ≡ fieldsAt b 0 end
-  spans-front {end} {fs} s = s .fields ∙ ap (fieldsAt b 0) (sym (zero-add (length fs)) ∙ s .ends)
-
-  -- the old case's fields with a set of one: the count of the set stands before the second selection
-  pub upgraded-fields : caseFields (oneOf (oldCaseOf b)) ≡ fieldsAt b 0 (secondAt b) ++ (1 ∷ fieldsAt b (secondAt b) (oldEnd b - secondAt b))
+module _ (b : List ℕ) (small : AreBytes b) where
+  -- the old case's fields with a set of one
+  pub upgraded-fit : FitFields (caseFields (oneOf (oldCaseOf b)))
   unfolding caseFields oldCaseOf
-  upgraded-fields =
-      let S : List ℕ = sectionFields summaryFields (section summaryRecordAt summaryWidth b 0) in
+  upgraded-fit =
       let P : OldPattern = section oldRecordAt oldWidth b (firstAt b) in
       let Q : OldPattern = section oldRecordAt oldWidth b (secondAt b) in
-      let front : Spans b 0 (S ++ sectionFields oldRecordFields P) (secondAt b) = spans-append b (summary-again b) (old-pattern-again b (firstAt b)) in
-      ap₂ (λ (x y : List ℕ). S ++ (x ++ y)) (new-fields P) (one-fields (newPattern Q) ∙ ap (λ (fs : List ℕ). 1 ∷ fs) (new-fields Q))
-      ∙ sym (append-assoc S (sectionFields oldRecordFields P) (1 ∷ sectionFields oldRecordFields Q))
-      ∙ ap₂ (λ (x y : List ℕ). x ++ (1 ∷ y)) (spans-front front) (spans-fields (old-pattern-again b (secondAt b)))
+      fit-append (sectionFields summaryFields (section summaryRecordAt summaryWidth b 0)) (sectionFields patternFields (newPattern P) ++ setFields (newPattern Q ∷ []))
+      (spans-fit b small (summary-again b))
+      (fit-append (sectionFields patternFields (newPattern P)) (setFields (newPattern Q ∷ [])) (new-fit P (spans-fit b small (old-pattern-again b (firstAt b))))
+      (subst FitFields (sym (one-fields (newPattern Q))) (fit-next 1 (sectionFields patternFields (newPattern Q)) (omega arith) (new-fit Q (spans-fit b small (old-pattern-again b (secondAt b)))))))
 
-  -- a set whose count is 1 is its first selection, and ends with it
-  one-set : (on : ℕ) → field b on ≡ 1 → (setOf b on ≡ section patternRecordAt patternWidth b (on + 1) ∷ []) × (setEnd b on ≡ sectionEnd patternWidth b (on + 1))
+  -- a set whose count is 1 is its first selection
+  one-set : (on : ℕ) → field b on ≡ 1 → setOf b on ≡ section patternRecordAt patternWidth b (on + 1) ∷ []
   unfolding setOf upFrom memberAt
-  one-set on e = (ap (λ (n : ℕ). map (λ i. section patternRecordAt patternWidth b (memberAt b on i)) (upFrom 0 n)) e, ap (memberAt b on) e)
+  one-set on e = ap (λ (n : ℕ). map (λ i. section patternRecordAt patternWidth b (memberAt b on i)) (upFrom 0 n)) e
 
-  one-field : goesBack (caseOf b) ≡ true → field b (setAt b) ≡ 1
-  unfolding goesBack caseOf setOf
-  one-field e =
-      sym (length-map-upFrom (λ i. section patternRecordAt patternWidth b (memberAt b (setAt b) i)) 0 (field b (setAt b)))
-      ∙ eqb-true (length (setOf b (setAt b))) 1 e
+  one-field : length (caseOf b .members) ≡ 1 → field b (setAt b) ≡ 1
+  unfolding caseOf setOf
+  one-field e = sym (length-map-upFrom (λ i. section patternRecordAt patternWidth b (memberAt b (setAt b) i)) 0 (field b (setAt b))) ∙ e
 
-  -- a set of one's fields as an old case: all but the count of the set
-  pub downgraded-fields : goesBack (caseOf b) ≡ true → oldFields (oldOf (caseOf b)) ≡ fieldsAt b 0 (setAt b) ++ fieldsAt b (setAt b + 1) (caseEnd b - (setAt b + 1))
+  -- a set of one's fields as an old case
+  pub downgraded-fit : length (caseOf b .members) ≡ 1 → FitFields (oldFields (oldOf (caseOf b)))
   unfolding oldFields caseOf
-  downgraded-fields e =
-      let S : List ℕ = sectionFields summaryFields (section summaryRecordAt summaryWidth b 0) in
+  downgraded-fit e =
       let P : Pattern = section patternRecordAt patternWidth b (firstAt b) in
       let Q : Pattern = section patternRecordAt patternWidth b (setAt b + 1) in
-      let one = one-set (setAt b) (one-field e) in
-      let front : Spans b 0 (S ++ sectionFields patternFields P) (setAt b) = spans-append b (summary-again b) (pattern-again b (firstAt b)) in
-      let back : Spans b (setAt b + 1) (sectionFields patternFields Q) (caseEnd b) =
-      subst (Spans b (setAt b + 1) (sectionFields patternFields Q)) (sym (one .1)) (pattern-again b (setAt b + 1)) in
-      ap₂ (λ (x y : List ℕ). S ++ (x ++ y)) (old-fields P) (ap (λ (Qs : List Pattern). sectionFields oldRecordFields (oldPattern (getD Qs 0 []))) (one .0) ∙ old-fields Q)
-      ∙ sym (append-assoc S (sectionFields patternFields P) (sectionFields patternFields Q))
-      ∙ ap₂ (λ (x y : List ℕ). x ++ y) (spans-front front) (spans-fields back)
+      let one : getD (setOf b (setAt b)) 0 [] ≡ Q = ap (λ (Qs : List Pattern). getD Qs 0 []) (one-set (setAt b) (one-field e)) in
+      fit-append (sectionFields summaryFields (section summaryRecordAt summaryWidth b 0)) (sectionFields oldRecordFields (oldPattern P) ++ sectionFields oldRecordFields (oldPattern (getD (setOf b (setAt b)) 0 [])))
+      (spans-fit b small (summary-again b))
+      (fit-append (sectionFields oldRecordFields (oldPattern P)) (sectionFields oldRecordFields (oldPattern (getD (setOf b (setAt b)) 0 []))) (old-fit P (spans-fit b small (pattern-again b (firstAt b))))
+      (subst (λ (R : Pattern). FitFields (sectionFields oldRecordFields (oldPattern R))) (sym one) (old-fit Q (spans-fit b small (pattern-again b (setAt b + 1))))))

@@ -117,7 +117,8 @@ ownFigure P own v = patternFigure P (firstOf (λ q. eqb (imageIn own q) v) (leng
 abbrev pub spotRecord : Summary → (ℕ → ℕ) → List Spot → ℕ → DocumentRecord
 spotRecord S figure spots i = record { parent = spotParent spots i; label = summaryLabel S (spotAt spots i); figure = figure i }
 
-abbrev pub spotRecords : Summary → (ℕ → ℕ) → List Spot → Document
+-- the table of such nodes as a volume, with these figures
+unfoldable pub spotRecords : Summary → (ℕ → ℕ) → List Spot → Document
 spotRecords S figure spots = map (spotRecord S figure spots) (upFrom 0 (length spots))
 
 -- the trial volume of a placement

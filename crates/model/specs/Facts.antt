@@ -40,7 +40,6 @@ pub record MemberFacts (P Q : Pattern) : Type 0 where
   pub pattern : PatternFacts Q
   pub sameArity : arity P ≡ arity Q
   pub size : length Q ≤ maxPattern
-  pub figures : FewFigures Q
 
 -- an accepted case
 pub record CaseFacts (c : Case) : Type 0 where
@@ -54,6 +53,7 @@ pub record CaseFacts (c : Case) : Type 0 where
   pub summarySize : length (c .summary) ≤ maxSummary
   pub firstSize : length (c .first) ≤ maxPattern
   pub firstFigures : FewFigures (c .first)
+  pub memberFigures : (Q : Pattern) → List·Memᴰ Q (c .members) → FewFigures Q
 
 -- the bytes of an accepted case: questions 3 to 8, with 14 and 17
 pub record AcceptedCase (b : List ℕ) : Type 0 where

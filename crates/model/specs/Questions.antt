@@ -171,13 +171,13 @@ fitsRefusal b w = refusal (caseQuestions b ++ documentQuestions w)
 unfoldable pub resultRefusal : List ℕ → ℕ → List ℕ → List ℕ → ℕ
 resultRefusal b s w r =
     refusal
-    (caseQuestions b ++ documentQuestions w ++ ask 12 (patternGiven (caseOf b) s)
-    ∷ ask 11 (listInRange (arity (selected (caseOf b) s)) (length (documentOf w)) r) ∷ [])
+    (caseQuestions b ++ (documentQuestions w ++ ask 12 (patternGiven (caseOf b) s)
+    ∷ ask 11 (listInRange (arity (selected (caseOf b) s)) (length (documentOf w)) r) ∷ []))
 
 -- Nodes at a position: 2 to 8, 10, 17, 12
 unfoldable pub nodesRefusal : List ℕ → ℕ → List ℕ → ℕ → ℕ → ℕ
 nodesRefusal b s w p bufferBytes =
-    refusal (ask 2 (bufferLargeEnough bufferBytes) ∷ caseQuestions b ++ documentQuestions w ++ ask 12 (positionGiven (caseOf b) s p) ∷ [])
+    refusal (ask 2 (bufferLargeEnough bufferBytes) ∷ caseQuestions b ++ (documentQuestions w ++ ask 12 (positionGiven (caseOf b) s p) ∷ []))
 
 -- Paths of each node: 3 to 8, 12
 unfoldable pub pathsRefusal : List ℕ → ℕ → ℕ

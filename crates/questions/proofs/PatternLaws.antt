@@ -1,4 +1,4 @@
--- Questions 7 and 8 by what the code reads of a pattern's section. Assumes nothing.
+-- Questions 7, 17 and 8 by what the code reads of a pattern's section. Assumes nothing.
 use Prim.Native.Nat.{ℕ, _+_, _≤_, _<_}
 use mathlib.Core.Path.{_≡_, refl, sym, ap, _∙_}
 use mathlib.Core.Bool.{Bool, true, false, _&&_, _||_}
@@ -13,8 +13,9 @@ use Rattle.model.specs.Limits.{maxPosition}
 use Rattle.model.specs.Pattern.{PatternRecord, Pattern, noPatternRecord, patternParent, position, arity}
 use Rattle.model.specs.Fitting.{parentRule}
 use Rattle.model.specs.Bytes.{firstAt, setAt, setOf, caseOf}
-use Rattle.model.specs.Questions.{patternRecordKept, patternKept, patternsKept, positionsOnce, positionsKept}
+use Rattle.model.specs.Questions.{patternRecordKept, positionsOnce, positionsKept}
 use Rattle.format.specs.Given.{patternAt}
+use Rattle.questions.specs.declared.members.Asked.{Asked}
 use Rattle.questions.specs.declared.members.Asked.the-variants.{Positions}
 use Rattle.questions.specs.Members.{askedOf}
 use Rattle.questions.proofs.TestLaws.{and-no, and-assoc}
@@ -31,11 +32,10 @@ module _ (P : Pattern) (q : ℕ) where
   unfolding patternRecordKept
   pattern-asked r e = e ∙ ap (λ (t : Bool). t && leb (position P q) maxPosition) (sym (and-assoc (parentRule q (patternParent P q)) (leb edgeOf 1) (ltb 0 q || eqb edgeOf 0)))
 
--- 7 and 8 by the fields where the patterns begin
+-- what is asked of all patterns, by the fields where they begin
 module _ (b : List ℕ) (first on : ℕ) (r : Bool) (p : first ≡ firstAt b) (s : on ≡ setAt b) where
-  pub patterns-asked : r ≡ (patternKept (patternAt b first) && allOf patternKept (setOf b on)) → r ≡ patternsKept (caseOf b)
-  unfolding patternsKept
-  patterns-asked e = rw (first-pattern b first p, set-members b on s) e
+  pub all-asked : (w : Asked) → r ≡ (askedOf w (patternAt b first) && allOf (askedOf w) (setOf b on)) → r ≡ (askedOf w (caseOf b .first) && allOf (askedOf w) (caseOf b .members))
+  all-asked w e = rw (first-pattern b first p, set-members b on s) e
 
   pub positions-asked : (k : ℕ) → k ≡ arity (patternAt b first) → r ≡ (positionsOnce (patternAt b first) && allOf (askedOf (Positions k)) (setOf b on)) → r ≡ positionsKept (caseOf b)
   unfolding positionsKept

@@ -28,12 +28,12 @@ asked-all = refl
 
 -- ---- the case questions
 
-numbered : (b : List ℕ) → Numbered (caseQuestions b)
+pub case-numbered : (b : List ℕ) → Numbered (caseQuestions b)
 unfolding caseQuestions
-numbered b = (omega arith, (omega arith, (omega arith, (omega arith, (omega arith, (omega arith, (omega arith, tt)))))))
+case-numbered b = (omega arith, (omega arith, (omega arith, (omega arith, (omega arith, (omega arith, (omega arith, (omega arith, tt))))))))
 
 all-yes : (b : List ℕ) → refusal (caseQuestions b) ≡ 0 → AllYes (caseQuestions b)
-all-yes b e = accepted-all-yes (caseQuestions b) (numbered b) e
+all-yes b e = accepted-all-yes (caseQuestions b) (case-numbered b) e
 
 pub case-no : (r : ℕ) (b : List ℕ) (rest : List Question) → r ≡ refusal (caseQuestions b) → (r ≡ 0 → ⊥) → r ≡ refusal (caseQuestions b ++ rest)
 case-no r b rest e f = e ∙ sym (refusal-kept (caseQuestions b) rest (λ z. f (e ∙ z)))
@@ -58,6 +58,8 @@ pub accepted-whole : (b : List ℕ) → refusal (caseQuestions b) ≡ 0 → isWh
 unfolding caseQuestions caseWhole
 accepted-whole b e = all-yes b e .0
 
-pub ruleset asked = (needs, asked-no, asked-yes, asked-all, case-no, case-yes)
+pub ruleset one-by-one = (needs, asked-no, asked-yes, asked-all)
+
+pub ruleset asked = (one-by-one, case-no, case-yes)
 
 pub ruleset required = (needs, asked-whole, case-accepts, accepted-whole)

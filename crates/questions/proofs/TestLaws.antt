@@ -41,6 +41,10 @@ and-yes-left r a b e g = g ∙ ap (λ (t : Bool). t && b) e
 
 pub ruleset joined = (needs, told-no, told-yes, and-no-left, and-yes-left)
 
+-- a rule of one number, asked of what was read of it
+pub tested : (rule : ℕ → Bool) (x v : ℕ) (answer : Bool) → answer ≡ rule x → x ≡ v → answer ≡ rule v
+tested rule x v answer a e = a ∙ ap rule e
+
 -- a rule of two numbers, asked of what was read of them
 module _ (rule : ℕ → ℕ → Bool) where
   pub ruled-no : (x y v w : ℕ) (answer : Bool) → answer ≡ rule x y → x ≡ v → y ≡ w → not answer ≡ true → false ≡ rule v w

@@ -4,6 +4,7 @@
 use case::case_whole;
 use case::counts_in_range;
 use case::set_in_range;
+use members::figures_kept;
 use members::patterns_kept;
 use members::positions_kept;
 use summary::siblings_differ;
@@ -18,7 +19,7 @@ pub mod pattern;
 pub mod rules;
 pub mod summary;
 
-// Questions 3 to 8, with 14 right after 4, which every call asks of its case.
+// Questions 3 to 8, with 14 right after 4 and 17 right after 7, which every call asks of its case.
 pub fn case_refusal(b: &[u8]) -> u64
     ensures { λ r. ⌜ r ≡ refusal (caseQuestions (now (b .entry))) ⌝ }
 {
@@ -39,6 +40,9 @@ pub fn case_refusal(b: &[u8]) -> u64
     }
     if !patterns_kept(b) {
         return 7;
+    }
+    if !figures_kept(b) {
+        return 17;
     }
     if !positions_kept(b) {
         return 8;

@@ -16,7 +16,7 @@ pub fn limit_in_range(limit: u64) -> bool
     between(1, MAX_LIMIT, limit)
 }
 
-// 2. Has the answer buffer 4,096 bytes or more?
+// 2. Has the answer buffer 8,192 bytes or more?
 pub fn buffer_large_enough(bytes: usize) -> bool
     ensures { λ r. ⌜ r ≡ bufferLargeEnough bytes ⌝ }
 {

@@ -1,4 +1,4 @@
-// What is asked of one pattern: its part of 4, 7 and 8. A pattern is known by the field `at` that holds its count, so each
+// What is asked of one pattern: its part of 4, 7, 17 and 8. A pattern is known by the field `at` that holds its count, so each
 // function serves every pattern of a case. Before question 7 a parent may be any number.
 
 ghost use mathlib.Core.Path.{_≡_};
@@ -10,9 +10,10 @@ ghost use Rattle.model.specs.Limits.{patternWidth};
 ghost use Rattle.model.specs.Lists.{countOf};
 ghost use Rattle.model.specs.Pattern.{PatternRecord, arity as arityOf};
 ghost use Rattle.model.specs.Bytes.{WholeSection};
-ghost use Rattle.model.specs.Questions.{countInRange, patternRecordKept, patternKept, positionsOnce};
+ghost use Rattle.model.specs.Questions.{countInRange, patternRecordKept, patternKept, patternFigures, positionsOnce};
 ghost use Rattle.format.specs.Given.{patternAt};
 use crate::rules::between;
+use crate::rules::figure_in_range;
 use crate::rules::flag_rule;
 use crate::rules::parent_rule;
 use format::limits::MAX_PATTERN;
@@ -20,6 +21,7 @@ use format::limits::MAX_POSITION;
 use format::nodes::PatternNode;
 use format::pattern::pattern_count;
 use format::pattern::pattern_edge;
+use format::pattern::pattern_figure;
 use format::pattern::pattern_parent;
 use format::pattern::pattern_position;
 
@@ -54,6 +56,20 @@ pub fn pattern_kept(b: &[u8], at: usize) -> bool
     let n = pattern_count(b, at);
     for q in 0..n {
         if !pattern_record_kept(b, at, PatternNode(q)) {
+            return false;
+        }
+    }
+    true
+}
+
+// All figures of the pattern are at most 2,000.
+pub fn pattern_figures(b: &[u8], at: usize) -> bool
+    requires { ⌜ WholeSection patternWidth (now b) at ⌝ }
+    ensures { λ r. ⌜ r ≡ patternFigures (patternAt (now (b .entry)) at) ⌝ }
+{
+    let n = pattern_count(b, at);
+    for q in 0..n {
+        if !figure_in_range(pattern_figure(b, at, PatternNode(q))) {
             return false;
         }
     }

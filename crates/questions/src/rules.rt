@@ -2,8 +2,9 @@
 
 ghost use mathlib.Core.Path.{_≡_};
 ghost use Rattle.model.specs.Fitting.{parentRule};
-ghost use Rattle.model.specs.Questions.{between as isBetween};
+ghost use Rattle.model.specs.Questions.{between as isBetween, figureInRange};
 ghost use Rattle.questions.specs.Rules.{flagRule};
+use format::limits::MAX_FIGURE;
 
 // A number from low to high.
 pub fn between(low: u64, high: u64, n: u64) -> bool
@@ -27,4 +28,11 @@ pub fn flag_rule(i: usize, flag: usize) -> bool
         return false;
     }
     if 0 < i { true } else { flag == 0 }
+}
+
+// The rule for figures, of patterns and of documents: at most 2,000.
+pub fn figure_in_range(figure: usize) -> bool
+    ensures { λ r. ⌜ r ≡ figureInRange figure ⌝ }
+{
+    figure <= MAX_FIGURE
 }

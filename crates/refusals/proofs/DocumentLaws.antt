@@ -1,8 +1,8 @@
--- Questions 10 and 11 by the fields that the code reads. Assumes nothing.
+-- Questions 10, 17 and 11 by the fields that the code reads, and the questions on a case and a document, asked before others. Assumes nothing.
 use Prim.Native.Nat.{ℕ, _+_, _*_, _/_, _%_, _≤_, _<_}
 use mathlib.Core.Path.{_≡_, sym, ap, _∙_}
 use mathlib.Core.Bool.{Bool, true, false, _&&_, not}
-use mathlib.Core.List.{List}
+use mathlib.Core.List.{List, _++_, append-assoc}
 use native.Mathlib.Omega.{arith}
 use lib.Dec.{eqb, ltb}
 use lib.ListN.{length}
@@ -10,13 +10,15 @@ use borrow.Author.Tests.{eq-eqb, ne-eqb, lt-ltb, le-ltb}
 use Rattle.model.specs.Limits.{documentWidth}
 use Rattle.model.specs.Lists.{upFrom, allOf}
 use Rattle.model.specs.Pattern.{arity}
-use Rattle.model.specs.Bytes.{field, sectionEnd, WholeSection, caseOf, documentOf, isWholeDocument, listOf, isWholeList}
-use Rattle.model.specs.Questions.{documentKept, listInRange, patternGiven, selected}
-use Rattle.model.proofs.CallFacts.{document-facts}
+use Rattle.model.specs.Bytes.{field, sectionEnd, WholeSection, caseOf, isWholeCase, documentOf, isWholeDocument, listOf, isWholeList}
+use Rattle.model.specs.Questions.{documentKept, listInRange, patternGiven, selected, Question, refusal, caseQuestions, documentQuestions, fitsRefusal}
+use Rattle.model.proofs.ListLaws.{and-left}
+use Rattle.model.proofs.Refusals.{AllYes, accepted-all-yes, all-yes-left, all-yes-right, numbered-append, refusal-after, refusal-kept, refusal-none}
 use Rattle.format.specs.Given.{patternAt}
 use Rattle.format.proofs.GivenLaws.{whole-document}
 use Rattle.format.proofs.ListLaws.{list-count}
 use Rattle.questions.proofs.TestLaws.{said-yes}
+use Rattle.questions.proofs.RefusalLaws.{one-by-one, case-numbered, accepted-whole}
 use Rattle.questions.proofs.LoopLaws.{Passed, passed-more, all-passed, one-failed, all-map}
 use Rattle.refusals.specs.Numbered.{numberedAt}
 use Rattle.refusals.proofs.NumberedLaws.{numbered-pattern}
@@ -31,8 +33,39 @@ pub asked-section : (answer : Bool) (w : List ℕ) → answer ≡ isWholeDocumen
 asked-section answer w e t = whole-document w (said-yes answer (isWholeDocument w) e t)
 
 -- 10 was answered yes
+kept-whole : (w : List ℕ) → documentKept w ≡ true → WholeSection documentWidth w 0
+unfolding documentKept
+kept-whole w e = whole-document w (and-left _ _ (and-left _ _ e))
+
 pub asked-document : (answer : Bool) (w : List ℕ) → answer ≡ documentKept w → not answer ≡ false → WholeSection documentWidth w 0
-asked-document answer w e t = whole-document w (document-facts w (said-yes answer (documentKept w) e t) .whole)
+asked-document answer w e t = kept-whole w (said-yes answer (documentKept w) e t)
+
+-- ---- the questions on a case and a document, asked before others
+
+module _ (refused : ℕ) (b w : List ℕ) (e : refused ≡ fitsRefusal b w) where
+  pub given-no : (rest : List Question) → (refused ≡ 0 → ⊥) → refused ≡ refusal (caseQuestions b ++ (documentQuestions w ++ rest))
+  unfolding fitsRefusal
+  given-no rest f =
+      e ∙ sym (refusal-kept (caseQuestions b ++ documentQuestions w) rest (λ z. f (e ∙ z))) ∙ ap refusal (append-assoc (caseQuestions b) (documentQuestions w) rest)
+
+  module _ (z : refused ≡ 0) where
+    all-yes : AllYes (caseQuestions b ++ documentQuestions w)
+    unfolding fitsRefusal
+    all-yes =
+        accepted-all-yes (caseQuestions b ++ documentQuestions w) (numbered-append (caseQuestions b) (documentQuestions w) (case-numbered b) (omega arith, (omega arith, tt)))
+        (sym e ∙ z)
+
+    pub given-yes : (r : ℕ) (rest : List Question) → r ≡ refusal rest → r ≡ refusal (caseQuestions b ++ (documentQuestions w ++ rest))
+    given-yes r rest after =
+        after ∙ sym (refusal-after (caseQuestions b ++ documentQuestions w) rest all-yes) ∙ ap refusal (append-assoc (caseQuestions b) (documentQuestions w) rest)
+
+    pub given-case : isWholeCase b ≡ true
+    given-case = accepted-whole b (refusal-none (caseQuestions b) (all-yes-left (caseQuestions b) (documentQuestions w) all-yes))
+
+    pub given-document : WholeSection documentWidth w 0
+    given-document = kept-whole w (all-yes-right (caseQuestions b) (documentQuestions w) all-yes .0)
+
+pub ruleset given = (one-by-one, given-no, given-yes)
 
 -- ---- a list
 

@@ -1,4 +1,4 @@
-// The question on a document: 10. Before it a parent may be any number.
+// The questions on a document: 10, and 17 right after it. Before 10 a parent may be any number.
 
 ghost use mathlib.Core.Path.{_≡_};
 ghost use Prim.Native.Nat.{_<_};
@@ -6,15 +6,18 @@ ghost use lib.ListN.{length};
 ghost use Rattle.model.specs.Limits.{documentWidth};
 ghost use Rattle.model.specs.Lists.{upFrom, allOf};
 ghost use Rattle.model.specs.Bytes.{documentOf, isWholeDocument, WholeSection};
-ghost use Rattle.model.specs.Questions.{documentRecordKept, documentKept};
+ghost use Rattle.model.specs.Questions.{documentRecordKept, documentKept, documentFigures, refusal, documentQuestions};
 use format::document::document_count;
+use format::document::document_figure;
 use format::document::document_label;
 use format::document::document_parent;
 use format::field::field;
+use format::field::wide;
 use format::limits::DOCUMENT_WIDTH;
 use format::limits::MAX_DOCUMENT;
 use format::nodes::DocumentNode;
 use questions::rules::between;
+use questions::rules::figure_in_range;
 use questions::rules::parent_rule;
 
 // The document is whole, nothing after. Its count is read only where it is whole.
@@ -65,4 +68,31 @@ pub fn document_kept(w: &[u8]) -> bool
         return false;
     }
     document_records_kept(w)
+}
+
+// 17. Is every figure of the document at most 2,000?
+pub fn document_figures(w: &[u8]) -> bool
+    requires { ⌜ WholeSection documentWidth (now w) 0 ⌝ }
+    ensures { λ r. ⌜ r ≡ documentFigures (documentOf (now (w .entry))) ⌝ }
+{
+    let n = document_count(w);
+    for i in 0..n {
+        if !figure_in_range(wide(document_figure(w, DocumentNode(i)))) {
+            return false;
+        }
+    }
+    true
+}
+
+// 10 and 17, which every call asks of its document.
+pub fn document_refusal(w: &[u8]) -> u64
+    ensures { λ r. ⌜ r ≡ refusal (documentQuestions (now (w .entry))) ⌝ }
+{
+    if !document_kept(w) {
+        return 10;
+    }
+    if !document_figures(w) {
+        return 17;
+    }
+    0
 }

@@ -1,7 +1,7 @@
 // The refusal of each of document 01's calls: the number of the first question whose answer is no, in the call's own order, or 0. Any bytes
 // and any numbers may be asked about. The questions on a document, on lists and on a pattern's number, which only some calls ask, are here.
 
-use document::document_kept;
+use document::document_refusal;
 use embedding::is_embedding_list;
 use format::limits::MAX_VERDICTS;
 use list::result_in_range;
@@ -61,7 +61,7 @@ pub fn minimise_refusal(b: &[u8], limit: u64, caller: u64, tally: u64, buffer: u
     charged_refusal(b, MAX_VERDICTS * limit, caller, tally, buffer)
 }
 
-// Fits: 3 to 8, 10.
+// Fits: 3 to 8, 10, 17, which every call with a document asks of it and of its case.
 pub fn fits_refusal(b: &[u8], w: &[u8]) -> u64
     ensures { λ r. ⌜ r ≡ fitsRefusal (now (b .entry)) (now (w .entry)) ⌝ }
 {
@@ -69,22 +69,16 @@ pub fn fits_refusal(b: &[u8], w: &[u8]) -> u64
     if refused != 0 {
         return refused;
     }
-    if !document_kept(w) {
-        return 10;
-    }
-    0
+    document_refusal(w)
 }
 
-// Is it a result: 3 to 8, 10, 12, 11.
+// Is it a result: 3 to 8, 10, 17, 12, 11.
 pub fn result_refusal(b: &[u8], number: u64, w: &[u8], r: &[u8]) -> u64
     ensures { λ x. ⌜ x ≡ resultRefusal (now (b .entry)) number (now (w .entry)) (now (r .entry)) ⌝ }
 {
-    let refused = case_refusal(b);
+    let refused = fits_refusal(b, w);
     if refused != 0 {
         return refused;
-    }
-    if !document_kept(w) {
-        return 10;
     }
     if !pattern_given(b, number) {
         return 12;
@@ -95,19 +89,16 @@ pub fn result_refusal(b: &[u8], number: u64, w: &[u8], r: &[u8]) -> u64
     0
 }
 
-// Nodes at a position: 2 to 8, 10, 12.
+// Nodes at a position: 2 to 8, 10, 17, 12.
 pub fn nodes_refusal(b: &[u8], number: u64, w: &[u8], position: u64, buffer: usize) -> u64
     ensures { λ r. ⌜ r ≡ nodesRefusal (now (b .entry)) number (now (w .entry)) position buffer ⌝ }
 {
     if !buffer_large_enough(buffer) {
         return 2;
     }
-    let refused = case_refusal(b);
+    let refused = fits_refusal(b, w);
     if refused != 0 {
         return refused;
-    }
-    if !document_kept(w) {
-        return 10;
     }
     if !position_given(b, number, position) {
         return 12;

@@ -1,6 +1,6 @@
 -- `questions::case_refusal` meets its contract: each return comes after the questions before it were answered yes. Assumes nothing.
 use Rattle.model.specs.Questions.{caseQuestions}
-use Rattle.questions.proofs.RefusalLaws.{asked, required, asked-whole, asked-summary}
+use Rattle.questions.proofs.RefusalLaws.{one-by-one, required, asked-whole, asked-summary}
 use Rattle.questions.proofs.case_refusal.Statement.{statement}
 use Rattle.questions.proofs.case_refusal.Tie as tie
 
@@ -15,11 +15,12 @@ unfolding caseQuestions
 case-refusal-spec =
     tie.close
     (tie.spec
-    (λ c κs. search required) (λ c. search asked depth 9)
-    (λ c κs. search required) (λ c. search asked depth 9)
-    (λ c κs. search required) (λ c. search asked depth 9)
-    (λ c κs. search required) (λ c. search asked depth 9)
-    siblings-differ-requires (λ c. search asked depth 9)
-    (λ c κs. search required) (λ c. search asked depth 9)
-    (λ c κs. search required) (λ c. search asked depth 9)
-    (λ c. search asked depth 9 fits 2000))
+    (λ c κs. search required) (λ c. search one-by-one depth 10)
+    (λ c κs. search required) (λ c. search one-by-one depth 10)
+    (λ c κs. search required) (λ c. search one-by-one depth 10)
+    (λ c κs. search required) (λ c. search one-by-one depth 10)
+    siblings-differ-requires (λ c. search one-by-one depth 10)
+    (λ c κs. search required) (λ c. search one-by-one depth 10)
+    (λ c κs. search required) (λ c. search one-by-one depth 10)
+    (λ c κs. search required) (λ c. search one-by-one depth 10)
+    (λ c. search one-by-one depth 10))

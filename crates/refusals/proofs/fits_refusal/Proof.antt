@@ -10,5 +10,4 @@ fits-refusal-spec =
     tie.close
     (tie.spec
     (λ c κs. search required) (λ c. search asked)
-    (λ c κs. search required) (λ c. search asked)
-    (λ c. search asked))
+    (λ c κs. search required) (λ c. search asked))
