@@ -11,7 +11,7 @@
 
 /* Summary r(a(b)); first pattern r//0, members r/0 and r//b, each with position 1 at the last node. The document is r(a(b)). */
 #define SUMMARY 3, 0, 0, 0, 1, 0, 0, 0, 0, 0, 2, 0, 0, 0, 1, 0, 3, 0, 0, 0
-#define FIELD(number) (number) % 256, (number) / 256
+#define FIELD(number) (uint8_t)((number) & 255), (uint8_t)((number) >> 8)
 #define OLD_RECORD(parent, label, edge, position) parent, 0, label, 0, edge, 0, position, 0
 #define FIGURED(parent, label, edge, position, figure) OLD_RECORD(parent, label, edge, position), FIELD(figure)
 #define RECORD(parent, label, edge, position) FIGURED(parent, label, edge, position, 0)
