@@ -1,6 +1,7 @@
 //! The ten calls, each with its questions in the order that the documents give;
-//! question 14 comes with those about the case, right after question 4, and
-//! question 16 just before question 9.
+//! question 14 comes with those about the case, right after question 4, question 17
+//! with those about the case, right after question 7, and with that about the volume,
+//! right after question 10, and question 16 just before question 9.
 //!
 //! "A refusal holds its number and zero in every other field. No lent byte,
 //! record or tally is altered."
@@ -10,7 +11,7 @@ use crate::judging::{judge, own_result};
 use crate::normal::normal;
 use crate::old::{old_case, read_old_case, OldCase};
 use crate::records::{
-    ask, holder, read_case, read_list, read_volume, section_bytes, selection_row, Case,
+    ask, holder, read_case, read_list, read_volume, section_bytes, selection_row, volume_row, Case,
     OutlineNode, SelectionNode, VolumeNode,
 };
 use crate::striking::{shorten, Shortened};
@@ -19,8 +20,9 @@ use crate::trials::{lay_out, outline_as_volume, strong_children, Trial};
 pub use crate::judging::{INCLUDED, NONE, NOT_INCLUDED, STOPPED};
 
 const LIMIT: u64 = 1_000_000;
-const ANSWER_BYTES: usize = 4_096;
-const TABLE_RECORDS: usize = 1_024;
+/// "Answer buffers need 8,192 bytes".
+pub const ANSWER_BYTES: usize = 8_192;
+pub const TABLE_RECORDS: usize = 1_024;
 /// What a tally and a limit may come to.
 pub const TALLY_MOST: u64 = 1_000_000_000_000;
 /// "The single tally becomes eight".
@@ -69,12 +71,13 @@ pub struct PathsAnswer {
     pub counts: [u64; 16],
 }
 
-/// "node records (parent, outline node, label)"
+/// "node records (parent, outline node, label)", and the figure.
 #[derive(Clone, Copy, Debug, Default, PartialEq, Eq)]
 pub struct NodeRecord {
     pub parent: u16,
     pub outline: u16,
     pub label: u16,
+    pub figure: u16,
 }
 
 /// Verdict, "and a verdict names its caller, 0 to 7". Questions 1 to 8, 16, 9.
@@ -205,6 +208,7 @@ pub fn layout(
                     parent: node.parent as u16,
                     outline: node.outline as u16,
                     label: case.outline[node.outline].label,
+                    figure: node.figure,
                 };
             }
             CountAnswer {
@@ -450,7 +454,7 @@ fn downgrade_questions(case: &[u8], answer_len: usize) -> Result<OldCase, u64> {
     ask(2, answer_len >= ANSWER_BYTES)?;
     let case = read_case(case)?;
     // "15, going back, the set has more than one selection; decided after all
-    // questions on the case"
+    // questions on the case"; "15 is also given for a figure that is not 0"
     old_case(&case).ok_or(15)
 }
 
@@ -466,18 +470,10 @@ fn chosen(case: &Case, selection: u64) -> Result<Vec<SelectionNode>, u64> {
 
 /// "'Not included' writes the volume's section to the front of the answer
 /// buffer. The result follows from the byte after the last record, as a count
-/// k and k node numbers." At most 2 + 4 x 1,009 + 2 + 16 bytes.
+/// k and k node numbers." At most 2 + 6 x 1,009 + 2 + 16 bytes.
 fn write_trial(case: &Case, trial: &Trial, answer: &mut [u8]) {
-    let mut at = 0;
-    put(answer, &mut at, trial.nodes.len());
-    for node in &trial.nodes {
-        put(answer, &mut at, node.parent);
-        put(
-            answer,
-            &mut at,
-            usize::from(case.outline[node.outline].label),
-        );
-    }
+    let volume = trial.volume(&case.outline);
+    let mut at = write_section(volume.iter().map(volume_row), answer);
     let result = own_result(case, trial);
     put(answer, &mut at, result.len());
     for v in result {
@@ -486,19 +482,17 @@ fn write_trial(case: &Case, trial: &Trial, answer: &mut [u8]) {
 }
 
 /// "The answer buffer's front gets the shortened selection's section, [...] then a count and the
-/// struck original numbers in striking order": at most 2 + 8 x 16 + 2 bytes.
+/// struck original numbers in striking order": at most 2 + 10 x 16 + 2 bytes.
 fn write_shortened(shortened: &Shortened, answer: &mut [u8]) {
-    let section = section_bytes(shortened.left.iter().map(selection_row));
-    answer[..section.len()].copy_from_slice(&section);
-    let mut at = section.len();
+    let mut at = write_section(shortened.left.iter().map(selection_row), answer);
     put(answer, &mut at, shortened.struck.len());
     for &number in &shortened.struck {
         put(answer, &mut at, number);
     }
 }
 
-/// "each at the front of an answer buffer": at most 1,558 bytes, with 64 records
-/// and nine times 16; a case that is moved has 648 at most.
+/// "each at the front of an answer buffer": at most 1,846 bytes, with 64 records
+/// and nine times 16; a case that is moved has 712 at most.
 fn write_case(case: Result<Vec<u8>, u64>, answer: &mut [u8]) -> CountAnswer {
     match case {
         Ok(bytes) => {
@@ -513,6 +507,16 @@ fn write_case(case: Result<Vec<u8>, u64>, answer: &mut [u8]) -> CountAnswer {
             ..Default::default()
         },
     }
+}
+
+/// Writes a section to the front, and gives the place of the byte after it.
+fn write_section<const N: usize>(
+    rows: impl ExactSizeIterator<Item = [u16; N]>,
+    answer: &mut [u8],
+) -> usize {
+    let section = section_bytes(rows);
+    answer[..section.len()].copy_from_slice(&section);
+    section.len()
 }
 
 /// Writes one field and steps past it.

@@ -1,7 +1,7 @@
 //! The verdict on a case: its trials, in order and up to a limit.
 
 use crate::embedding::Shape;
-use crate::records::{holder, Case, VolumeNode};
+use crate::records::{holder, Case};
 use crate::trials::{each_placement, lay_out, Trial};
 
 pub const NONE: u64 = 0;
@@ -34,14 +34,7 @@ pub fn judge(case: &Case, limit: u64) -> (u64, u64, Option<Trial>) {
 /// "A trial passes if its result is a result of at least one of them": the
 /// first selection's own nodes at positions 1 to k, as one list.
 fn passes(case: &Case, trial: &Trial, set: &[Shape]) -> bool {
-    let volume: Vec<VolumeNode> = trial
-        .nodes
-        .iter()
-        .map(|node| VolumeNode {
-            parent: node.parent,
-            label: case.outline[node.outline].label,
-        })
-        .collect();
+    let volume = trial.volume(&case.outline);
     let result = own_result(case, trial);
     set.iter().any(|member| member.is_result(&volume, &result))
 }

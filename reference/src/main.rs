@@ -4,7 +4,7 @@
 
 #![forbid(unsafe_code)]
 
-use reference::calls::{INCLUDED, NOT_INCLUDED};
+use reference::calls::{ANSWER_BYTES, INCLUDED, NOT_INCLUDED};
 use reference::vectors::read_all;
 use reference::{CountAnswer, CALLERS};
 use std::fmt::Write as _;
@@ -79,7 +79,7 @@ fn nth_case(number: &str) -> Result<Vec<u8>, String> {
 /// "The verdict program reads a case from standard input, with limit
 /// 1,000,000 and tally 0"; as a caller "the program is 0".
 fn verdict_lines(case: &[u8]) -> String {
-    let mut answer = [0; 4_096];
+    let mut answer = [0; ANSWER_BYTES];
     let mut tallies = [0; CALLERS];
     let got = reference::verdict(case, 1_000_000, 0, &mut tallies, &mut answer);
     if got.refused != 0 {
@@ -92,7 +92,7 @@ fn verdict_lines(case: &[u8]) -> String {
     };
     let mut text = format!("{kind}\ntried {}\n", got.tried);
     if got.kind == NOT_INCLUDED {
-        write_fields::<2>(&mut text, &answer, "answer");
+        write_fields::<3>(&mut text, &answer, "answer");
     }
     text
 }
@@ -100,21 +100,21 @@ fn verdict_lines(case: &[u8]) -> String {
 /// What is left of the first selection, with the verdict program's limit, caller
 /// and tallies.
 fn minimise_lines(case: &[u8]) -> String {
-    let mut answer = [0; 4_096];
+    let mut answer = [0; ANSWER_BYTES];
     let mut tallies = [0; CALLERS];
     let got = reference::minimise(case, 1_000_000, 0, &mut tallies, &mut answer);
     if got.refused != 0 {
         return format!("refused {}\n", got.refused);
     }
     let mut text = format!("tried {}\n", got.tried);
-    write_fields::<4>(&mut text, &answer, "struck");
+    write_fields::<5>(&mut text, &answer, "struck");
     text
 }
 
 /// The case that a call writes. A refusal is a line on standard error, since
 /// standard output has a case or nothing.
 fn written(case: &[u8], call: fn(&[u8], &mut [u8]) -> CountAnswer) -> Vec<u8> {
-    let mut answer = vec![0; 4_096];
+    let mut answer = vec![0; ANSWER_BYTES];
     let got = call(case, &mut answer);
     if got.refused != 0 {
         eprintln!("refused {}", got.refused);
@@ -125,7 +125,8 @@ fn written(case: &[u8], call: fn(&[u8], &mut [u8]) -> CountAnswer) -> Vec<u8> {
 
 /// A section as node lines, each record after its number, and the list that
 /// follows it as a line: "A node line has number, parent, label; the answer line
-/// lists the result by position, all in decimal."
+/// lists the result by position, all in decimal"; "each printed node line ends with
+/// its figure".
 fn write_fields<const N: usize>(text: &mut String, answer: &[u8], list: &str) {
     let fields: Vec<u16> = answer
         .chunks_exact(2)

@@ -4,8 +4,9 @@ use crate::records::{Case, OutlineNode, SelectionNode};
 
 /// A node of an outline in preorder: depth, label, strong.
 type OutlineEntry = (usize, u16, bool);
-/// A node of a selection in preorder: "(depth, label, edge, position)".
-type SelectionEntry = (usize, u16, bool, usize);
+/// A node of a selection in preorder: "(depth, label, edge, position)", and the figure
+/// last.
+type SelectionEntry = (usize, u16, bool, usize, u16);
 
 /// "puts every tree in preorder [...]. The set keeps its order."
 pub fn normal(case: &Case) -> Case {
@@ -31,11 +32,12 @@ fn outline(nodes: &[OutlineNode]) -> Vec<OutlineNode> {
 fn selection(nodes: &[SelectionNode]) -> Vec<SelectionNode> {
     let list = selection_list(nodes, 0, 0);
     let parents = parents(&list, |entry| entry.0);
-    let node = |(&(_, label, descendant, position), parent)| SelectionNode {
+    let node = |(&(_, label, descendant, position, figure), parent)| SelectionNode {
         parent,
         label,
         descendant,
         position,
+        figure,
     };
     list.iter().zip(parents).map(node).collect()
 }
@@ -53,8 +55,8 @@ fn outline_list(nodes: &[OutlineNode], t: usize, depth: usize) -> Vec<OutlineEnt
 
 /// The nodes from one on downwards: "Selection siblings go by their subtrees, each, ordered within
 /// first, written as a list of (depth, label, edge, position), compared at the first difference with
-/// a prefix first." That is how lists of tuples are compared; child comes before descendant, as 0
-/// before 1.
+/// a prefix first", and #107 "compares the figure last". That is how lists of tuples are compared;
+/// child comes before descendant, as 0 before 1.
 fn selection_list(nodes: &[SelectionNode], q: usize, depth: usize) -> Vec<SelectionEntry> {
     let mut subtrees: Vec<Vec<SelectionEntry>> = (1..nodes.len())
         .filter(|&child| nodes[child].parent == q)
@@ -62,7 +64,7 @@ fn selection_list(nodes: &[SelectionNode], q: usize, depth: usize) -> Vec<Select
         .collect();
     subtrees.sort();
     let own = &nodes[q];
-    let mut list = vec![(depth, own.label, own.descendant, own.position)];
+    let mut list = vec![(depth, own.label, own.descendant, own.position, own.figure)];
     list.extend(subtrees.concat());
     list
 }

@@ -47,21 +47,22 @@ pub fn read_old_case(bytes: &[u8]) -> Result<OldCase, u64> {
     })
 }
 
-/// The case in the old form, where its set is of one selection.
+/// The case in the old form, where its set is of one selection and every figure
+/// is 0: "The tools of #102 give and require 0."
 pub fn old_case(case: &Case) -> Option<OldCase> {
     let [only] = &case.set[..] else {
         return None;
     };
     Some(OldCase {
         outline: case.outline.clone(),
-        first: case.first.iter().map(row).collect(),
-        second: only.iter().map(row).collect(),
+        first: case.first.iter().map(row).collect::<Option<_>>()?,
+        second: only.iter().map(row).collect::<Option<_>>()?,
         positions: case.positions,
     })
 }
 
 impl OldCase {
-    /// The case that it is today, with "a set of one".
+    /// The case that it is today, with "a set of one" and figures of 0.
     pub fn with_set_of_one(&self) -> Case {
         Case {
             outline: self.outline.clone(),
@@ -121,16 +122,19 @@ fn node(&[parent, label, edge, position]: &Row) -> SelectionNode {
         label,
         descendant: edge == 1,
         position: position.into(),
+        figure: 0,
     }
 }
 
-fn row(node: &SelectionNode) -> Row {
-    [
+/// `None` where the old form has no place for what is asked.
+fn row(node: &SelectionNode) -> Option<Row> {
+    let row = [
         node.parent as u16,
         node.label,
         node.descendant.into(),
         node.position as u16,
-    ]
+    ];
+    (node.figure == 0).then_some(row)
 }
 
 #[cfg(test)]
@@ -215,13 +219,22 @@ mod tests {
     #[test]
     fn a_set_of_one_and_no_other_goes_back() {
         let old = bytes(&[&OUTLINE[..], &SELECTION, &SELECTION].concat());
-        let today = bytes(&[&OUTLINE[..], &SELECTION, &[1], &SELECTION].concat());
+        let figured = [&SELECTION[..], &[0]].concat();
+        let today = bytes(&[&OUTLINE[..], &figured, &[1], &figured].concat());
         let read = read_old_case(&old).unwrap();
         assert_eq!(read.bytes(), old);
         assert_eq!(read.with_set_of_one().bytes(), today);
         let mut case = read_case(&today).unwrap();
         assert_eq!(case, read.with_set_of_one());
         assert_eq!(old_case(&case), Some(read));
+        for figure in [1, 2_000] {
+            let mut asking = case.clone();
+            asking.first[0].figure = figure;
+            assert_eq!(old_case(&asking), None);
+            let mut asking = case.clone();
+            asking.set[0][0].figure = figure;
+            assert_eq!(old_case(&asking), None);
+        }
         case.set.push(case.first.clone());
         assert_eq!(old_case(&case), None);
         case.set.clear();

@@ -1,4 +1,4 @@
-//! Sections and records, and the questions 3 to 8, 10 and 14 about them.
+//! Sections and records, and the questions 3 to 8, 10, 14 and 17 about them.
 
 use std::iter;
 
@@ -14,6 +14,8 @@ pub const SET_SELECTIONS: usize = 8;
 pub const VOLUME_NODES: usize = 1_024;
 /// "k (1 to 8) hold the positions 1 to k"
 pub const POSITIONS: u16 = 8;
+/// "17, a figure above 2,000"
+pub const FIGURE_MOST: u16 = 2_000;
 
 /// "outline records (parent, label, strong 0 or 1)"
 #[derive(Clone, Debug, PartialEq, Eq)]
@@ -24,7 +26,8 @@ pub struct OutlineNode {
     pub strong: bool,
 }
 
-/// "records (parent, label, edge 0 child or 1 descendant, position or 0)"
+/// "records (parent, label, edge 0 child or 1 descendant, position or 0)", which gain
+/// "as last field [...] the least figure they accept".
 #[derive(Clone, Debug, PartialEq, Eq)]
 pub struct SelectionNode {
     pub parent: usize,
@@ -33,16 +36,20 @@ pub struct SelectionNode {
     pub descendant: bool,
     /// 0 where the node holds none.
     pub position: usize,
+    /// The least figure accepted.
+    pub figure: u16,
 }
 
-/// "A volume is one section of records (parent, label)."
+/// "A volume is one section of records (parent, label)", which "gain the figure as
+/// last field".
 #[derive(Clone, Debug, PartialEq, Eq)]
 pub struct VolumeNode {
     pub parent: usize,
     pub label: u16,
+    pub figure: u16,
 }
 
-/// A case that questions 3 to 8 do not refuse.
+/// A case that questions 3 to 8, 14 and 17 do not refuse.
 #[derive(Clone, Debug, PartialEq, Eq)]
 pub struct Case {
     pub outline: Vec<OutlineNode>,
@@ -85,8 +92,8 @@ pub fn ask(number: u64, yes: bool) -> Result<(), u64> {
     }
 }
 
-/// Questions 3 to 8, and 14 "right after question 4", each asked of the whole
-/// case before the next one.
+/// Questions 3 to 8, 14 "right after question 4" and 17 "after question 7", each
+/// asked of the whole case before the next one.
 pub fn read_case(bytes: &[u8]) -> Result<Case, u64> {
     let (outline, first, set) = case_sections(bytes).ok_or(3u64)?;
     let selections = || iter::once(&first).chain(&set);
@@ -97,6 +104,7 @@ pub fn read_case(bytes: &[u8]) -> Result<Case, u64> {
     ask(5, outline_rules(&outline))?;
     ask(6, siblings_differ(&outline))?;
     ask(7, selections().all(|rows| selection_rules(rows)))?;
+    ask(17, selections().all(|rows| figures_right(rows)))?;
     let positions = common_positions(&first, &set).ok_or(8u64)?;
     Ok(Case {
         outline: outline.iter().map(outline_node).collect(),
@@ -106,8 +114,8 @@ pub fn read_case(bytes: &[u8]) -> Result<Case, u64> {
     })
 }
 
-/// Question 10: "Is the volume whole, nothing after, with 1 to 1,024 nodes,
-/// parents by the rule and labels not 0?"
+/// Question 10, "Is the volume whole, nothing after, with 1 to 1,024 nodes,
+/// parents by the rule and labels not 0?", and then 17.
 pub fn read_volume(bytes: &[u8]) -> Result<Vec<VolumeNode>, u64> {
     let rows = volume_section(bytes).ok_or(10u64)?;
     ask(10, (1..=VOLUME_NODES).contains(&rows.len()))?;
@@ -116,6 +124,7 @@ pub fn read_volume(bytes: &[u8]) -> Result<Vec<VolumeNode>, u64> {
         .enumerate()
         .all(|(number, row)| parent_rule(number, row[0]) && row[1] != 0);
     ask(10, rules)?;
+    ask(17, figures_right(&rows))?;
     Ok(rows.iter().map(volume_node).collect())
 }
 
@@ -135,13 +144,14 @@ pub fn holder(selection: &[SelectionNode], position: usize) -> Option<usize> {
 }
 
 /// The nodes of records that question 7 does not refuse.
-pub fn selection_nodes(rows: &[[u16; 4]]) -> Vec<SelectionNode> {
+pub fn selection_nodes(rows: &[[u16; 5]]) -> Vec<SelectionNode> {
     rows.iter()
-        .map(|&[parent, label, edge, position]| SelectionNode {
+        .map(|&[parent, label, edge, position, figure]| SelectionNode {
             parent: parent.into(),
             label,
             descendant: edge == 1,
             position: position.into(),
+            figure,
         })
         .collect()
 }
@@ -183,7 +193,7 @@ pub(crate) fn section_bytes<const N: usize>(
     fields.flat_map(u16::to_le_bytes).collect()
 }
 
-type SelectionRows = Vec<[u16; 4]>;
+type SelectionRows = Vec<[u16; 5]>;
 type CaseSections = (Vec<[u16; 3]>, SelectionRows, Vec<SelectionRows>);
 
 /// Question 3: "Has the case at most 65,536 bytes, every count and announced
@@ -202,7 +212,7 @@ fn case_sections(bytes: &[u8]) -> Option<CaseSections> {
     fields.rest.is_empty().then_some((outline, first, set))
 }
 
-fn volume_section(bytes: &[u8]) -> Option<Vec<[u16; 2]>> {
+fn volume_section(bytes: &[u8]) -> Option<Vec<[u16; 3]>> {
     let mut fields = Fields { rest: bytes };
     let rows = fields.section()?;
     fields.rest.is_empty().then_some(rows)
@@ -243,17 +253,22 @@ pub(crate) fn siblings_differ(rows: &[[u16; 3]]) -> bool {
 }
 
 /// Question 7, for one selection. A selection's label is any number.
-fn selection_rules(rows: &[[u16; 4]]) -> bool {
+fn selection_rules(rows: &[[u16; 5]]) -> bool {
     rows.iter()
         .enumerate()
-        .all(|(number, &[parent, _, edge, position])| {
+        .all(|(number, &[parent, _, edge, position, _])| {
             parent_rule(number, parent) && flag_rule(number, edge) && position <= POSITIONS
         })
 }
 
+/// Question 17, for one selection or a volume: the figure is the last field.
+fn figures_right<const N: usize>(rows: &[[u16; N]]) -> bool {
+    rows.iter().all(|row| row[N - 1] <= FIGURE_MOST)
+}
+
 /// Question 8: k, if "each selection [has] the positions 1 to k once each, k
 /// at least 1", the same k in the first and in all members.
-fn common_positions(first: &[[u16; 4]], set: &[SelectionRows]) -> Option<usize> {
+fn common_positions(first: &[[u16; 5]], set: &[SelectionRows]) -> Option<usize> {
     let held = held_positions(first);
     let from_one = held
         .iter()
@@ -264,7 +279,7 @@ fn common_positions(first: &[[u16; 4]], set: &[SelectionRows]) -> Option<usize> 
 }
 
 /// The positions that are held, ascending, each as often as it is.
-fn held_positions(rows: &[[u16; 4]]) -> Vec<u16> {
+fn held_positions(rows: &[[u16; 5]]) -> Vec<u16> {
     let mut held: Vec<u16> = rows.iter().map(|row| row[3]).filter(|&p| p != 0).collect();
     held.sort_unstable();
     held
@@ -282,20 +297,26 @@ pub(crate) fn outline_row(node: &OutlineNode) -> [u16; 3] {
     [node.parent as u16, node.label, node.strong.into()]
 }
 
-pub(crate) fn selection_row(node: &SelectionNode) -> [u16; 4] {
+pub(crate) fn selection_row(node: &SelectionNode) -> [u16; 5] {
     [
         node.parent as u16,
         node.label,
         node.descendant.into(),
         node.position as u16,
+        node.figure,
     ]
 }
 
-fn volume_node(&[parent, label]: &[u16; 2]) -> VolumeNode {
+pub(crate) fn volume_node(&[parent, label, figure]: &[u16; 3]) -> VolumeNode {
     VolumeNode {
         parent: parent.into(),
         label,
+        figure,
     }
+}
+
+pub(crate) fn volume_row(node: &VolumeNode) -> [u16; 3] {
+    [node.parent as u16, node.label, node.figure]
 }
 
 #[cfg(test)]
@@ -311,7 +332,7 @@ mod tests {
 
     /// An outline of one node, and a selection of one node with position 1.
     const OUTLINE: [u16; 4] = [1, 0, 1, 0];
-    const SELECTION: [u16; 5] = [1, 0, 1, 0, 1];
+    const SELECTION: [u16; 6] = [1, 0, 1, 0, 1, 0];
 
     fn refused(parts: &[&[u16]]) -> u64 {
         read_case(&bytes(&parts.concat())).err().unwrap_or(0)
@@ -329,10 +350,10 @@ mod tests {
 
     #[test]
     fn a_case_of_65536_bytes_is_not_too_long() {
-        let mut fields = vec![3];
-        fields.extend([0; 9]);
-        fields.push(8_189);
-        fields.extend(vec![0; 8_189 * 4]);
+        let mut fields = vec![5];
+        fields.extend([0; 15]);
+        fields.push(6_550);
+        fields.extend(vec![0; 6_550 * 5]);
         fields.push(0);
         let mut case = bytes(&fields);
         assert_eq!(case.len(), 65_536);
@@ -343,22 +364,50 @@ mod tests {
 
     #[test]
     fn as_many_sections_are_read_as_announced() {
-        let empty = [0; 32_758];
+        let empty = [0; 32_757];
         let whole = |count: u16| refused(&[&OUTLINE, &SELECTION, &[count], &empty]);
-        assert_eq!(2 * (4 + 5 + 1 + empty.len()), 65_536);
-        assert_eq!(whole(32_758), 4);
-        assert_eq!(whole(32_757), 3);
-        assert_eq!(whole(32_759), 3);
+        assert_eq!(2 * (4 + 6 + 1 + empty.len()), 65_536);
+        assert_eq!(whole(32_757), 4);
+        assert_eq!(whole(32_756), 3);
+        assert_eq!(whole(32_758), 3);
         assert_eq!(whole(u16::MAX), 3);
     }
 
     #[test]
     fn question_7_is_asked_of_all_selections_before_question_8_of_any() {
-        let (none, ninth) = ([1, 0, 1, 0, 0], [1, 0, 1, 0, 9]);
+        let (none, ninth) = ([1, 0, 1, 0, 0, 0], [1, 0, 1, 0, 9, 0]);
         assert_eq!(refused(&[&OUTLINE, &none, &[1], &ninth]), 7);
         assert_eq!(refused(&[&OUTLINE, &none, &[2], &SELECTION, &ninth]), 7);
         assert_eq!(refused(&[&OUTLINE, &SELECTION, &[2], &none, &ninth]), 7);
         assert_eq!(refused(&[&OUTLINE, &SELECTION, &[2], &SELECTION, &none]), 8);
+    }
+
+    #[test]
+    fn question_17_is_a_pass_of_its_own_between_7_and_8() {
+        let (none, ninth) = ([1, 0, 1, 0, 0, 0], [1, 0, 1, 0, 9, 0]);
+        let figure = |figure| [1, 0, 1, 0, 1, figure];
+        let high = figure(FIGURE_MOST + 1);
+        assert_eq!(refused(&[&OUTLINE, &high, &[2], &SELECTION, &ninth]), 7);
+        assert_eq!(refused(&[&OUTLINE, &none, &[2], &SELECTION, &high]), 17);
+        assert_eq!(refused(&[&OUTLINE, &SELECTION, &[2], &high, &none]), 17);
+        for (number, refusal) in [(0, 0), (2_000, 0), (2_001, 17), (u16::MAX, 17)] {
+            let (one, good) = (figure(number), &SELECTION);
+            assert_eq!(refused(&[&OUTLINE, &one, &[2], good, good]), refusal);
+            assert_eq!(refused(&[&OUTLINE, good, &[2], &one, good]), refusal);
+            assert_eq!(refused(&[&OUTLINE, good, &[2], good, &one]), refusal);
+        }
+    }
+
+    #[test]
+    fn question_10_is_about_the_whole_volume_before_17_about_any_of_it() {
+        let refused = |fields: &[u16]| read_volume(&bytes(fields)).err().unwrap_or(0);
+        assert_eq!(refused(&[2, 0, 1, 2_000, 0, 1, 0]), 0);
+        assert_eq!(refused(&[2, 0, 1, 2_001, 0, 1, 0]), 17);
+        assert_eq!(refused(&[2, 0, 1, 0, 0, 1, u16::MAX]), 17);
+        assert_eq!(refused(&[2, 0, 1, 2_001, 0, 0, 0]), 10);
+        assert_eq!(refused(&[2, 0, 1, 2_001, 0, 1]), 10);
+        // Records of two fields, as they were.
+        assert_eq!(refused(&[2, 0, 1, 0, 1]), 10);
     }
 
     #[test]
@@ -369,7 +418,7 @@ mod tests {
 
     #[test]
     fn selections_are_numbered_from_the_first_on() {
-        let labels = [7, 8, 9].map(|label| [1, 0, label, 0, 1]);
+        let labels = [7, 8, 9].map(|label| [1, 0, label, 0, 1, 0]);
         let [first, one, two] = &labels;
         let case = bytes(&[&OUTLINE, &first[..], &[2], one, two].concat());
         let case = read_case(&case).unwrap();

@@ -164,12 +164,13 @@ impl Vector {
                     parent: filling,
                     outline: filling,
                     label: filling,
+                    figure: filling,
                 };
                 let mut table = vec![record; self.length as usize];
                 let got = calls::layout(&self.case, self.selection, &self.list, &mut table);
                 let bytes: Vec<u8> = table
                     .iter()
-                    .flat_map(|record| [record.parent, record.outline, record.label])
+                    .flat_map(|record| [record.parent, record.outline, record.label, record.figure])
                     .flat_map(u16::to_le_bytes)
                     .collect();
                 let seen = seen(&bytes, table.len());

@@ -14,11 +14,12 @@ use lib.Seq.{getD-take, getD-drop, getD-set-same, getD-set-other, length-take-le
 use borrow.Author.Count.{below-more}
 use borrow.Author.Tests.{eqb-true, eqb-false, eq-eqb, ne-eqb}
 use Rattle.model.specs.Lists.{upFrom, has, members}
-use Rattle.model.specs.Pattern.{Pattern, noPatternRecord, patternParent, descends, position}
+use Rattle.model.specs.Pattern.{Pattern, noPatternRecord, patternParent, descends}
 use Rattle.model.proofs.ListLaws.{not-both, and-intro, and-left, and-right, keep-elim, keep-intro, mem-upFrom}
 use Rattle.bits.proofs.MaskLaws.{has-none, has-and}
 use Rattle.cover.specs.Cover.{Inside, Within, Among}
 use Rattle.judging.specs.Blocks.{cell, childIn, belowIn, partIn, candidatesIn}
+use Rattle.judging.specs.Judging.{nobody}
 use Rattle.judging.specs.Prepared.{Made}
 use Rattle.judging.specs.Skipping.{PlacedBy}
 use Rattle.judging.specs.Stepping.{Candidates, reachBy, placesBy}
@@ -74,10 +75,6 @@ module _ {n : ℕ} {alts : List (List ℕ)} {P : Pattern} {c y : ℕ} where
       → (r ≤ 64) × ((f : ℕ → ℕ → Bool) → Among n list count f → (patternParent P d ≡ c → Entry n alts d y f) → Among n after r f) → Owning n alts P c y after r
   owning-step {d = d} v h l a = record { few = a .0; covers = λ f e. a .1 f (v .covers f e) (e d h l) }
 
--- what is raised at the same position
-pub raises-at : {n : ℕ} (ts : List (List ℕ)) (x : ℕ) {k j : ℕ} {g f : ℕ → ℕ → Bool} → k ≡ j → Raises n (nodeOf ts x j) g f → Raises n (nodeOf ts x k) g f
-raises-at {n} ts x {k} {j} {g} {f} e R = subst (λ (i : ℕ). Raises n (nodeOf ts x i) g f) (sym e) R
-
 -- ---- what node c offers to the node above y
 
 -- in a whole embedding a node stands at a place of its parent's: one of its paths, which its edge reaches
@@ -113,7 +110,7 @@ module _ {ts : List (List ℕ)} {m : List ℕ} {P : Pattern} {alts : List (List 
 
   -- it stands at y
   pub own-covered : (c y : ℕ) → 0 < c → c < length P → y < 64 → {sets : List (List ℕ)} {r : ℕ}
-      → ((g f : ℕ → ℕ → Bool) → Raises (length ts) (nodeOf ts y (position P c)) g f → ((d : ℕ) → c < d → d < length P → patternParent P d ≡ c → Entry (length ts) alts d y g) → Among (length ts) sets r f)
+      → ((g f : ℕ → ℕ → Bool) → Raises (length ts) (nodeOf ts y c) g f → ((d : ℕ) → c < d → d < length P → patternParent P d ≡ c → Entry (length ts) alts d y g) → Among (length ts) sets r f)
       → Covered ts m P c y (At y) sets r
   own-covered c y z h w a =
       record {
@@ -123,7 +120,7 @@ module _ {ts : List (List ℕ)} {m : List ℕ} {P : Pattern} {alts : List (List 
 
   -- it stands below
   pub below-covered : (c y : ℕ) → 0 < c → c < length P → c < 16 → y < 64 → {sets : List (List ℕ)} {r : ℕ}
-      → ((g f : ℕ → ℕ → Bool) → Raises (length ts) (nodeOf ts y 0) g f → Entry (length ts) alts c y g → Among (length ts) sets r f)
+      → ((g f : ℕ → ℕ → Bool) → Raises (length ts) (nodeOf ts y nobody) g f → Entry (length ts) alts c y g → Among (length ts) sets r f)
       → Covered ts m P c y (FarBelow m P c y) sets r
   below-covered c y z h s w a =
       record {

@@ -11,10 +11,10 @@ use lib.ListN.{length, getD}
 use Rattle.model.specs.Lists.{maskBelow, has}
 use Rattle.model.specs.Tree.{Child, Below, AtOrBelow}
 use Rattle.model.specs.Summary.{Summary, asDocument}
-use Rattle.model.specs.Pattern.{Pattern, patternParent, descends, position, Embeds}
+use Rattle.model.specs.Pattern.{Pattern, patternParent, descends, Embeds}
 use Rattle.model.specs.Embeddings.{imageIn, childTest, belowTest, edgeTest}
 use Rattle.model.specs.Canonical.{chain}
-use Rattle.model.specs.Quick.{offers, closed, union, hang, given, settled}
+use Rattle.model.specs.Quick.{Held, heldBy, unheld, offers, closed, union, hang, given, settled}
 use Rattle.model.proofs.ListLaws.{any-below, below-any}
 use Rattle.model.proofs.Masks.{mask-below}
 use Rattle.model.proofs.TreeLaws.{test-edge, edge-below, test-child, child-test, test-below, below-test, below-inside, length-asDocument}
@@ -22,7 +22,7 @@ use Rattle.model.proofs.Chains.{first-step, child-below, chain-step, chain-self
 use Rattle.model.proofs.QuickLaws.{hold, hang-nil, hang-cons, given-intro}
 use Rattle.cover.specs.Cover.{Inside}
 use Rattle.judging.specs.Blocks.{childIn, belowIn, lastIn, setsIn, candidatesIn}
-use Rattle.judging.specs.Judging.{Sets, nodeBy, hangBy, passBy, givenBy, rootBy, judgeBy}
+use Rattle.judging.specs.Judging.{nobody, Sets, nodeBy, hangBy, passBy, givenBy, rootBy, judgeBy}
 use Rattle.judging.specs.Prepared.{Made}
 use Rattle.judging.specs.Skipping.{PlacedBy}
 use Rattle.judging.specs.Stepping.{Candidates, reachBy}
@@ -95,17 +95,17 @@ module _ {ts : List (List ℕ)} {m : List ℕ} {P : Pattern} (R : Made ts m P) w
     embeds = placed-embeds S P M (R .steps) (R .facts) (R .tree) (R .narrow) es G
 
     given-is : (i j : ℕ) → i < length ts → j < length P → getD (givenBy (T i) P es) j 0 ≡ maskBelow (given S P (Q i) es j) (length (Q i))
-    given-is i j h k = given-mask S P (Q i) (T i) (R .chains i h) (R .facts .tree) (R .tree) (R .small) (R .range) es embeds j k
+    given-is i j h k = given-mask S P (Q i) (T i) (R .chains i h) (R .facts .tree) (R .tree) (R .small) es embeds j k
 
     -- what node c offers on x
     abbrev chained : ℕ → ℕ → ℕ → ℕ → Bool
-    chained i c x = hang S (Q i) (position P c) (given S P (Q i) es c) (chain S x (imageIn es c))
+    chained i c x = hang S (Q i) (heldBy P c) (given S P (Q i) es c) (chain S x (imageIn es c))
 
     offered-is : (i c x : ℕ) → i < length ts → c < length P → Below (asDocument S) x (imageIn es c)
-        → hangBy (T i) x (imageIn es c) (position P c) (getD (givenBy (T i) P es) c 0) ≡ maskBelow (chained i c x) (length (Q i))
+        → hangBy (T i) x (imageIn es c) c (getD (givenBy (T i) P es) c 0) ≡ maskBelow (chained i c x) (length (Q i))
     offered-is i c x h k d =
-        ap (hangBy (T i) x (imageIn es c) (position P c)) (given-is i c h k)
-        ∙ hang-mask S (Q i) (T i) (R .chains i h) (R .facts .tree) x (imageIn es c) (position P c) (given S P (Q i) es c) d (R .range c k)
+        ap (hangBy (T i) x (imageIn es c) c) (given-is i c h k)
+        ∙ hang-mask S (Q i) (T i) (R .chains i h) (R .facts .tree) x (imageIn es c) c (heldBy P c) (given S P (Q i) es c) d (R .chains i h .node .may c k)
 
     -- a set inside what is given, or offered, as numbers
     given-sub : (a : List ℕ) (j : ℕ) → j < length P → Inside (length ts) a (givenOf ts P es j) → (i : ℕ) → i < length ts → Subset (getD a i 0) (maskBelow (given S P (Q i) es j) (length (Q i)))
@@ -142,11 +142,11 @@ module _ {ts : List (List ℕ)} {m : List ℕ} {P : Pattern} (R : Made ts m P) w
 
     -- node c stands on y, a child of x, and a hangs from it
     pub own-offered : (c x y : ℕ) → 0 < c → c < length P → x < length S → has (childIn m x) y ≡ true → imageIn es c ≡ y → (a b : List ℕ) → Inside (length ts) a (givenOf ts P es c)
-        → ((i : ℕ) → i < length ts → getD b i 0 ≡ nodeBy (T i) y (position P c) (getD a i 0)) → Inside (length ts) b (offeredOf ts P es c x)
+        → ((i : ℕ) → i < length ts → getD b i 0 ≡ nodeBy (T i) y c (getD a i 0)) → Inside (length ts) b (offeredOf ts P es c x)
     own-offered c x y z h l e q a b I made =
         sub-offered b c x h (subst (λ (v : ℕ). Below (asDocument S) x v) (sym q) (child-below k (inl refl)))
         (λ i w p f. subst (λ (u : ℕ). has u p ≡ true) (ap (λ (g : ℕ → Bool). maskBelow g (length (Q i))) (sym (chains i)))
-        (node-sub S (Q i) (T i) (R .chains i w) y (position P c) (getD a i 0) (given S P (Q i) es c) inside (R .range c h) (given-sub a c h I i w) p (ap (λ (u : ℕ). has u p) (sym (made i w)) ∙ f)))
+        (node-sub S (Q i) (T i) (R .chains i w) y c (heldBy P c) (getD a i 0) (given S P (Q i) es c) inside (R .chains i w .node .may c h) (given-sub a c h I i w) p (ap (λ (u : ℕ). has u p) (sym (made i w)) ∙ f)))
       where
         k : Child (asDocument S) x y
         k = by-child x y l e
@@ -154,19 +154,19 @@ module _ {ts : List (List ℕ)} {m : List ℕ} {P : Pattern} (R : Made ts m P) w
         inside : y < length S
         inside = child-inside x y l e
 
-        chains : (i : ℕ) → chained i c x ≡ offers S (Q i) y (position P c) (union (closed S (Q i) y) (given S P (Q i) es c))
+        chains : (i : ℕ) → chained i c x ≡ offers S (Q i) y (heldBy P c) (union (closed S (Q i) y) (given S P (Q i) es c))
         chains i =
             let g = given S P (Q i) es c in
-            ap (hang S (Q i) (position P c) g) (ap (chain S x) q ∙ chain-step S x y y (R .facts .tree) k (inl refl) ∙ ap (λ (zs : List ℕ). y ∷ zs) (chain-self S y))
-            ∙ hang-cons S (Q i) (position P c) g y [] ∙ ap (λ (f : ℕ → Bool). offers S (Q i) y (position P c) (union (closed S (Q i) y) f)) (hang-nil S (Q i) (position P c) g)
+            ap (hang S (Q i) (heldBy P c) g) (ap (chain S x) q ∙ chain-step S x y y (R .facts .tree) k (inl refl) ∙ ap (λ (zs : List ℕ). y ∷ zs) (chain-self S y))
+            ∙ hang-cons S (Q i) (heldBy P c) g y [] ∙ ap (λ (f : ℕ → Bool). offers S (Q i) y (heldBy P c) (union (closed S (Q i) y) f)) (hang-nil S (Q i) (heldBy P c) g)
 
     -- node c stands below y, a child of x, and a is offered on y
     pub below-offered : (c x y : ℕ) → 0 < c → c < length P → x < length S → has (childIn m x) y ≡ true → has (belowIn m y) (imageIn es c) ≡ true → (a b : List ℕ) → Inside (length ts) a (offeredOf ts P es c y)
-        → ((i : ℕ) → i < length ts → getD b i 0 ≡ nodeBy (T i) y 0 (getD a i 0)) → Inside (length ts) b (offeredOf ts P es c x)
+        → ((i : ℕ) → i < length ts → getD b i 0 ≡ nodeBy (T i) y nobody (getD a i 0)) → Inside (length ts) b (offeredOf ts P es c x)
     below-offered c x y z h l e q a b I made =
         sub-offered b c x h (child-below k (inr d))
         (λ i w p f. subst (λ (u : ℕ). has u p ≡ true) (ap (λ (g : ℕ → Bool). maskBelow g (length (Q i))) (sym (chains i)))
-        (node-sub S (Q i) (T i) (R .chains i w) y 0 (getD a i 0) (chained i c y) inside (omega arith) (offered-sub a c y h d I i w) p (ap (λ (u : ℕ). has u p) (sym (made i w)) ∙ f)))
+        (node-sub S (Q i) (T i) (R .chains i w) y nobody unheld (getD a i 0) (chained i c y) inside (R .chains i w .node .free) (offered-sub a c y h d I i w) p (ap (λ (u : ℕ). has u p) (sym (made i w)) ∙ f)))
       where
         k : Child (asDocument S) x y
         k = by-child x y l e
@@ -177,14 +177,14 @@ module _ {ts : List (List ℕ)} {m : List ℕ} {P : Pattern} (R : Made ts m P) w
         d : Below (asDocument S) y (imageIn es c)
         d = let r = in-mask (belowTest (asDocument S) y) (length S) (imageIn es c) (ap (λ (u : ℕ). has u (imageIn es c)) (sym (R .steps .below y inside)) ∙ q) in test-below (asDocument S) y (imageIn es c) (R .facts .tree) (r .1)
 
-        none : (n : ℕ) → hold n (chain S y (imageIn es c)) ≡ 0
-        none n = let r = first-step d in ap (hold n) (chain-step S y (r .0) (imageIn es c) (R .facts .tree) (r .1) (r .2))
+        none : (w : Held) → hold w (chain S y (imageIn es c)) ≡ unheld
+        none w = let r = first-step d in ap (hold w) (chain-step S y (r .0) (imageIn es c) (R .facts .tree) (r .1) (r .2))
 
-        chains : (i : ℕ) → chained i c x ≡ offers S (Q i) y 0 (union (closed S (Q i) y) (chained i c y))
+        chains : (i : ℕ) → chained i c x ≡ offers S (Q i) y unheld (union (closed S (Q i) y) (chained i c y))
         chains i =
             let g = given S P (Q i) es c in
-            ap (hang S (Q i) (position P c) g) (chain-step S x y (imageIn es c) (R .facts .tree) k (inr d))
-            ∙ hang-cons S (Q i) (position P c) g y (chain S y (imageIn es c)) ∙ ap (λ (n : ℕ). offers S (Q i) y n (union (closed S (Q i) y) (chained i c y))) (none (position P c))
+            ap (hang S (Q i) (heldBy P c) g) (chain-step S x y (imageIn es c) (R .facts .tree) k (inr d))
+            ∙ hang-cons S (Q i) (heldBy P c) g y (chain S y (imageIn es c)) ∙ ap (λ (w : Held). offers S (Q i) y w (union (closed S (Q i) y) (chained i c y))) (none (heldBy P c))
 
     -- a hangs from node c, which is placed as in fs, and so is its parent
     pub passed-given : (fs : List ℕ) (c : ℕ) → 0 < c → c < length P → getD es c 0 ≡ getD fs c 0 → getD es (patternParent P c) 0 ≡ getD fs (patternParent P c) 0 → (a b : List ℕ) → Inside (length ts) a (givenOf ts P es c)
@@ -193,19 +193,19 @@ module _ {ts : List (List ℕ)} {m : List ℕ} {P : Pattern} (R : Made ts m P) w
     passed-given fs c z h q r a b I made =
         offered-given c z h b
         (sub-offered b c (imageIn es (up c)) h (above c z h)
-        (λ i k p f. hang-sub S (Q i) (T i) (R .chains i k) (R .facts .tree) (imageIn es (up c)) (imageIn es c) (position P c) (getD a i 0) (given S P (Q i) es c) (above c z h) (R .range c h) (given-sub a c h I i k) p
-        (ap (λ (u : ℕ). has u p) (ap₂ (λ (x y : ℕ). hangBy (T i) x y (position P c) (getD a i 0)) r q ∙ sym (made i k)) ∙ f)))
+        (λ i k p f. hang-sub S (Q i) (T i) (R .chains i k) (R .facts .tree) (imageIn es (up c)) (imageIn es c) c (heldBy P c) (getD a i 0) (given S P (Q i) es c) (above c z h) (R .chains i k .node .may c h) (given-sub a c h I i k) p
+        (ap (λ (u : ℕ). has u p) (ap₂ (λ (x y : ℕ). hangBy (T i) x y c (getD a i 0)) r q ∙ sym (made i k)) ∙ f)))
 
     -- a hangs from the root, and the root of some member meets by it
-    pub met-passes : (a : List ℕ) → Inside (length ts) a (givenOf ts P es 0) → metBySome ts P a ≡ true → judgedBySome ts P es ≡ true
+    pub met-passes : (a : List ℕ) → Inside (length ts) a (givenOf ts P es 0) → metBySome ts a ≡ true → judgedBySome ts P es ≡ true
     unfolding metBySome judgedBySome judgeBy
     met-passes a I e =
-        let r = any-below (λ i. rootBy (T i) P (getD a i 0)) (length ts) e in
+        let r = any-below (λ i. rootBy (T i) (getD a i 0)) (length ts) e in
         let i : ℕ = r .0 in
         let h : i < length ts = r .1 in
-        below-any (λ i. rootBy (T i) P (getD (givenBy (T i) P es) 0 0)) (length ts) i h
-        (ap (rootBy (T i) P) (given-is i 0 h (R .tree .inhabited))
-        ∙ root-sub S (Q i) (T i) (R .chains i h) P (R .facts .tree) (R .tree) (R .small) (R .range) (R .some i h) (getD a i 0) (given S P (Q i) es 0) (given-sub a 0 (R .tree .inhabited) I i h) (r .2))
+        below-any (λ i. rootBy (T i) (getD (givenBy (T i) P es) 0 0)) (length ts) i h
+        (ap (rootBy (T i)) (given-is i 0 h (R .tree .inhabited))
+        ∙ root-sub S (Q i) (T i) (R .chains i h) (R .facts .tree) (R .tree) (R .small) (R .some i h) (getD a i 0) (given S P (Q i) es 0) (given-sub a 0 (R .tree .inhabited) I i h) (r .2))
 
     -- what is settled before node q hangs there
     pub settled-inside : (q j : ℕ) (rows : List (List ℕ)) (a : List ℕ) → j < length P → RowsSettled ts m P q es rows → ((i : ℕ) → i < length ts → getD a i 0 ≡ getD (getD rows i []) j 0)
@@ -214,5 +214,5 @@ module _ {ts : List (List ℕ)} {m : List ℕ} {P : Pattern} (R : Made ts m P) w
         sub-given a j h
         (λ i k p e.
         let L = s .each i k .lasts in
-        mask-of-more (settled S P (Q i) (lastIn m) es q j) (given S P (Q i) es j) (length (Q i)) (settled-less S P (Q i) (T i) (R .chains i k) (R .facts .tree) (R .tree) (R .small) (R .range) es embeds (lastIn m) q L j) p
-        (ap (λ (u : ℕ). has u p) (sym (settled-mask S P (Q i) (T i) (R .chains i k) (R .facts .tree) (R .tree) (R .small) (R .range) es embeds (lastIn m) q L j h) ∙ ap (λ (l : List ℕ). getD l j 0) (sym (s .each i k .same)) ∙ sym (same i k)) ∙ e))
+        mask-of-more (settled S P (Q i) (lastIn m) es q j) (given S P (Q i) es j) (length (Q i)) (settled-less S P (Q i) (T i) (R .chains i k) (R .facts .tree) (R .tree) (R .small) es embeds (lastIn m) q L j) p
+        (ap (λ (u : ℕ). has u p) (sym (settled-mask S P (Q i) (T i) (R .chains i k) (R .facts .tree) (R .tree) (R .small) es embeds (lastIn m) q L j h) ∙ ap (λ (l : List ℕ). getD l j 0) (sym (s .each i k .same)) ∙ sym (same i k)) ∙ e))

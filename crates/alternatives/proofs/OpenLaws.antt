@@ -104,17 +104,17 @@ among-made {n} {F} {count} {sets} {made} {f} v room r =
 
 -- ---- a list is joined into another
 
-pub turned-join : {ts : List (List ℕ)} {P : Pattern} {j : ℕ} {Known : (ℕ → ℕ → Bool) → Type 0} {lists : List (List (List ℕ))} {counts : List ℕ} {list : List (List ℕ)} {r : ℕ}
+pub turned-join : {ts : List (List ℕ)} {j : ℕ} {Known : (ℕ → ℕ → Bool) → Type 0} {lists : List (List (List ℕ))} {counts : List ℕ} {list : List (List ℕ)} {r : ℕ}
     → j < length lists → j < length counts → r ≤ 64
-    → ((f : ℕ → ℕ → Bool) → Among (length ts) (getD lists j []) (getD counts j 0) f → Known f → Among (length ts) list r f ⊎ Met ts P (eqb j 0) f)
-    → Turned ts P j Known lists counts (set lists j list) (set counts j r)
-turned-join {ts} {P} {j} {Known} {lists} {counts} {list} {r} h k few joined =
+    → ((f : ℕ → ℕ → Bool) → Among (length ts) (getD lists j []) (getD counts j 0) f → Known f → Among (length ts) list r f ⊎ Met ts (eqb j 0) f)
+    → Turned ts j Known lists counts (set lists j list) (set counts j r)
+turned-join {ts} {j} {Known} {lists} {counts} {list} {r} h k few joined =
     let here : getD (set lists j list) j [] ≡ list = getD-set-same lists j list [] h in
     let many : getD (set counts j r) j 0 ≡ r = getD-set-same counts j r 0 k in
     record {
       few = subst (λ (n : ℕ). n ≤ 64) (sym many) few;
-      joined = λ f s w. subst (λ (l : List (List ℕ)). Among (length ts) l (getD (set counts j r) j 0) f ⊎ Met ts P (eqb j 0) f) (sym here)
-          (subst (λ (n : ℕ). Among (length ts) list n f ⊎ Met ts P (eqb j 0) f) (sym many) (joined f s w));
+      joined = λ f s w. subst (λ (l : List (List ℕ)). Among (length ts) l (getD (set counts j r) j 0) f ⊎ Met ts (eqb j 0) f) (sym here)
+          (subst (λ (n : ℕ). Among (length ts) list n f ⊎ Met ts (eqb j 0) f) (sym many) (joined f s w));
       others = λ i ne. (getD-set-other lists j i list [] ne, getD-set-other counts j i r 0 ne);
     }
 
@@ -150,7 +150,7 @@ module _ {ts : List (List ℕ)} {m : List ℕ} {P : Pattern} (R : Made ts m P) {
 
   module _ {lists : List (List (List ℕ))} {counts : List ℕ} (v : LeftOpen ts m P q es lists counts) where
     -- what is known of node j in each whole embedding was joined into its list
-    left-turned : {lists′ : List (List (List ℕ))} {counts′ : List ℕ} (j : ℕ) (Known : (ℕ → ℕ → Bool) → Type 0) → j < length P → Turned ts P j Known lists counts lists′ counts′
+    left-turned : {lists′ : List (List (List ℕ))} {counts′ : List ℕ} (j : ℕ) (Known : (ℕ → ℕ → Bool) → Type 0) → j < length P → Turned ts j Known lists counts lists′ counts′
         → ((fs : List ℕ) → Finishes P (candidatesIn m) q es fs → ((i : ℕ) → i < length P → Among (length ts) (getD lists i []) (getD counts i 0) (givenOf ts P fs i)) → Known (givenOf ts P fs j))
         → LeftOpen ts m P q es lists′ counts′
     left-turned {lists′} {counts′} j Known h t known = record { few = few; covered = λ fs F. go fs F (v .covered fs F) }
@@ -180,13 +180,13 @@ module _ {ts : List (List ℕ)} {m : List ℕ} {P : Pattern} (R : Made ts m P) {
         go fs F (inl e) = inl e
         go fs F (inr all) = next (t .joined (givenOf ts P fs j) (all j h) (known fs F all))
           where
-            next : Cover lists′ counts′ fs j ⊎ Met ts P (eqb j 0) (givenOf ts P fs j) → (judgedBySome ts P fs ≡ true) ⊎ ((i : ℕ) → i < length P → Cover lists′ counts′ fs i)
+            next : Cover lists′ counts′ fs j ⊎ Met ts (eqb j 0) (givenOf ts P fs j) → (judgedBySome ts P fs ≡ true) ⊎ ((i : ℕ) → i < length P → Cover lists′ counts′ fs i)
             next (inl new) = inr (others fs all new)
             next (inr (e, (a, I, w))) = inl (met-passes R fs (F .placed) a (subst (λ (x : ℕ). Inside (length ts) a (givenOf ts P fs x)) (eqb-true j 0 e) I) w)
 
     module _ {lists′ : List (List (List ℕ))} {counts′ : List ℕ} {c j : ℕ} (z : 0 < c) (h : c < length P) (p : j ≡ patternParent P c) where
       -- the turn of a node that is placed
-      pub left-placed : c < q → Turned ts P j (RaisedOf (length ts) (passOf ts P es c) (getD lists c []) (getD counts c 0)) lists counts lists′ counts′ → LeftOpen ts m P q es lists′ counts′
+      pub left-placed : c < q → Turned ts j (RaisedOf (length ts) (passOf ts P es c) (getD lists c []) (getD counts c 0)) lists counts lists′ counts′ → LeftOpen ts m P q es lists′ counts′
       left-placed k t =
           let l : j < c = parent-before R z h p in
           left-turned j (RaisedOf (length ts) (passOf ts P es c) (getD lists c []) (getD counts c 0)) (omega arith) t
@@ -198,7 +198,7 @@ module _ {ts : List (List ℕ)} {m : List ℕ} {P : Pattern} (R : Made ts m P) {
           })
 
       -- the turn of a node that is not, and whose parent is
-      pub left-open : {alts : List (List ℕ)} {x : ℕ} → c < 16 → x < 64 → j < q → x ≡ getD es j 0 → Table ts m P alts → Turned ts P j (Entry (length ts) alts c x) lists counts lists′ counts′ → LeftOpen ts m P q es lists′ counts′
+      pub left-open : {alts : List (List ℕ)} {x : ℕ} → c < 16 → x < 64 → j < q → x ≡ getD es j 0 → Table ts m P alts → Turned ts j (Entry (length ts) alts c x) lists counts lists′ counts′ → LeftOpen ts m P q es lists′ counts′
       left-open {alts} {x} n w k e T t =
           let l : j < c = parent-before R z h p in
           left-turned j (Entry (length ts) alts c x) (omega arith) t (λ fs F all.

@@ -38,8 +38,8 @@ module _ (P : Pattern) (tree : IsPatternTree P) {ts : List (List ℕ)} {m : List
 
 -- by the first column of the rows
 pub whole-met : (P : Pattern) (a : List ℕ) {ts : List (List ℕ)} {es : List ℕ} {rows : List (List ℕ)} → RowsWhole ts P es rows → ((i : ℕ) → i < length ts → getD a i 0 ≡ getD (getD rows i []) 0 0)
-    → judgedBySome ts P es ≡ metBySome ts P a
+    → judgedBySome ts P es ≡ metBySome ts a
 unfolding judgedBySome metBySome
 whole-met P a {ts} {es} w column =
-    any-agree (λ i. judgeBy (setsIn (getD ts i [])) P es) (λ i. rootBy (setsIn (getD ts i [])) P (getD a i 0)) (upFrom 0 (length ts))
-    (λ i k. (let h : i < length ts = (let u = upFrom-mem 0 (length ts) i k in omega arith) in w .each i h ∙ ap (rootBy (setsIn (getD ts i [])) P) (sym (column i h))))
+    any-agree (λ i. judgeBy (setsIn (getD ts i [])) P es) (λ i. rootBy (setsIn (getD ts i [])) (getD a i 0)) (upFrom 0 (length ts))
+    (λ i k. (let h : i < length ts = (let u = upFrom-mem 0 (length ts) i k in omega arith) in w .each i h ∙ ap (rootBy (setsIn (getD ts i []))) (sym (column i h))))

@@ -10,7 +10,7 @@ use lib.Bits.{bitAnd}
 use lib.Dec.{eqb}
 use lib.ListN.{length, getD, take}
 use Rattle.model.specs.Lists.{has}
-use Rattle.model.specs.Pattern.{Pattern, patternParent, descends, position}
+use Rattle.model.specs.Pattern.{Pattern, patternParent, descends}
 use Rattle.format.specs.Given.{patternAt, PatternGiven}
 use Rattle.cover.specs.Cover.{Inside, Among}
 use Rattle.judging.specs.Blocks.{cell, childIn, belowIn, setsIn, candidatesIn}
@@ -29,11 +29,11 @@ givenOf ts P es j i p = has (getD (givenBy (setsIn (getD ts i [])) P es) j 0) p
 
 -- what first-pattern node c and all below it offer to a node on x above it
 unfoldable pub offeredOf : List (List ℕ) → Pattern → List ℕ → ℕ → ℕ → ℕ → ℕ → Bool
-offeredOf ts P es c x i p = has (hangBy (setsIn (getD ts i [])) x (getD es c 0) (position P c) (getD (givenBy (setsIn (getD ts i [])) P es) c 0)) p
+offeredOf ts P es c x i p = has (hangBy (setsIn (getD ts i [])) x (getD es c 0) c (getD (givenBy (setsIn (getD ts i [])) P es) c 0)) p
 
 -- the root of some member meets at the root by these sets
-unfoldable pub metBySome : List (List ℕ) → Pattern → List ℕ → Bool
-metBySome ts P a = bySome (λ t i. rootBy (setsIn t) P (getD a i 0)) ts
+unfoldable pub metBySome : List (List ℕ) → List ℕ → Bool
+metBySome ts a = bySome (λ t i. rootBy (setsIn t) (getD a i 0)) ts
 
 -- ---- sets, member by member
 
@@ -41,7 +41,7 @@ metBySome ts P a = bySome (λ t i. rootBy (setsIn t) P (getD a i 0)) ts
 pub record RowBy (n : ℕ) (F : ℕ → ℕ → ℕ) (a b : List ℕ) : Type 0 where
   pub each : (i : ℕ) → i < n → getD b i 0 ≡ F i (getD a i 0)
 
--- what a node on x with position k makes of member i's set, and what first-pattern node c passes on of it
+-- what a node on x that k holds makes of member i's set, and what first-pattern node c passes on of it
 abbrev pub nodeOf : List (List ℕ) → ℕ → ℕ → ℕ → ℕ → ℕ
 nodeOf ts x k i = nodeBy (setsIn (getD ts i [])) x k
 
@@ -55,8 +55,8 @@ Raises n F g f = (a b : List ℕ) → Inside n a g → RowBy n F a b → Inside 
 -- ---- lists of sets
 
 -- at the root alone (`top`): sets are offered by which the root of some member meets
-abbrev pub Met : List (List ℕ) → Pattern → Bool → (ℕ → ℕ → Bool) → Type 0
-Met ts P top f = (top ≡ true) × ((a : List ℕ) × Inside (length ts) a f × (metBySome ts P a ≡ true))
+abbrev pub Met : List (List ℕ) → Bool → (ℕ → ℕ → Bool) → Type 0
+Met ts top f = (top ≡ true) × ((a : List ℕ) × Inside (length ts) a f × (metBySome ts a ≡ true))
 
 -- a list that still covers what it did
 pub record Grown (n : ℕ) (before : List (List ℕ)) (count : ℕ) (after : List (List ℕ)) (count′ : ℕ) : Type 0 where

@@ -28,4 +28,4 @@ pub record RowsFolded (ts : List (List ℕ)) (m : List ℕ) (P : Pattern) (q : �
 
 -- a whole embedding passes by a member exactly when the member's root meets by what hangs from it in its row
 pub record RowsWhole (ts : List (List ℕ)) (P : Pattern) (es : List ℕ) (rows : List (List ℕ)) : Type 0 where
-  pub each : (i : ℕ) → i < length ts → judgeBy (setsIn (getD ts i [])) P es ≡ rootBy (setsIn (getD ts i [])) P (getD (getD rows i []) 0 0)
+  pub each : (i : ℕ) → i < length ts → judgeBy (setsIn (getD ts i [])) P es ≡ rootBy (setsIn (getD ts i [])) (getD (getD rows i []) 0 0)

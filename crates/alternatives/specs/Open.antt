@@ -7,7 +7,6 @@ use mathlib.Core.Logic.{_⊎_}
 use mathlib.Core.List.{List, []}
 use lib.Dec.{eqb}
 use lib.ListN.{length, getD}
-use Rattle.model.specs.Pattern.{Pattern}
 use Rattle.format.specs.Given.{patternAt}
 use Rattle.cover.specs.Cover.{Among}
 use Rattle.judging.specs.Prepared.{Made}
@@ -36,8 +35,8 @@ pub record RaisedOf (n : ℕ) (F : ℕ → ℕ → ℕ) (sets : List (List ℕ))
   pub covers : Among n sets count base
 
 -- what is joined into node j's list covers what `Known` says so of; all other lists are as they were
-pub record Turned (ts : List (List ℕ)) (P : Pattern) (j : ℕ) (Known : (ℕ → ℕ → Bool) → Type 0) (lists : List (List (List ℕ))) (counts : List ℕ) (lists′ : List (List (List ℕ))) (counts′ : List ℕ) : Type 0 where
+pub record Turned (ts : List (List ℕ)) (j : ℕ) (Known : (ℕ → ℕ → Bool) → Type 0) (lists : List (List (List ℕ))) (counts : List ℕ) (lists′ : List (List (List ℕ))) (counts′ : List ℕ) : Type 0 where
   pub few : getD counts′ j 0 ≤ 64
   pub joined : (f : ℕ → ℕ → Bool) → Among (length ts) (getD lists j []) (getD counts j 0) f → Known f
-      → Among (length ts) (getD lists′ j []) (getD counts′ j 0) f ⊎ Met ts P (eqb j 0) f
+      → Among (length ts) (getD lists′ j []) (getD counts′ j 0) f ⊎ Met ts (eqb j 0) f
   pub others : (i : ℕ) → (i ≡ j → ⊥) → (getD lists′ i [] ≡ getD lists i []) × (getD counts′ i 0 ≡ getD counts i 0)

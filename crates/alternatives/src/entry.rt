@@ -14,10 +14,8 @@ ghost use mathlib.Core.Logic.{_⊎_};
 ghost use mathlib.Core.List.{[]};
 ghost use Prim.Native.Nat.{ℕ, _≤_, _<_};
 ghost use lib.ListN.{length, getD};
-ghost use Rattle.format.specs.Given.{patternAt};
 ghost use Rattle.cover.specs.Cover.{Among};
 ghost use Rattle.judging.specs.Blocks.{cell as cellOf};
-ghost use Rattle.judging.specs.Room.{MembersGiven};
 ghost use Rattle.alternatives.specs.Alternatives.{Met, startIn, manyIn, Entry, Roomy};
 
 // Entry k of the row of the cell of node c and x; 0 where the table has no such row.
@@ -53,23 +51,21 @@ pub fn many_at(alts: &[Offer], c: PatternNode, x: SummaryNode) -> usize
 pub fn join_entry(
     t: &[Member],
     alts: &[Offer],
-    p: &[u8],
-    at: usize,
     top: bool,
     d: PatternNode,
     y: SummaryNode,
     list: &mut List,
     count: usize,
 ) -> usize
-    requires { ⌜ MembersGiven (now t) (now p) at × Roomy (now alts) (d .0) (y .0) × (d .0 < 16) × (y .0 < 64) × (count ≤ 64) ⌝ }
+    requires { ⌜ (length (now t) ≤ 8) × Roomy (now alts) (d .0) (y .0) × (d .0 < 16) × (y .0 < 64) × (count ≤ 64) ⌝ }
     ensures { λ r. ⌜ (r ≤ 64) × ((f : ℕ → ℕ → Bool) → Among (length (now (t .entry))) (now (list .entry)) count f
         → Entry (length (now (t .entry))) (now (alts .entry)) (d .0) (y .0) f
-        → Among (length (now (t .entry))) (now (list .exit)) r f ⊎ Met (now (t .entry)) (patternAt (now (p .entry)) at) top f) ⌝ }
+        → Among (length (now (t .entry))) (now (list .exit)) r f ⊎ Met (now (t .entry)) top f) ⌝ }
 {
     let k = many_at(alts, d, y);
     if k == 0 {
         return count;
     }
     let s = start_at(alts, d, y);
-    join(t, p, at, top, list, count, &alts[s..s + k])
+    join(t, top, list, count, &alts[s..s + k])
 }

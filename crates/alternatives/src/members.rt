@@ -8,9 +8,7 @@ use judging::member::Member;
 ghost use mathlib.Core.Path.{_≡_};
 ghost use mathlib.Core.List.{[]};
 ghost use Prim.Native.Nat.{ℕ, _≤_, _<_};
-ghost use lib.ListN.{getD};
-ghost use Rattle.format.specs.Given.{patternAt};
-ghost use Rattle.judging.specs.Room.{MembersGiven};
+ghost use lib.ListN.{length, getD};
 ghost use Rattle.alternatives.specs.Alternatives.{metBySome};
 
 // What is settled at node j, of the first n members.
@@ -27,13 +25,13 @@ pub fn column(n: usize, rows: &Rows, j: PatternNode) -> Offer
 }
 
 // The root of some member meets at the root by these sets.
-pub fn met_by_some(t: &[Member], p: &[u8], at: usize, a: &Offer) -> bool
-    requires { ⌜ MembersGiven (now t) (now p) at ⌝ }
-    ensures { λ r. ⌜ r ≡ metBySome (now (t .entry)) (patternAt (now (p .entry)) at) (now (a .entry)) ⌝ }
+pub fn met_by_some(t: &[Member], a: &Offer) -> bool
+    requires { ⌜ length (now t) ≤ 8 ⌝ }
+    ensures { λ r. ⌜ r ≡ metBySome (now (t .entry)) (now (a .entry)) ⌝ }
 {
     let n = t.len();
     for i in 0..n {
-        if root(&t[i], p, at, a[i]) {
+        if root(&t[i], a[i]) {
             return true;
         }
     }

@@ -26,7 +26,7 @@ ghost use lib.ListN.{length, getD};
 ghost use Rattle.format.specs.Given.{patternAt};
 ghost use Rattle.judging.specs.Blocks.{candidatesIn};
 ghost use Rattle.judging.specs.Prepared.{Made};
-ghost use Rattle.judging.specs.Room.{MembersGiven, Steppable};
+ghost use Rattle.judging.specs.Room.{Steppable};
 ghost use Rattle.judging.specs.Skipping.{PlacedBy};
 ghost use Rattle.alternatives.specs.Alternatives.{RowBy, passOf, Roomy, Entry, Table, LeftOpen, AllCovered};
 ghost use Rattle.alternatives.specs.Members.{RowsSettled};
@@ -90,7 +90,7 @@ fn join_placed(
 )
     requires { ⌜ Steppable (now t) (now p) at (now images) × (0 < c .0) × (c .0 < length (patternAt (now p) at)) × (j .0 < c .0) ⌝ }
     requires { ⌜ (length (now lists) ≡ 16) × (length (now counts) ≡ 16) × (getD (now counts) (c .0) 0 ≤ 64) × (getD (now counts) (j .0) 0 ≤ 64) ⌝ }
-    ensures { λ _. ⌜ Turned (now (t .entry)) (patternAt (now (p .entry)) at) (j .0)
+    ensures { λ _. ⌜ Turned (now (t .entry)) (j .0)
         (RaisedOf (length (now (t .entry))) (passOf (now (t .entry)) (patternAt (now (p .entry)) at) (now (images .entry)) (c .0))
         (getD (now (lists .entry)) (c .0) []) (getD (now (counts .entry)) (c .0) 0))
         (now (lists .entry)) (now (counts .entry)) (now (lists .exit)) (now (counts .exit)) ⌝ }
@@ -100,28 +100,26 @@ fn join_placed(
     let k = counts[from];
     let mut made = [[0u16; 8]; 64];
     pass_list(t, p, at, images, c, &lists[from], k, &mut made);
-    counts[to] = join(t, p, at, to == 0, &mut lists[to], counts[to], &made[..k]);
+    counts[to] = join(t, to == 0, &mut lists[to], counts[to], &made[..k]);
 }
 
 // The turn of node c, which is not placed, and whose parent j stands at x: what is known of it there is joined into j's list.
 fn join_open(
     t: &[Member],
     alts: &[Offer],
-    p: &[u8],
-    at: usize,
     c: PatternNode,
     j: PatternNode,
     x: SummaryNode,
     lists: &mut [List],
     counts: &mut [usize],
 )
-    requires { ⌜ MembersGiven (now t) (now p) at × Roomy (now alts) (c .0) (x .0) × (c .0 < 16) × (x .0 < 64) × (j .0 < c .0) ⌝ }
+    requires { ⌜ (length (now t) ≤ 8) × Roomy (now alts) (c .0) (x .0) × (c .0 < 16) × (x .0 < 64) × (j .0 < c .0) ⌝ }
     requires { ⌜ (length (now lists) ≡ 16) × (length (now counts) ≡ 16) × (getD (now counts) (j .0) 0 ≤ 64) ⌝ }
-    ensures { λ _. ⌜ Turned (now (t .entry)) (patternAt (now (p .entry)) at) (j .0) (Entry (length (now (t .entry))) (now (alts .entry)) (c .0) (x .0))
+    ensures { λ _. ⌜ Turned (now (t .entry)) (j .0) (Entry (length (now (t .entry))) (now (alts .entry)) (c .0) (x .0))
         (now (lists .entry)) (now (counts .entry)) (now (lists .exit)) (now (counts .exit)) ⌝ }
 {
     let to = j.0;
-    counts[to] = join_entry(t, alts, p, at, to == 0, c, x, &mut lists[to], counts[to]);
+    counts[to] = join_entry(t, alts, to == 0, c, x, &mut lists[to], counts[to]);
 }
 
 // The turn of node c. Nothing is joined where its part is settled, since the lists begin with that, or where its parent is not placed,
@@ -155,7 +153,7 @@ fn turn(
     if q.0 <= j.0 {
         return;
     }
-    join_open(t, alts, p, at, c, j, image_of(images, j), lists, counts);
+    join_open(t, alts, c, j, image_of(images, j), lists, counts);
 }
 
 // Every completion of the images of the nodes before q passes. A `false` says nothing.

@@ -21,7 +21,6 @@ use format::nodes::SummaryNode;
 use format::pattern::pattern_count;
 use format::pattern::pattern_edge;
 use format::pattern::pattern_parent;
-use format::pattern::pattern_position;
 use judging::masks::Masks;
 use judging::masks::cell;
 use judging::masks::children;
@@ -29,15 +28,17 @@ use judging::masks::descendants;
 use judging::masks::last;
 use judging::masks::part;
 use judging::member::Member;
+use judging::member::NOBODY;
 ghost use mathlib.Core.Path.{_≡_};
 ghost use mathlib.Core.Bool.{Bool, true};
 ghost use mathlib.Core.List.{List, []};
 ghost use Prim.Native.Nat.{ℕ, _+_, _≤_, _<_};
 ghost use lib.ListN.{length, getD};
-ghost use Rattle.model.specs.Pattern.{Pattern, patternParent, position};
+ghost use Rattle.model.specs.Pattern.{Pattern, patternParent};
 ghost use Rattle.format.specs.Given.{patternAt, PatternGiven};
 ghost use Rattle.cover.specs.Cover.{Within, Among};
 ghost use Rattle.judging.specs.Blocks.{candidatesIn};
+ghost use Rattle.judging.specs.Judging.{nobody};
 ghost use Rattle.judging.specs.Prepared.{Made};
 ghost use Rattle.judging.specs.Room.{MembersGiven};
 ghost use Rattle.alternatives.specs.Alternatives.{nodeOf, Raises, Grown, Entry, Roomy, Alternatives, Table, At, FarBelow};
@@ -59,14 +60,14 @@ fn own_turn(
     list: &mut List,
     count: usize,
 ) -> usize
-    requires { ⌜ MembersGiven (now t) (now p) at × PatternGiven (now p) at × Roomy (now alts) (d .0) (y .0) ⌝ }
+    requires { ⌜ (length (now t) ≤ 8) × PatternGiven (now p) at × Roomy (now alts) (d .0) (y .0) ⌝ }
     requires { ⌜ (d .0 < length (patternAt (now p) at)) × (y .0 < 64) × (count ≤ 64) ⌝ }
     ensures { λ r. ⌜ (r ≤ 64) × ((f : ℕ → ℕ → Bool) → Among (length (now (t .entry))) (now (list .entry)) count f
         → (patternParent (patternAt (now (p .entry)) at) (d .0) ≡ c .0 → Entry (length (now (t .entry))) (now (alts .entry)) (d .0) (y .0) f)
         → Among (length (now (t .entry))) (now (list .exit)) r f) ⌝ }
 {
     if pattern_parent(p, at, d).0 == c.0 {
-        return join_entry(t, alts, p, at, false, d, y, list, count);
+        return join_entry(t, alts, false, d, y, list, count);
     }
     count
 }
@@ -81,7 +82,7 @@ fn own_list(
     y: SummaryNode,
     list: &mut List,
 ) -> usize
-    requires { ⌜ MembersGiven (now t) (now p) at × PatternGiven (now p) at ⌝ }
+    requires { ⌜ (length (now t) ≤ 8) × PatternGiven (now p) at ⌝ }
     requires { ⌜ ((d : ℕ) → d < 16 → Roomy (now alts) d (y .0)) × (c .0 < length (patternAt (now p) at)) × (y .0 < 64) ⌝ }
     ensures { λ r. ⌜ (r ≤ 64) × ((f : ℕ → ℕ → Bool) → ((d : ℕ) → c .0 < d → d < length (patternAt (now (p .entry)) at)
         → patternParent (patternAt (now (p .entry)) at) d ≡ c .0 → Entry (length (now (t .entry))) (now (alts .entry)) d (y .0) f)
@@ -107,7 +108,7 @@ fn add_list(
     list: &mut List,
     count: usize,
 ) -> usize
-    requires { ⌜ (length (now t) ≤ 8) × (x .0 < 64) × (k < 16) × (many ≤ 64) × (count ≤ 64) ⌝ }
+    requires { ⌜ (length (now t) ≤ 8) × (x .0 < 64) × (k ≤ nobody) × (many ≤ 64) × (count ≤ 64) ⌝ }
     ensures { λ r. ⌜ Grown (length (now (t .entry))) (now (list .entry)) count (now (list .exit)) r
         × ((g f : ℕ → ℕ → Bool) → Raises (length (now (t .entry))) (nodeOf (now (t .entry)) (x .0) k) g f
         → Among (length (now (t .entry))) (now (own .entry)) many g → Among (length (now (t .entry))) (now (list .exit)) r f) ⌝ }
@@ -127,17 +128,17 @@ fn add_own(
     list: &mut List,
     count: usize,
 ) -> usize
-    requires { ⌜ MembersGiven (now t) (now p) at × PatternGiven (now p) at ⌝ }
-    requires { ⌜ ((d : ℕ) → d < 16 → Roomy (now alts) d (y .0)) × (c .0 < length (patternAt (now p) at)) × (position (patternAt (now p) at) (c .0) < 16) ⌝ }
+    requires { ⌜ (length (now t) ≤ 8) × PatternGiven (now p) at ⌝ }
+    requires { ⌜ ((d : ℕ) → d < 16 → Roomy (now alts) d (y .0)) × (c .0 < length (patternAt (now p) at)) ⌝ }
     requires { ⌜ (y .0 < 64) × (count ≤ 64) ⌝ }
     ensures { λ r. ⌜ Grown (length (now (t .entry))) (now (list .entry)) count (now (list .exit)) r
-        × ((g f : ℕ → ℕ → Bool) → Raises (length (now (t .entry))) (nodeOf (now (t .entry)) (y .0) (position (patternAt (now (p .entry)) at) (c .0))) g f
+        × ((g f : ℕ → ℕ → Bool) → Raises (length (now (t .entry))) (nodeOf (now (t .entry)) (y .0) (c .0)) g f
         → ((d : ℕ) → c .0 < d → d < length (patternAt (now (p .entry)) at) → patternParent (patternAt (now (p .entry)) at) d ≡ c .0
         → Entry (length (now (t .entry))) (now (alts .entry)) d (y .0) g) → Among (length (now (t .entry))) (now (list .exit)) r f) ⌝ }
 {
     let mut own = [[0u16; 8]; 64];
     let k = own_list(t, alts, p, at, c, y, &mut own);
-    add_list(t, y, pattern_position(p, at, c), &own, k, list, count)
+    add_list(t, y, c.0, &own, k, list, count)
 }
 
 // The list with what node c offers to the node above y, where it stands below y, by what is known of it there.
@@ -151,15 +152,15 @@ fn add_below(
 ) -> usize
     requires { ⌜ (length (now t) ≤ 8) × Roomy (now alts) (c .0) (y .0) × (c .0 < 16) × (y .0 < 64) × (count ≤ 64) ⌝ }
     ensures { λ r. ⌜ Grown (length (now (t .entry))) (now (list .entry)) count (now (list .exit)) r
-        × ((g f : ℕ → ℕ → Bool) → Raises (length (now (t .entry))) (nodeOf (now (t .entry)) (y .0) 0) g f
+        × ((g f : ℕ → ℕ → Bool) → Raises (length (now (t .entry))) (nodeOf (now (t .entry)) (y .0) nobody) g f
         → Entry (length (now (t .entry))) (now (alts .entry)) (c .0) (y .0) g → Among (length (now (t .entry))) (now (list .exit)) r f) ⌝ }
 {
     let k = many_at(alts, c, y);
     if k == 0 {
-        return add_bare(t, y, 0, list, count);
+        return add_bare(t, y, NOBODY, list, count);
     }
     let s = start_at(alts, c, y);
-    add_raised(t, y, 0, &alts[s..s + k], list, count)
+    add_raised(t, y, NOBODY, &alts[s..s + k], list, count)
 }
 
 // With what node c offers to the node above y where it stands at y, if y is one of its paths. From a leaf nothing hangs.
@@ -180,7 +181,7 @@ fn own_part(
 {
     if has64(part(m, c), y.0) {
         if last(m, c) == wide64(c.0) {
-            return add_bare(t, y, pattern_position(p, at, c), list, count);
+            return add_bare(t, y, c.0, list, count);
         }
         return add_own(t, alts, p, at, c, y, list, count);
     }

@@ -14,19 +14,21 @@ use lib.Seq.{sets, getD-append-seam, getD-set-same, getD-set-other, set-append-l
 use borrow.Author.Tests.{eqb-true, eqb-false, eq-eqb, ne-eqb, ltb-true, ltb-false, lt-ltb}
 use Rattle.model.specs.Limits.{minTable, maxSummary, maxCanonical}
 use Rattle.model.specs.Lists.{upFrom, anyOf, has}
+use Rattle.model.specs.Tree.{DocumentRecord, Document}
 use Rattle.model.specs.Summary.{Summary, summaryLabel}
 use Rattle.model.specs.Bytes.{fieldBytes, bytesOf, documentFields, sectionFields, encodeDocument, writtenAtFront}
-use Rattle.model.specs.Canonical.{Spot, rootSpot, spotParent, spotAt, spotRecord, hasChildOn}
+use Rattle.model.specs.Canonical.{Spot, rootSpot, spotParent, spotAt, spotRecord, spotRecords, hasChildOn}
 use Rattle.model.proofs.ListLaws.{bool-ext, and-left, and-right, any-agree, any-below, upFrom-mem, length-snoc, length-map-upFrom, getD-map}
 use Rattle.model.proofs.TreeLaws.{length-asDocument}
+use Rattle.model.proofs.SpotLaws.{length-spots}
 use Rattle.model.proofs.Masks.{mask-none}
 use Rattle.model.proofs.Bytes.{length-bytes, front-length}
 use Rattle.bits.proofs.MaskLaws.{mask-has, mask-agree, mask-insert, any-snoc}
-use Rattle.format.proofs.RangeLaws.{upFrom-last, map-last, getD-map-below}
+use Rattle.format.proofs.RangeLaws.{upFrom-last, map-last, map-below-ext, getD-map-below}
 use Rattle.format.proofs.FrontLaws.{front-getD, front-set}
 use Rattle.format.proofs.WriteLaws.{flatMap-append, Written, written-none, written-put, document-fields}
 use Rattle.format.specs.Given.{summaryIn, SummaryGiven}
-use Rattle.canonical.specs.Draft.{Draft, Roomy, draft, draftFields, childMask, childMasks, Drafted, appended}
+use Rattle.canonical.specs.Draft.{Draft, Roomy, draft, noFigure, draftFields, childMask, childMasks, Drafted, appended}
 
 -- ---- lists
 
@@ -42,11 +44,11 @@ each-snoc Q xs x d old new i h = go (ltb i (length xs)) refl
         subst Q (sym (ap (λ (k : ℕ). getD (xs ++ x ∷ []) k d) here ∙ getD-append-seam xs x [] d)) new
 
 -- a table that differs in one place
-map-put : (f g : ℕ → ℕ) (n v x : ℕ) → v < n → g v ≡ x → ((i : ℕ) → (i ≡ v → ⊥) → g i ≡ f i) → set (map f (upFrom 0 n)) v x ≡ map g (upFrom 0 n)
-map-put f g n v x h here other =
-    ext-getD 0 (set (map f (upFrom 0 n)) v x) (map g (upFrom 0 n)) (size ∙ sym (length-map-upFrom g 0 n)) (λ i l. at i (subst (λ (k : ℕ). i < k) size l) (eqb i v) refl)
+pub map-put : {A : Type 0} (d : A) (f g : ℕ → A) (n v : ℕ) (x : A) → v < n → g v ≡ x → ((i : ℕ) → (i ≡ v → ⊥) → g i ≡ f i) → set (map f (upFrom 0 n)) v x ≡ map g (upFrom 0 n)
+map-put {A} d f g n v x h here other =
+    ext-getD d (set (map f (upFrom 0 n)) v x) (map g (upFrom 0 n)) (size ∙ sym (length-map-upFrom g 0 n)) (λ i l. at i (subst (λ (k : ℕ). i < k) size l) (eqb i v) refl)
   where
-    F : List ℕ
+    F : List A
     F = map f (upFrom 0 n)
 
     plain : length F ≡ n
@@ -55,13 +57,13 @@ map-put f g n v x h here other =
     size : length (set F v x) ≡ n
     size = length-set F v x ∙ plain
 
-    at : (i : ℕ) → i < n → (t : Bool) → eqb i v ≡ t → getD (set F v x) i 0 ≡ getD (map g (upFrom 0 n)) i 0
+    at : (i : ℕ) → i < n → (t : Bool) → eqb i v ≡ t → getD (set F v x) i d ≡ getD (map g (upFrom 0 n)) i d
     at i l true e =
         let p : i ≡ v = eqb-true i v e in
-        ap (λ (k : ℕ). getD (set F v x) k 0) p ∙ getD-set-same F v x 0 (omega (arith, plain)) ∙ sym here ∙ ap g (sym p) ∙ sym (getD-map-below g n i 0 l)
+        ap (λ (k : ℕ). getD (set F v x) k d) p ∙ getD-set-same F v x d (omega (arith, plain)) ∙ sym here ∙ ap g (sym p) ∙ sym (getD-map-below g n i d l)
     at i l false e =
         let ne : i ≡ v → ⊥ = eqb-false i v e in
-        getD-set-other F v i x 0 ne ∙ getD-map-below f n i 0 l ∙ sym (other i ne) ∙ sym (getD-map-below g n i 0 l)
+        getD-set-other F v i x d ne ∙ getD-map-below f n i d l ∙ sym (other i ne) ∙ sym (getD-map-below g n i d l)
 
 -- a store into what is written at the front
 front-put : (w b : List ℕ) (i x : ℕ) → i < length w → set (writtenAtFront w b) i x ≡ writtenAtFront (set w i x) b
@@ -164,23 +166,44 @@ masks-snoc spots s some inside h k =
     let n : ℕ = length spots in
     let M : ℕ → ℕ = childMask T in
     ap₂ (λ (l : List ℕ) (x : ℕ). l ++ x ∷ [])
-    (map-put (childMask spots) M n (s .parent) (bitOr (childMask spots (s .parent)) (2 ^ (s .at))) h (parent-mask spots s some k) (other-mask spots s some))
+    (map-put 0 (childMask spots) M n (s .parent) (bitOr (childMask spots (s .parent)) (2 ^ (s .at))) h (parent-mask spots s some k) (other-mask spots s some))
     (sym (other-mask spots s some n (λ p. omega arith) ∙ mask-past-nodes spots n inside))
     ∙ sym (map-last M n) ∙ ap (λ (k : ℕ). map M (upFrom 0 k)) (add-one n ∙ sym (length-snoc spots s))
 
 -- ---- the bytes
 
-fields-length : (S : Summary) (spots : List Spot) → length (draftFields S spots) ≡ 1 + 2 * length spots
-fields-length S spots = let n = document-fields (map (spotRecord S) spots) in let m = length-map spots (spotRecord S) in omega arith
+-- the record of a spot, whose figure is f
+spotted : Summary → ℕ → Spot → DocumentRecord
+spotted S f s = record { parent = s .parent; label = summaryLabel S (s .at); figure = f }
+
+records-snoc : (S : Summary) (figure : ℕ → ℕ) (spots : List Spot) (s : Spot)
+    → spotRecords S figure (spots ++ s ∷ []) ≡ spotRecords S figure spots ++ spotted S (figure (length spots)) s ∷ []
+unfolding spotRecords spotted
+records-snoc S figure spots s =
+    let T : List Spot = spots ++ s ∷ [] in
+    let n : ℕ = length spots in
+    ap (λ (k : ℕ). map (spotRecord S figure T) (upFrom 0 k)) (length-snoc spots s ∙ sym (add-one n))
+    ∙ map-last (spotRecord S figure T) n
+    ∙ ap₂ (λ (l : Document) (r : DocumentRecord). l ++ r ∷ [])
+    (map-below-ext (spotRecord S figure T) (spotRecord S figure spots) n (λ i h. ap (spotted S (figure i)) (List·getD-append spots (s ∷ []) rootSpot i h)))
+    (ap (spotted S (figure n)) (getD-append-seam spots s [] rootSpot))
+
+fields-length : (S : Summary) (spots : List Spot) → length (draftFields S spots) ≡ 1 + 3 * length spots
+fields-length S spots =
+    let n = document-fields (spotRecords S noFigure spots) in
+    let m = length-spots S noFigure spots in
+    omega arith
 
 fields-snoc : (S : Summary) (spots : List Spot) (s : Spot)
-    → (draftFields S spots ++ s .parent ∷ []) ++ summaryLabel S (s .at) ∷ [] ≡ draftFields S (spots ++ s ∷ [])
-unfolding flatMap
+    → ((draftFields S spots ++ s .parent ∷ []) ++ summaryLabel S (s .at) ∷ []) ++ 0 ∷ [] ≡ draftFields S (spots ++ s ∷ [])
+unfolding flatMap spotted
 fields-snoc S spots s =
+    let W : Document = spotRecords S noFigure spots in
     ap (λ (l : List ℕ). 0 ∷ l)
-    (append-assoc (flatMap documentFields (map (spotRecord S) spots)) (s .parent ∷ []) (summaryLabel S (s .at) ∷ [])
-    ∙ sym (flatMap-append documentFields (map (spotRecord S) spots) (spotRecord S s ∷ []))
-    ∙ ap (flatMap documentFields) (sym (map-append (spotRecord S) spots (s ∷ []))))
+    (append-assoc (flatMap documentFields W ++ s .parent ∷ []) (summaryLabel S (s .at) ∷ []) (0 ∷ [])
+    ∙ append-assoc (flatMap documentFields W) (s .parent ∷ []) (summaryLabel S (s .at) ∷ 0 ∷ [])
+    ∙ sym (flatMap-append documentFields W (spotted S 0 s ∷ []))
+    ∙ ap (flatMap documentFields) (sym (records-snoc S noFigure spots s)))
 
 -- the count is put in its place
 count-put : (n : ℕ) (fs b : List ℕ) → sets (writtenAtFront (bytesOf (0 ∷ fs)) b) 0 (fieldBytes n) ≡ writtenAtFront (bytesOf (n ∷ fs)) b
@@ -203,7 +226,7 @@ pub roomy-same : {t u : Draft} → SameLengths u t → Roomy t → Roomy u
 roomy-same s r = omega arith
 
 module _ {S : Summary} {spots : List Spot} {base now : Draft} {count : ℕ} (c : Drafted S spots base now count) where
-  written : Written (draftFields S spots) (base .bytes) (now .bytes) (1 + 2 * count)
+  written : Written (draftFields S spots) (base .bytes) (now .bytes) (1 + 3 * count)
   written =
       let n = fields-length S spots in
       let l = length-bytes (draftFields S spots) in
@@ -272,14 +295,24 @@ module _ {S : Summary} {spots : List Spot} {base now : Draft} {count : ℕ} (c :
       mask : ℕ
       mask = bitOr (childMask spots (s .parent)) (2 ^ (s .at))
 
-      -- the record's two fields
-      more : Written ((draftFields S spots ++ s .parent ∷ []) ++ summaryLabel S (s .at) ∷ []) (base .bytes)
-          (sets (sets (now .bytes) (2 * (1 + 2 * count)) (fieldBytes (s .parent))) (2 * (2 + 2 * count)) (fieldBytes (summaryLabel S (s .at)))) (1 + 2 * count + 1 + 1)
+      -- with the record's parent, and its label
+      b₁ : List ℕ
+      b₁ = sets (now .bytes) (2 * (1 + 3 * count)) (fieldBytes (s .parent))
+
+      b₂ : List ℕ
+      b₂ = sets b₁ (2 * (2 + 3 * count)) (fieldBytes (summaryLabel S (s .at)))
+
+      -- the record's three fields
+      more : Written (((draftFields S spots ++ s .parent ∷ []) ++ summaryLabel S (s .at) ∷ []) ++ 0 ∷ []) (base .bytes)
+          (sets b₂ (2 * (3 + 3 * count)) (fieldBytes 0)) (1 + 3 * count + 1 + 1 + 1)
       more =
           let room = c .room .bytes in
-          let two : 2 + 2 * count ≡ 1 + 2 * count + 1 = omega arith in
-          written-put (summaryLabel S (s .at)) (written-put (s .parent) written (omega arith) refl) (omega arith)
-          (ap (λ (k : ℕ). sets (sets (now .bytes) (2 * (1 + 2 * count)) (fieldBytes (s .parent))) (2 * k) (fieldBytes (summaryLabel S (s .at)))) two)
+          let two : 2 + 3 * count ≡ 1 + 3 * count + 1 = omega arith in
+          let three : 3 + 3 * count ≡ 1 + 3 * count + 1 + 1 = omega arith in
+          written-put 0
+          (written-put (summaryLabel S (s .at)) (written-put (s .parent) written (omega arith) refl) (omega arith)
+          (ap (λ (k : ℕ). sets b₁ (2 * k) (fieldBytes (summaryLabel S (s .at)))) two))
+          (omega arith) (ap (λ (k : ℕ). sets b₂ (2 * k) (fieldBytes 0)) three)
 
       -- a store right after the front
       after : (w b : List ℕ) (x : ℕ) → length w ≡ length spots → minTable ≤ length b → set (writtenAtFront w b) count x ≡ writtenAtFront (w ++ x ∷ []) b
@@ -295,11 +328,12 @@ module _ {S : Summary} {spots : List Spot} {base now : Draft} {count : ℕ} (c :
           (λ j m. let o = c .inside j m in (omega arith, o .1)) (omega arith, k) i (omega arith)
 
   -- the section is whole when its count is put
-  pub drafted-section : sets (now .bytes) 0 (fieldBytes count) ≡ writtenAtFront (encodeDocument (map (spotRecord S) spots)) (base .bytes)
+  pub drafted-section : sets (now .bytes) 0 (fieldBytes count) ≡ writtenAtFront (encodeDocument (spotRecords S noFigure spots)) (base .bytes)
   unfolding encodeDocument sectionFields
   drafted-section =
-      ap (λ (b : List ℕ). sets b 0 (fieldBytes count)) (c .bytes) ∙ count-put count (flatMap documentFields (map (spotRecord S) spots)) (base .bytes)
-      ∙ ap (λ (n : ℕ). writtenAtFront (bytesOf (n ∷ flatMap documentFields (map (spotRecord S) spots))) (base .bytes)) (c .counted ∙ sym (length-map spots (spotRecord S)))
+      let fs : List ℕ = flatMap documentFields (spotRecords S noFigure spots) in
+      ap (λ (b : List ℕ). sets b 0 (fieldBytes count)) (c .bytes) ∙ count-put count fs (base .bytes)
+      ∙ ap (λ (n : ℕ). writtenAtFront (bytesOf (n ∷ fs)) (base .bytes)) (c .counted ∙ sym (length-spots S noFigure spots))
 
 -- the first entry alone is written
 front-one : (b : List ℕ) (x : ℕ) → 0 < length b → set b 0 x ≡ writtenAtFront (x ∷ []) b
@@ -314,10 +348,11 @@ pub summary-some : {b : List ℕ} → SummaryGiven b → 0 < length (summaryIn b
 summary-some {b} g = subst (λ (n : ℕ). 0 < n) (length-asDocument (summaryIn b)) (g .tree .inhabited)
 
 -- the root alone
-pub drafted-root : {S : Summary} {base : Draft} {b₁ b₂ b₃ : List ℕ} {label : ℕ} → Roomy base → 0 < length S → b₁ ≡ sets (base .bytes) 0 (fieldBytes 0) → b₂ ≡ sets b₁ 2 (fieldBytes 0)
-    → b₃ ≡ sets b₂ 4 (fieldBytes label) → label ≡ summaryLabel S 0 → Drafted S (rootSpot ∷ []) base (draft b₃ (set (base .on) 0 0) (set (base .kids) 0 0)) 1
-unfolding flatMap
-drafted-root {S} {base} {b₂ = b₂} r some e₁ e₂ e₃ e =
+pub drafted-root : {S : Summary} {base : Draft} {b₁ b₂ b₃ b₄ : List ℕ} {label : ℕ} → Roomy base → 0 < length S → b₁ ≡ sets (base .bytes) 0 (fieldBytes 0) → b₂ ≡ sets b₁ 2 (fieldBytes 0)
+    → b₃ ≡ sets b₂ 4 (fieldBytes label) → label ≡ summaryLabel S 0 → b₄ ≡ sets b₃ 6 (fieldBytes 0)
+    → Drafted S (rootSpot ∷ []) base (draft b₄ (set (base .on) 0 0) (set (base .kids) 0 0)) 1
+unfolding flatMap spotRecords upFrom
+drafted-root {S} {base} {b₂ = b₂} r some e₁ e₂ e₃ e e₄ =
     let room = r .bytes in
     record {
       counted = refl;
@@ -325,8 +360,10 @@ drafted-root {S} {base} {b₂ = b₂} r some e₁ e₂ e₃ e =
       fits = omega arith;
       room = r;
       inside = first;
-      bytes = written-put (summaryLabel S 0) (written-put 0 (written-put 0 written-none (omega arith) e₁) (omega arith) e₂) (omega arith)
-          (e₃ ∙ ap (λ (x : ℕ). sets b₂ 4 (fieldBytes x)) e) .bytes;
+      bytes = written-put 0
+          (written-put (summaryLabel S 0) (written-put 0 (written-put 0 written-none (omega arith) e₁) (omega arith) e₂) (omega arith)
+          (e₃ ∙ ap (λ (x : ℕ). sets b₂ 4 (fieldBytes x)) e))
+          (omega arith) e₄ .bytes;
       on = front-one (base .on) 0 (omega (arith, r .on));
       kids = front-one (base .kids) 0 (omega (arith, r .kids)) ∙ ap (λ (w : List ℕ). writtenAtFront w (base .kids)) (sym root-masks);
     }

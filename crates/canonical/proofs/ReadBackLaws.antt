@@ -1,16 +1,18 @@
--- What a caller has of a layout: its section is a document that the readers of documents read, since its numbers are small and its
--- labels are 16-bit fields of the case. Assumes nothing.
+-- What a caller has of a layout: its section is a document that the readers of documents read, since its numbers and its figures are
+-- small and its labels are 16-bit fields of the case. Assumes nothing.
 use Prim.Native.Nat.{ℕ, _≤_}
 use mathlib.Core.Path.{_≡_, sym, ap, _∙_, subst}
 use mathlib.Core.List.{List}
 use native.Mathlib.Omega.{arith}
-use lib.ListN.{length, length-map}
+use lib.ListN.{length}
 use Rattle.model.specs.Limits.{minBuffer, documentWidth}
 use Rattle.model.specs.Summary.{Summary}
 use Rattle.model.specs.Pattern.{Pattern}
+use Rattle.model.specs.Facts.{FewFigures}
 use Rattle.model.specs.Bytes.{documentFields, sectionFields, documentOf, WholeSection, AreBytes}
-use Rattle.model.specs.Canonical.{canonicalSpots, canonical, spotRecord}
+use Rattle.model.specs.Canonical.{canonicalSpots, canonical}
 use Rattle.model.proofs.Bytes.{FitFields}
+use Rattle.model.proofs.Canonical.{length-canonical}
 use Rattle.model.proofs.ReadBack.{label-small, canonical-fields}
 use Rattle.format.specs.Given.{summaryIn, patternAt}
 use Rattle.format.proofs.WriteLaws.{document-size}
@@ -19,7 +21,7 @@ use Rattle.canonical.specs.Given.{embeddingIn, Embedded, WrittenOut}
 use Rattle.canonical.specs.declared.LaidOut.{LaidOut}
 use Rattle.canonical.proofs.LayoutLaws.{spots-few}
 
-module _ {case : List ℕ} {at : ℕ} {images : List ℕ} (h : Embedded case at images) (small : AreBytes case) where
+module _ {case : List ℕ} {at : ℕ} {images : List ℕ} (h : Embedded case at images) (small : AreBytes case) (low : FewFigures (patternAt case at)) where
   abbrev S : Summary
   S = summaryIn case
 
@@ -30,14 +32,13 @@ module _ {case : List ℕ} {at : ℕ} {images : List ℕ} (h : Embedded case at 
   es = embeddingIn case at images
 
   size : length (canonical S P es) ≡ length (canonicalSpots S P es)
-  unfolding canonical
-  size = length-map (canonicalSpots S P es) (spotRecord S)
+  size = length-canonical S P es
 
   fits : FitFields (sectionFields documentFields (canonical S P es))
   fits =
       let n = size in
       let f = spots-few h in
-      canonical-fields S P es (h .summary .tree) (h .pattern .tree) (h .embedding) (label-small case small) (omega arith)
+      canonical-fields S P es (h .summary .tree) (h .pattern .tree) (h .embedding) (label-small case small) low (omega arith)
 
   module _ {bytes₀ bytes on₀ on : List ℕ} {r : LaidOut} (w : WrittenOut S P es bytes₀ bytes on₀ on r) where
     pub back-document : documentOf bytes ≡ canonical S P es

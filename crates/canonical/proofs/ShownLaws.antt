@@ -10,11 +10,11 @@ use Rattle.model.specs.Limits.{maxPattern, maxCanonical}
 use Rattle.model.specs.Summary.{Summary}
 use Rattle.model.specs.Pattern.{Pattern, nodeAt, returnNodes}
 use Rattle.model.specs.Embeddings.{imageIn}
-use Rattle.model.specs.Canonical.{canonical, canonicalSpots, ownNodes, ownResult, spotRecord}
+use Rattle.model.specs.Canonical.{canonical, ownNodes, ownResult}
 use Rattle.model.specs.Bytes.{encodeDocument, encodeCounted, writtenAtFront}
 use Rattle.model.proofs.ListLaws.{length-map-upFrom}
 use Rattle.model.proofs.Bytes.{front-length, front-written}
-use Rattle.model.proofs.Canonical.{canonical-built}
+use Rattle.model.proofs.Canonical.{length-canonical, canonical-built}
 use Rattle.model.proofs.ReturnNodes.{length-returnNodes, return-at}
 use Rattle.format.specs.Given.{summaryIn, patternAt}
 use Rattle.format.proofs.FrontLaws.{front-getD}
@@ -75,11 +75,10 @@ module _ {case : List ℕ} {at : ℕ} {images : List ℕ} {k : ℕ} (h : Showabl
         (ap₂ (λ (n : ℕ) (xs : List ℕ). take n xs) (sym own-count) e ∙ front-written (ownAt P (r .own) k) result₀ ∙ own-same)
 
     -- the byte after the last record
-    pub shown-end : 2 + 4 * r .count ≡ length (encodeDocument (canonical S P es))
-    unfolding canonical
+    pub shown-end : 2 + 6 * r .count ≡ length (encodeDocument (canonical S P es))
     shown-end =
-        let n = document-size (map (spotRecord S) (canonicalSpots S P es)) in
-        let m = length-map (canonicalSpots S P es) (spotRecord S) in
+        let n = document-size (canonical S P es) in
+        let m = length-canonical S P es in
         let q = w .counted in
         omega arith
 

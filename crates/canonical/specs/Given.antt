@@ -1,5 +1,5 @@
 -- What the layout and each of its phases are given, and what they leave.
-use Prim.Native.Nat.{ℕ, _+_, _≤_, _<_}
+use Prim.Native.Nat.{ℕ, _+_, _*_, _≤_, _<_}
 use mathlib.Core.Path.{_≡_}
 use mathlib.Core.List.{List, map}
 use lib.ListN.{length, take, replicate}
@@ -9,9 +9,9 @@ use Rattle.model.specs.Summary.{Summary, asDocument}
 use Rattle.model.specs.Pattern.{Pattern, SummaryEmbedding}
 use Rattle.model.specs.Embeddings.{imageIn}
 use Rattle.model.specs.Bytes.{encodeDocument, writtenAtFront}
-use Rattle.model.specs.Canonical.{Spot, chain, appendChain, addMissing, fillNode, fillFrom, canonicalSpots, canonical, ownNodes}
+use Rattle.model.specs.Canonical.{Spot, chain, appendChain, addMissing, fillNode, fillFrom, spotRecords, canonicalSpots, canonical, ownNodes, ownFigure}
 use Rattle.format.specs.Given.{summaryIn, patternAt, SummaryGiven, PatternGiven}
-use Rattle.canonical.specs.Draft.{Draft, Drafted}
+use Rattle.canonical.specs.Draft.{Draft, Drafted, noFigure}
 use Rattle.canonical.specs.declared.LaidOut.{LaidOut}
 
 -- ---- the whole layout
@@ -67,3 +67,17 @@ pub record Fillable (S : Summary) (spots : List Spot) (base now : Draft) (count 
   pub drafted : Drafted S spots base now count
   pub ends : length (fillFrom k S spots 0) ≤ k
   pub room : length (fillFrom k S spots 0) ≤ maxCanonical
+
+-- ---- the figures
+
+-- the nodes stand as a section at the front of a buffer, without figures; the own nodes are among them, one for each pattern node
+pub record Figureless (S : Summary) (spots : List Spot) (P : Pattern) (own base now : List ℕ) : Type 0 where
+  pub section : now ≡ writtenAtFront (encodeDocument (spotRecords S noFigure spots)) base
+  pub room : 2 + 6 * length spots ≤ length base
+  pub enough : length P ≤ length own
+  pub inside : (q : ℕ) → q < length P → imageIn own q < length spots
+  pub apart : (p q : ℕ) → p < length P → q < length P → imageIn own p ≡ imageIn own q → p ≡ q
+
+-- what giving them their figures leaves
+abbrev pub Figured : Summary → List Spot → Pattern → List ℕ → List ℕ → List ℕ → Type 0
+Figured S spots P own base now = now ≡ writtenAtFront (encodeDocument (spotRecords S (ownFigure P own) spots)) base

@@ -1,5 +1,5 @@
-// The draft of a canonical document: its section in wire form, of each node the summary node that it is on, and the mask of the
-// summary nodes that its children are on. The first row, and a row more.
+// The draft of a canonical document: its section in wire form, with every figure 0, of each node the summary node that it is on, and
+// the mask of the summary nodes that its children are on. The first row, and a row more.
 
 use bits::insert64;
 use format::nodes::DocumentNode;
@@ -25,6 +25,7 @@ pub fn root(case: &[u8], answer: &mut [u8], on: &mut [u16], kids: &mut [u64]) ->
     put_field(answer, 0, 0);
     put_field(answer, 1, 0);
     put_field(answer, 2, summary_label(case, SummaryNode(0)));
+    put_field(answer, 3, 0);
     on[0] = 0;
     kids[0] = 0;
     1
@@ -48,8 +49,9 @@ pub fn append(
 {
     let above = v.0;
     let place = s.0;
-    put_field(answer, 1 + 2 * count, above as u16);
-    put_field(answer, 2 + 2 * count, summary_label(case, s));
+    put_field(answer, 1 + 3 * count, above as u16);
+    put_field(answer, 2 + 3 * count, summary_label(case, s));
+    put_field(answer, 3 + 3 * count, 0);
     on[count] = place as u16;
     kids[above] = insert64(kids[above], place);
     kids[count] = 0;

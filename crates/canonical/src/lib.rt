@@ -1,6 +1,7 @@
 // The layout of a canonical document (document 01: trial volume), phase by phase, and what "not included" shows of it.
 
 use chains::chains;
+use figures::figures;
 use fill::fill;
 use format::nodes::own_of;
 use format::positions::node_at;
@@ -20,6 +21,7 @@ ghost use Rattle.canonical.specs.Shown.{ownAt, shownDocument, Showable};
 
 mod chains;
 mod draft;
+mod figures;
 mod fill;
 
 // How many nodes are laid out, and the own node of each pattern node, at the front.
@@ -49,6 +51,7 @@ pub fn lay_out(
     let count = fill(case, strong, chained.count, answer, on, &mut kids);
     put_field(answer, 0, count as u16);
     let own = chained.own;
+    figures(case, at, &own, answer);
     LaidOut { count, own }
 }
 
@@ -80,6 +83,6 @@ pub fn show(case: &[u8], strong: &Strong, at: usize, images: &[u16], k: usize, a
     let laid = lay_out(case, strong, at, images, answer, &mut on);
     let own = laid.own;
     let result = own_result(case, at, &own, k);
-    let end = 2 + 4 * laid.count;
+    let end = 2 + 6 * laid.count;
     write_counted(&result, k, &mut answer[end..]);
 }

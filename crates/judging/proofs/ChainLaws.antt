@@ -8,18 +8,17 @@ use mathlib.Core.List.{List, [], _∷_, _++_}
 use native.Mathlib.Omega.{arith}
 use lib.ListN.{length}
 use borrow.Author.Tests.{lt-ltb, le-ltb}
-use Rattle.model.specs.Limits.{maxPosition}
 use Rattle.model.specs.Lists.{maskBelow}
 use Rattle.model.specs.Tree.{Document, IsTree, parentOf, Child, Below, AtOrBelow}
 use Rattle.model.specs.Summary.{Summary, asDocument}
 use Rattle.model.specs.Pattern.{Pattern}
 use Rattle.model.specs.Canonical.{chain}
-use Rattle.model.specs.Quick.{offers, closed, union, hang}
+use Rattle.model.specs.Quick.{Held, unheld, offers, closed, union, hang}
 use Rattle.model.proofs.TreeLaws.{child-lt, below-lt, below-cases, length-asDocument}
 use Rattle.model.proofs.Chains.{Way, end, step, below-way, chain-way, chain-self}
 use Rattle.model.proofs.QuickLaws.{hold, hang-nil, hang-cons}
-use Rattle.judging.specs.Judging.{Sets, nodeBy, climbBy, hangBy}
-use Rattle.judging.specs.Prepared.{ChainSets}
+use Rattle.judging.specs.Judging.{nobody, Sets, nodeBy, climbBy, hangBy}
+use Rattle.judging.specs.Prepared.{Allows, ChainSets}
 use Rattle.judging.proofs.SetLaws.{node-mask}
 
 -- ---- chains from the lower end
@@ -46,23 +45,23 @@ below-last {D} {a} {b} d = go (below-cases d)
     go (inl c) = (inl (sym (c .isParent)), record { notRoot = c .notRoot; inside = c .inside; isParent = refl })
     go (inr r) = (inr (r .0), record { notRoot = r .1; inside = r .2; isParent = refl })
 
-hold-zero : (xs : List ℕ) → hold 0 xs ≡ 0
-hold-zero [] = refl
-hold-zero (x ∷ xs) = refl
+hold-unheld : (xs : List ℕ) → hold unheld xs ≡ unheld
+hold-unheld [] = refl
+hold-unheld (x ∷ xs) = refl
 
 -- what a chain offers, from its last node on
-pub hang-snoc : (S : Summary) (Q : Pattern) (n : ℕ) (g : ℕ → Bool) (xs : List ℕ) (b : ℕ)
-    → hang S Q n g (xs ++ b ∷ []) ≡ hang S Q 0 (offers S Q b n (union (closed S Q b) g)) xs
-hang-snoc S Q n g [] b =
-    hang-cons S Q n g b [] ∙ ap (λ (f : ℕ → Bool). offers S Q b n (union (closed S Q b) f)) (hang-nil S Q n g)
-    ∙ sym (hang-nil S Q 0 (offers S Q b n (union (closed S Q b) g)))
-hang-snoc S Q n g (x ∷ xs) b =
-    hang-cons S Q n g x (xs ++ b ∷ [])
-    ∙ ap (λ (k : ℕ). offers S Q x k (union (closed S Q x) (hang S Q n g (xs ++ b ∷ [])))) (hold-snoc xs ∙ sym (hold-zero xs))
-    ∙ ap (λ (f : ℕ → Bool). offers S Q x (hold 0 xs) (union (closed S Q x) f)) (hang-snoc S Q n g xs b)
-    ∙ sym (hang-cons S Q 0 (offers S Q b n (union (closed S Q b) g)) x xs)
+pub hang-snoc : (S : Summary) (Q : Pattern) (w : Held) (g : ℕ → Bool) (xs : List ℕ) (b : ℕ)
+    → hang S Q w g (xs ++ b ∷ []) ≡ hang S Q unheld (offers S Q b w (union (closed S Q b) g)) xs
+hang-snoc S Q w g [] b =
+    hang-cons S Q w g b [] ∙ ap (λ (f : ℕ → Bool). offers S Q b w (union (closed S Q b) f)) (hang-nil S Q w g)
+    ∙ sym (hang-nil S Q unheld (offers S Q b w (union (closed S Q b) g)))
+hang-snoc S Q w g (x ∷ xs) b =
+    hang-cons S Q w g x (xs ++ b ∷ [])
+    ∙ ap (λ (k : Held). offers S Q x k (union (closed S Q x) (hang S Q w g (xs ++ b ∷ [])))) (hold-snoc xs ∙ sym (hold-unheld xs))
+    ∙ ap (λ (f : ℕ → Bool). offers S Q x (hold unheld xs) (union (closed S Q x) f)) (hang-snoc S Q w g xs b)
+    ∙ sym (hang-cons S Q unheld (offers S Q b w (union (closed S Q b) g)) x xs)
   where
-    hold-snoc : (ys : List ℕ) → hold n (ys ++ b ∷ []) ≡ 0
+    hold-snoc : (ys : List ℕ) → hold w (ys ++ b ∷ []) ≡ unheld
     hold-snoc [] = refl
     hold-snoc (y ∷ ys) = refl
 
@@ -73,7 +72,7 @@ unfolding climbBy
 climb-stop zero T a x h l = refl
 climb-stop (suc k) T a x h l = rw (le-ltb a x l, climbBy)
 
-climb-step : (k : ℕ) (T : Sets) (a x h : ℕ) → a < x → climbBy (suc k) T a x h ≡ climbBy k T a (T .up x) (nodeBy T x 0 h)
+climb-step : (k : ℕ) (T : Sets) (a x h : ℕ) → a < x → climbBy (suc k) T a x h ≡ climbBy k T a (T .up x) (nodeBy T x nobody h)
 unfolding climbBy
 climb-step k T a x h l = rw (lt-ltb a x l, climbBy)
 
@@ -87,10 +86,10 @@ pub climbing-start : (T : Sets) (a b n g : ℕ) → T .up b ≤ b → Climbing T
 unfolding hangBy
 climbing-start T a b n g l = record { fuel = b; enough = l; same = refl }
 
-pub climbing-step : (T : Sets) (a whole x h : ℕ) → a < x → T .up x < x → Climbing T a whole x h → Climbing T a whole (T .up x) (nodeBy T x 0 h)
+pub climbing-step : (T : Sets) (a whole x h : ℕ) → a < x → T .up x < x → Climbing T a whole x h → Climbing T a whole (T .up x) (nodeBy T x nobody h)
 climbing-step T a whole x h l k c = go (c .fuel) (c .enough) (c .same)
   where
-    go : (fuel : ℕ) → x ≤ fuel → whole ≡ climbBy fuel T a x h → Climbing T a whole (T .up x) (nodeBy T x 0 h)
+    go : (fuel : ℕ) → x ≤ fuel → whole ≡ climbBy fuel T a x h → Climbing T a whole (T .up x) (nodeBy T x nobody h)
     go zero e s = absurd (omega arith)
     go (suc fuel) e s = record { fuel = fuel; enough = omega arith; same = s ∙ climb-step fuel T a x h l }
 
@@ -99,48 +98,48 @@ climbing-end T a whole x h l c = sym (c .same ∙ climb-stop (c .fuel) T a x h l
 
 -- ---- by masks
 
-module _ (S : Summary) (Q : Pattern) (T : Sets) (C : ChainSets S Q T) (t : IsTree (asDocument S)) where
+module _ (S : Summary) {P : Pattern} (Q : Pattern) (T : Sets) (C : ChainSets S P Q T) (t : IsTree (asDocument S)) where
   inside : {x : ℕ} → x < length (asDocument S) → x < length S
   inside {x} h = subst (λ (n : ℕ). x < n) (length-asDocument S) h
 
-  climb-here : (k a x : ℕ) (h : ℕ → Bool) → a ≡ x → climbBy k T a x (maskBelow h (length Q)) ≡ maskBelow (hang S Q 0 h (chain S a x)) (length Q)
+  climb-here : (k a x : ℕ) (h : ℕ → Bool) → a ≡ x → climbBy k T a x (maskBelow h (length Q)) ≡ maskBelow (hang S Q unheld h (chain S a x)) (length Q)
   climb-here k a x h p =
       climb-stop k T a x (maskBelow h (length Q)) (omega arith)
-      ∙ ap (λ (f : ℕ → Bool). maskBelow f (length Q)) (sym (hang-nil S Q 0 h) ∙ sym (ap (hang S Q 0 h) (ap (chain S a) (sym p) ∙ chain-self S a)))
+      ∙ ap (λ (f : ℕ → Bool). maskBelow f (length Q)) (sym (hang-nil S Q unheld h) ∙ sym (ap (hang S Q unheld h) (ap (chain S a) (sym p) ∙ chain-self S a)))
 
-  climb-mask : (k a x : ℕ) (h : ℕ → Bool) → AtOrBelow (asDocument S) a x → x ≤ k → climbBy k T a x (maskBelow h (length Q)) ≡ maskBelow (hang S Q 0 h (chain S a x)) (length Q)
+  climb-mask : (k a x : ℕ) (h : ℕ → Bool) → AtOrBelow (asDocument S) a x → x ≤ k → climbBy k T a x (maskBelow h (length Q)) ≡ maskBelow (hang S Q unheld h (chain S a x)) (length Q)
   climb-mask zero a x h (inl p) l = climb-here zero a x h p
   climb-mask (suc k) a x h (inl p) l = climb-here (suc k) a x h p
   climb-mask zero a x h (inr d) l = let m : a < x = below-lt t d in absurd (omega arith)
-  climb-mask (suc k) a x h (inr d) l = go (below-last d) (λ b e. climb-mask k a (parentOf (asDocument S) x) (offers S Q x 0 (union (closed S Q x) h)) b e)
+  climb-mask (suc k) a x h (inr d) l = go (below-last d) (λ b e. climb-mask k a (parentOf (asDocument S) x) (offers S Q x unheld (union (closed S Q x) h)) b e)
     where
       u : ℕ
       u = parentOf (asDocument S) x
 
       next : ℕ → Bool
-      next = offers S Q x 0 (union (closed S Q x) h)
+      next = offers S Q x unheld (union (closed S Q x) h)
 
-      go : AtOrBelow (asDocument S) a u × Child (asDocument S) u x → (AtOrBelow (asDocument S) a u → u ≤ k → climbBy k T a u (maskBelow next (length Q)) ≡ maskBelow (hang S Q 0 next (chain S a u)) (length Q))
-          → climbBy (suc k) T a x (maskBelow h (length Q)) ≡ maskBelow (hang S Q 0 h (chain S a x)) (length Q)
+      go : AtOrBelow (asDocument S) a u × Child (asDocument S) u x → (AtOrBelow (asDocument S) a u → u ≤ k → climbBy k T a u (maskBelow next (length Q)) ≡ maskBelow (hang S Q unheld next (chain S a u)) (length Q))
+          → climbBy (suc k) T a x (maskBelow h (length Q)) ≡ maskBelow (hang S Q unheld h (chain S a x)) (length Q)
       go b rest =
           let i : x < length S = inside (b .1 .inside) in
           let j : u < x = child-lt t (b .1) in
           climb-step k T a x (maskBelow h (length Q)) (below-lt t d)
-          ∙ ap (λ (y : ℕ). climbBy k T a y (nodeBy T x 0 (maskBelow h (length Q)))) (C .ups x i)
-          ∙ ap (climbBy k T a u) (node-mask S Q T C x 0 h i (omega arith))
+          ∙ ap (λ (y : ℕ). climbBy k T a y (nodeBy T x nobody (maskBelow h (length Q)))) (C .ups x i)
+          ∙ ap (climbBy k T a u) (node-mask S Q T C x nobody unheld h i (C .node .free))
           ∙ rest (b .0) (omega arith)
-          ∙ ap (λ (f : ℕ → Bool). maskBelow f (length Q)) (sym (ap (hang S Q 0 h) (chain-last S a u x t (b .0) (b .1)) ∙ hang-snoc S Q 0 h (chain S a u) x))
+          ∙ ap (λ (f : ℕ → Bool). maskBelow f (length Q)) (sym (ap (hang S Q unheld h) (chain-last S a u x t (b .0) (b .1)) ∙ hang-snoc S Q unheld h (chain S a u) x))
 
   -- what a chain offers, by masks
-  pub hang-mask : (a b n : ℕ) (g : ℕ → Bool) → Below (asDocument S) a b → n ≤ maxPosition
-      → hangBy T a b n (maskBelow g (length Q)) ≡ maskBelow (hang S Q n g (chain S a b)) (length Q)
+  pub hang-mask : (a b n : ℕ) (w : Held) (g : ℕ → Bool) → Below (asDocument S) a b → Allows Q T n w
+      → hangBy T a b n (maskBelow g (length Q)) ≡ maskBelow (hang S Q w g (chain S a b)) (length Q)
   unfolding hangBy
-  hang-mask a b n g d k =
+  hang-mask a b n w g d k =
       let r = below-last d in
       let u : ℕ = parentOf (asDocument S) b in
       let i : b < length S = inside (r .1 .inside) in
       let j : u < b = child-lt t (r .1) in
       ap (λ (y : ℕ). climbBy b T a y (nodeBy T b n (maskBelow g (length Q)))) (C .ups b i)
-      ∙ ap (climbBy b T a u) (node-mask S Q T C b n g i k)
-      ∙ climb-mask b a u (offers S Q b n (union (closed S Q b) g)) (r .0) (omega arith)
-      ∙ ap (λ (f : ℕ → Bool). maskBelow f (length Q)) (sym (ap (hang S Q n g) (chain-last S a u b t (r .0) (r .1)) ∙ hang-snoc S Q n g (chain S a u) b))
+      ∙ ap (climbBy b T a u) (node-mask S Q T C b n w g i k)
+      ∙ climb-mask b a u (offers S Q b w (union (closed S Q b) g)) (r .0) (omega arith)
+      ∙ ap (λ (f : ℕ → Bool). maskBelow f (length Q)) (sym (ap (hang S Q w g) (chain-last S a u b t (r .0) (r .1)) ∙ hang-snoc S Q w g (chain S a u) b))

@@ -5,7 +5,7 @@ use mathlib.Core.Logic.{_⊎_, inl, inr}
 use native.Mathlib.Omega.{arith}
 use native.Mathlib.Nat.{eq-zero-or-pos}
 use Rattle.model.specs.Tree.{Rooted}
-use Rattle.judging.specs.Judging.{Sets, nodeBy, hangBy}
+use Rattle.judging.specs.Judging.{nobody, Sets, nodeBy, hangBy}
 use Rattle.judging.proofs.ChainLaws.{Climbing, climbing-start, climbing-step, climbing-end}
 
 -- a parent is no greater
@@ -28,7 +28,7 @@ module _ {T : Sets} {a : ℕ} (R : Rooted 64 (T .up)) where
   pub hang-less : {h₀ x₀ h x y : ℕ} → HangInv T a h₀ x₀ h x → a < x → y ≡ T .up x → y < x
   hang-less {h₀} {x₀} {h} {x} {y} v l q = let k : T .up x < x = R .earlier x (omega arith) (v .inside) in omega arith
 
-  pub hang-step : {h₀ x₀ h x i y : ℕ} → HangInv T a h₀ x₀ h x → a < x → i ≡ nodeBy T x 0 h → y ≡ T .up x → HangInv T a h₀ x₀ i y
+  pub hang-step : {h₀ x₀ h x i y : ℕ} → HangInv T a h₀ x₀ h x → a < x → i ≡ nodeBy T x nobody h → y ≡ T .up x → HangInv T a h₀ x₀ i y
   hang-step {h₀} {x₀} {h} {x} {i} {y} v l p q =
       let k : T .up x < x = R .earlier x (omega arith) (v .inside) in
       let m : x < 64 = v .inside in
@@ -37,7 +37,7 @@ module _ {T : Sets} {a : ℕ} (R : Rooted 64 (T .up)) where
         climbs = λ whole c. subst₂ (Climbing T a whole) (sym q) (sym p) (climbing-step T a whole x h l k (v .climbs whole c));
       }
 
-  -- the climb began above b, which holds position n and from which g hangs
+  -- the climb began above b, which n holds and from which g hangs
   pub hang-end : {b h₀ x₀ h x : ℕ} (n g : ℕ) → HangInv T a h₀ x₀ h x → x ≤ a → b < 64 → h₀ ≡ nodeBy T b n g → x₀ ≡ T .up b → h ≡ hangBy T a b n g
   hang-end {b} {h₀} {x₀} {h} {x} n g v l d p q =
       climbing-end T a (hangBy T a b n g) x h l

@@ -10,19 +10,18 @@ use lib.Dec.{ltb}
 use lib.ListN.{length}
 use lib.Pow.{pow-lt, pow-mono}
 use borrow.Author.Tests.{ltb-true, ltb-false}
-use Rattle.model.specs.Limits.{maxPosition}
 use Rattle.model.specs.Lists.{maskBelow, has}
 use Rattle.model.specs.Tree.{IsTree, Below}
 use Rattle.model.specs.Summary.{Summary, asDocument}
-use Rattle.model.specs.Pattern.{Pattern, IsPatternTree, position}
+use Rattle.model.specs.Pattern.{Pattern, IsPatternTree}
 use Rattle.model.specs.Canonical.{chain}
-use Rattle.model.specs.Quick.{offers, closed, union, hang}
+use Rattle.model.specs.Quick.{Held, heldBy, offers, closed, union, hang}
 use Rattle.model.proofs.ListLaws.{not-both}
 use Rattle.model.proofs.Masks.{mask-below, mask-past, mask-lt}
 use Rattle.model.proofs.QuickLaws.{Within, meets-more, offers-more, union-more, hang-more}
 use Rattle.bits.proofs.MaskLaws.{mask-ext}
 use Rattle.judging.specs.Judging.{Sets, nodeBy, hangBy, rootBy}
-use Rattle.judging.specs.Prepared.{ChainSets}
+use Rattle.judging.specs.Prepared.{Allows, ChainSets}
 use Rattle.judging.proofs.ChainLaws.{hang-mask}
 use Rattle.judging.proofs.Judging.{root-mask}
 use Rattle.judging.proofs.SetLaws.{node-mask}
@@ -64,25 +63,25 @@ module _ (a k : ℕ) (g : ℕ → Bool) (s : Subset a (maskBelow g k)) where
 
 -- ---- what a node, a chain and the root make of a set
 
-module _ (S : Summary) (Q : Pattern) (T : Sets) (C : ChainSets S Q T) where
-  pub node-sub : (x n a : ℕ) (g : ℕ → Bool) → x < length S → n ≤ maxPosition → Subset a (maskBelow g (length Q))
-      → Subset (nodeBy T x n a) (maskBelow (offers S Q x n (union (closed S Q x) g)) (length Q))
-  node-sub x n a g h k s =
-      subst (λ (b : ℕ). Subset b (maskBelow (offers S Q x n (union (closed S Q x) g)) (length Q)))
-      (sym (ap (nodeBy T x n) (sub-mask a (length Q) g s) ∙ node-mask S Q T C x n (has a) h k))
-      (mask-of-more (offers S Q x n (union (closed S Q x) (has a))) (offers S Q x n (union (closed S Q x) g)) (length Q)
-      (offers-more S Q x n n (union (closed S Q x) (has a)) (union (closed S Q x) g) (inr refl) (union-more (closed S Q x) (has a) g (sub-within a (length Q) g s))))
+module _ (S : Summary) {P : Pattern} (Q : Pattern) (T : Sets) (C : ChainSets S P Q T) where
+  pub node-sub : (x n : ℕ) (w : Held) (a : ℕ) (g : ℕ → Bool) → x < length S → Allows Q T n w → Subset a (maskBelow g (length Q))
+      → Subset (nodeBy T x n a) (maskBelow (offers S Q x w (union (closed S Q x) g)) (length Q))
+  node-sub x n w a g h k s =
+      subst (λ (b : ℕ). Subset b (maskBelow (offers S Q x w (union (closed S Q x) g)) (length Q)))
+      (sym (ap (nodeBy T x n) (sub-mask a (length Q) g s) ∙ node-mask S Q T C x n w (has a) h k))
+      (mask-of-more (offers S Q x w (union (closed S Q x) (has a))) (offers S Q x w (union (closed S Q x) g)) (length Q)
+      (offers-more S Q x w w (union (closed S Q x) (has a)) (union (closed S Q x) g) (inr refl) (union-more (closed S Q x) (has a) g (sub-within a (length Q) g s))))
 
-  pub hang-sub : IsTree (asDocument S) → (x y n a : ℕ) (g : ℕ → Bool) → Below (asDocument S) x y → n ≤ maxPosition → Subset a (maskBelow g (length Q))
-      → Subset (hangBy T x y n a) (maskBelow (hang S Q n g (chain S x y)) (length Q))
-  hang-sub t x y n a g d k s =
-      subst (λ (b : ℕ). Subset b (maskBelow (hang S Q n g (chain S x y)) (length Q)))
-      (sym (ap (hangBy T x y n) (sub-mask a (length Q) g s) ∙ hang-mask S Q T C t x y n (has a) d k))
-      (mask-of-more (hang S Q n (has a) (chain S x y)) (hang S Q n g (chain S x y)) (length Q) (hang-more S Q n (has a) g (chain S x y) (sub-within a (length Q) g s)))
+  pub hang-sub : IsTree (asDocument S) → (x y n : ℕ) (w : Held) (a : ℕ) (g : ℕ → Bool) → Below (asDocument S) x y → Allows Q T n w → Subset a (maskBelow g (length Q))
+      → Subset (hangBy T x y n a) (maskBelow (hang S Q w g (chain S x y)) (length Q))
+  hang-sub t x y n w a g d k s =
+      subst (λ (b : ℕ). Subset b (maskBelow (hang S Q w g (chain S x y)) (length Q)))
+      (sym (ap (hangBy T x y n) (sub-mask a (length Q) g s) ∙ hang-mask S Q T C t x y n w (has a) d k))
+      (mask-of-more (hang S Q w (has a) (chain S x y)) (hang S Q w g (chain S x y)) (length Q) (hang-more S Q w (has a) g (chain S x y) (sub-within a (length Q) g s)))
 
-  pub root-sub : (P : Pattern) → IsTree (asDocument S) → IsPatternTree P → length P ≤ 16 → ((c : ℕ) → c < length P → position P c ≤ maxPosition) → 0 < length Q
-      → (a : ℕ) (g : ℕ → Bool) → Subset a (maskBelow g (length Q)) → rootBy T P a ≡ true → rootBy T P (maskBelow g (length Q)) ≡ true
-  root-sub P t p small range z a g s e =
-      root-mask S P Q T C t p small range g z
-      ∙ meets-more S Q 0 (position P 0) (position P 0) (union (closed S Q 0) (has a)) (union (closed S Q 0) g) (inr refl) (union-more (closed S Q 0) (has a) g (sub-within a (length Q) g s)) 0
-      (sym (root-mask S P Q T C t p small range (has a) z) ∙ ap (rootBy T P) (sym (sub-mask a (length Q) g s)) ∙ e)
+  pub root-sub : IsTree (asDocument S) → IsPatternTree P → length P ≤ 16 → 0 < length Q
+      → (a : ℕ) (g : ℕ → Bool) → Subset a (maskBelow g (length Q)) → rootBy T a ≡ true → rootBy T (maskBelow g (length Q)) ≡ true
+  root-sub t p small z a g s e =
+      root-mask S P Q T C t p small g z
+      ∙ meets-more S Q 0 (heldBy P 0) (heldBy P 0) (union (closed S Q 0) (has a)) (union (closed S Q 0) g) (inr refl) (union-more (closed S Q 0) (has a) g (sub-within a (length Q) g s)) 0
+      (sym (root-mask S P Q T C t p small (has a) z) ∙ ap (rootBy T) (sym (sub-mask a (length Q) g s)) ∙ e)

@@ -4,17 +4,13 @@ use mathlib.Core.Path.{_≡_, sym, subst}
 use mathlib.Core.List.{List, []}
 use native.Mathlib.Omega.{arith}
 use lib.ListN.{length, getD}
-use Rattle.model.specs.Pattern.{patternParent, position}
+use Rattle.model.specs.Pattern.{patternParent}
 use Rattle.format.specs.Given.{patternAt, PatternGiven}
-use Rattle.judging.specs.Room.{Climbable, Judgeable, Placed, Steppable}
+use Rattle.judging.specs.Room.{Judgeable, Placed, Steppable}
 
 -- a parent comes before its children
 pub parent-lt : {p : List ℕ} {at c j : ℕ} → PatternGiven p at → 0 < c → c < length (patternAt p at) → j ≡ patternParent (patternAt p at) c → j < c
 parent-lt {p} {at} {c} {j} R z h e = let l : patternParent (patternAt p at) c < c = R .tree .earlier c z h in omega arith
-
--- a position is one of a block's
-pub position-lt : {t p : List ℕ} {at c n : ℕ} → Climbable t p at → c < length (patternAt p at) → n ≡ position (patternAt p at) c → n < 16
-position-lt {c = c} R h e = subst (λ (x : ℕ). x < 16) (sym e) (R .range c h)
 
 module _ {p : List ℕ} {at : ℕ} {images : List ℕ} (R : Placed p at images) where
   -- a parent has an image, and an image is a summary node

@@ -10,18 +10,16 @@ use lib.Dec.{eqb}
 use lib.ListN.{length}
 use lib.Pow.{pow-mono, split}
 use borrow.Author.Tests.{eqb-true, eq-eqb}
-use Rattle.model.specs.Limits.{maxPosition}
 use Rattle.model.specs.Lists.{upFrom, allOf, maskBelow}
 use Rattle.model.specs.Summary.{Summary, summaryLabel}
 use Rattle.model.specs.Pattern.{Pattern, patternLabel, descends, labelFits}
-use Rattle.model.specs.Quick.{hangsFrom, meets, offers, closed, union}
+use Rattle.model.specs.Quick.{Held, mayHold, hangsFrom, meets, offers, closed, union}
 use Rattle.model.proofs.ListLaws.{and-intro, and-left, and-right, bool-ext}
 use Rattle.model.proofs.Masks.{mask-lt, mask-below}
 use Rattle.bits.proofs.MaskLaws.{mask-agree, mask-or, mask-and, subset-all}
 use Rattle.matching.specs.Matching.{childrenIn}
 use Rattle.judging.specs.Judging.{fullBy, meetsBy, offersBy, Sets, nodeBy}
-use Rattle.judging.specs.Sets.{mayHold}
-use Rattle.judging.specs.Prepared.{NodeSets, ChainSets}
+use Rattle.judging.specs.Prepared.{Allows, NodeSets, ChainSets}
 
 -- ---- sets in two parts
 
@@ -71,29 +69,29 @@ full-halves Q T small lows highs acc =
 
 -- ---- one node
 
-module _ (S : Summary) (Q : Pattern) (T : Sets) (N : NodeSets S Q T) where
-  pub meets-mask : (x n : ℕ) (acc : ℕ → Bool) → x < length S → n ≤ maxPosition
-      → meetsBy T x n (maskBelow acc (length Q)) ≡ maskBelow (meets S Q x n acc) (length Q)
+module _ (S : Summary) {P : Pattern} (Q : Pattern) (T : Sets) (N : NodeSets S P Q T) where
+  pub meets-mask : (x n : ℕ) (w : Held) (acc : ℕ → Bool) → x < length S → Allows Q T n w
+      → meetsBy T x n (maskBelow acc (length Q)) ≡ maskBelow (meets S Q x w acc) (length Q)
   unfolding meetsBy meets childrenIn
-  meets-mask x n acc h k =
-      ap₂ bitAnd (ap₂ bitAnd (N .fits x h) (N .may n k) ∙ mask-and fit (mayHold Q n) (length Q)) (N .full acc)
-      ∙ mask-and (λ p. fit p && mayHold Q n p) (childrenIn Q acc) (length Q)
+  meets-mask x n w acc h k =
+      ap₂ bitAnd (ap₂ bitAnd (N .fits x h) k ∙ mask-and fit (mayHold Q w) (length Q)) (N .full acc)
+      ∙ mask-and (λ p. fit p && mayHold Q w p) (childrenIn Q acc) (length Q)
     where
       fit : ℕ → Bool
       fit p = labelFits (patternLabel Q p) (summaryLabel S x)
 
-  pub offers-mask : (x n : ℕ) (acc : ℕ → Bool) → x < length S → n ≤ maxPosition
-      → offersBy T x n (maskBelow acc (length Q)) ≡ maskBelow (offers S Q x n acc) (length Q)
+  pub offers-mask : (x n : ℕ) (w : Held) (acc : ℕ → Bool) → x < length S → Allows Q T n w
+      → offersBy T x n (maskBelow acc (length Q)) ≡ maskBelow (offers S Q x w acc) (length Q)
   unfolding offersBy offers
-  offers-mask x n acc h k =
-      ap₂ bitOr (meets-mask x n acc h k) (ap (λ (d : ℕ). bitAnd d (maskBelow acc (length Q))) (N .deeps) ∙ mask-and (descends Q) acc (length Q))
-      ∙ mask-or (meets S Q x n acc) (λ p. descends Q p && acc p) (length Q)
+  offers-mask x n w acc h k =
+      ap₂ bitOr (meets-mask x n w acc h k) (ap (λ (d : ℕ). bitAnd d (maskBelow acc (length Q))) (N .deeps) ∙ mask-and (descends Q) acc (length Q))
+      ∙ mask-or (meets S Q x w acc) (λ p. descends Q p && acc p) (length Q)
 
 -- with its filled-up children
-pub node-mask : (S : Summary) (Q : Pattern) (T : Sets) → ChainSets S Q T → (x n : ℕ) (g : ℕ → Bool) → x < length S → n ≤ maxPosition
-    → nodeBy T x n (maskBelow g (length Q)) ≡ maskBelow (offers S Q x n (union (closed S Q x) g)) (length Q)
+pub node-mask : (S : Summary) {P : Pattern} (Q : Pattern) (T : Sets) → ChainSets S P Q T → (x n : ℕ) (w : Held) (g : ℕ → Bool) → x < length S → Allows Q T n w
+    → nodeBy T x n (maskBelow g (length Q)) ≡ maskBelow (offers S Q x w (union (closed S Q x) g)) (length Q)
 unfolding nodeBy
-node-mask S Q T C x n g h k =
+node-mask S Q T C x n w g h k =
     ap (offersBy T x n)
     (ap (λ (d : ℕ). bitOr d (maskBelow g (length Q))) (C .closes x h) ∙ mask-or (closed S Q x) g (length Q))
-    ∙ offers-mask S Q T (C .node) x n (union (closed S Q x) g) h k
+    ∙ offers-mask S Q T (C .node) x n w (union (closed S Q x) g) h k

@@ -12,7 +12,7 @@ use lib.Dec.{eqb, ltb}
 use lib.ListN.{length, getD, set, take, replicate, length-set}
 use lib.Seq.{getD-set-same, getD-set-other, getD-take, take-set-le, set-set, set-comm, set-getD}
 use borrow.Author.Tests.{eqb-true, eqb-false, ne-eqb, ltb-true, ltb-false, lt-ltb, le-ltb}
-use Rattle.model.specs.Pattern.{Pattern, IsPatternTree, patternParent, position}
+use Rattle.model.specs.Pattern.{Pattern, IsPatternTree, patternParent}
 use Rattle.judging.specs.Judging.{joinUp, gather, Sets, hangBy, passBy, givenBy, rootBy, judgeBy}
 use Rattle.judging.specs.Settling.{Lasts, unlessOver, settledBy, settledRow, foldedBy, foldedRow, Settled}
 use Rattle.judging.specs.Blocks.{lastIn, setsIn}
@@ -232,7 +232,7 @@ module _ (T : Sets) (P : Pattern) (tree : IsPatternTree P) (last : ℕ → ℕ) 
           let m : last c < q = ltb-true (last c) q a in
           let here = same c (omega arith) in
           let above = same (patternParent P c) (under c (omega arith)) in
-          ap (λ (x : ℕ). choose x 0 (ltb (last c) q)) (λ j. hangBy T (above j) (here j) (position P c) g)
+          ap (λ (x : ℕ). choose x 0 (ltb (last c) q)) (λ j. hangBy T (above j) (here j) c g)
       go c g l false a = ap (choose (passBy T P es c g) 0) a ∙ sym (ap (choose (passBy T P fs c g) 0) a)
 
   pub settled-images : (q : ℕ) (es fs : List ℕ) → q ≤ length P → take q es ≡ take q fs → settledRow T P last q es ≡ settledRow T P last q fs
@@ -276,10 +276,10 @@ module _ (T : Sets) (P : Pattern) (tree : IsPatternTree P) (last : ℕ → ℕ) 
           ends false s k = let i : last c ≡ q → ⊥ = eqb-false (last c) q s in le-ltb (last c) (q + 1) (omega arith) ∙ sym s
 
   -- where all nodes are placed it is what hangs from each
-  pub settled-whole : {q : ℕ} (es : List ℕ) → q ≡ length P → judgeBy T P es ≡ rootBy T P (getD (settledRow T P last q es) 0 0)
+  pub settled-whole : {q : ℕ} (es : List ℕ) → q ≡ length P → judgeBy T P es ≡ rootBy T (getD (settledRow T P last q es) 0 0)
   unfolding judgeBy givenBy settledRow settledBy
   settled-whole {q} es e =
-      ap (λ (t : List ℕ). rootBy T P (getD t 0 0))
+      ap (λ (t : List ℕ). rootBy T (getD t 0 0))
       (gather-agree (patternParent P) (passBy T P es) (settledBy T P last q es) (length P - 1) (replicate 16 0) (λ c g l.
       let i = tree .inhabited in
       let k : last c < length P = L .inside c (omega arith) in
@@ -289,8 +289,8 @@ module _ (T : Sets) (P : Pattern) (tree : IsPatternTree P) (last : ℕ → ℕ) 
 
 module _ {t m : List ℕ} (P : Pattern) (tree : IsPatternTree P) where
   -- a whole embedding is judged by what hangs from its root
-  pub row-whole : {q : ℕ} {es row : List ℕ} → Settled t m P q es row → q ≡ length P → judgeBy (setsIn t) P es ≡ rootBy (setsIn t) P (getD row 0 0)
-  row-whole {q} {es} s e = settled-whole (setsIn t) P tree (lastIn m) (s .lasts) es e ∙ ap (λ (r : List ℕ). rootBy (setsIn t) P (getD r 0 0)) (sym (s .same))
+  pub row-whole : {q : ℕ} {es row : List ℕ} → Settled t m P q es row → q ≡ length P → judgeBy (setsIn t) P es ≡ rootBy (setsIn t) (getD row 0 0)
+  row-whole {q} {es} s e = settled-whole (setsIn t) P tree (lastIn m) (s .lasts) es e ∙ ap (λ (r : List ℕ). rootBy (setsIn t) (getD r 0 0)) (sym (s .same))
 
   -- other images of the nodes that are not placed do as well
   pub row-same : {q : ℕ} {es row : List ℕ} (fs : List ℕ) → q ≤ length P → ((c : ℕ) → c < q → getD fs c 0 ≡ getD es c 0) → Settled t m P q es row → Settled t m P q fs row

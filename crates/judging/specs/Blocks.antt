@@ -28,13 +28,13 @@ fittingIn t x = getD t (64 + x) 0
 abbrev pub closedSetIn : List ℕ → ℕ → ℕ
 closedSetIn t x = getD t (128 + x) 0
 
--- by position: the pattern nodes with it or none
+-- by holder: the pattern nodes that may stand where it holds
 abbrev pub allowedIn : List ℕ → ℕ → ℕ
 allowedIn t n = getD t (192 + n) 0
 
 -- the pattern nodes that hang by a descendant edge
 abbrev pub deepSetIn : List ℕ → ℕ
-deepSetIn t = getD t 208 0
+deepSetIn t = getD t 209 0
 
 -- by byte: the pattern nodes all of whose children among the first eight nodes, or the other eight, are in it
 abbrev pub lowHalfIn : List ℕ → ℕ → ℕ

@@ -6,8 +6,9 @@ use mathlib.Core.List.{List}
 use lib.Bits.{bitAnd, bitOr}
 use lib.Dec.{ltb}
 use lib.ListN.{length, getD, set, replicate}
+use Rattle.model.specs.Limits.{maxPattern}
 use Rattle.model.specs.Lists.{has}
-use Rattle.model.specs.Pattern.{Pattern, patternParent, position}
+use Rattle.model.specs.Pattern.{Pattern, patternParent}
 
 -- ---- tables that are gathered from the leaves up
 
@@ -22,9 +23,13 @@ gather parent F (suc n) t = gather parent F n (joinUp parent F (suc n) t)
 
 -- ---- one node
 
+-- who holds a document node: a node of the first pattern, or this number, nobody
+abbrev pub nobody : ℕ
+nobody = maxPattern
+
 -- what judging reads. By summary node: its parent, the pattern nodes whose labels fit it, what its filled-up children offer. By
--- position: the pattern nodes with it or none. By byte: the pattern nodes all of whose children among the first eight nodes, or the
--- other eight, are in it. The pattern nodes that hang by a descendant edge
+-- holder: the pattern nodes that may stand where it holds. By byte: the pattern nodes all of whose children among the first eight nodes,
+-- or the other eight, are in it. The pattern nodes that hang by a descendant edge
 pub record Sets : Type 0 where
   pub up : ℕ → ℕ
   pub fitting : ℕ → ℕ
@@ -38,7 +43,7 @@ pub record Sets : Type 0 where
 unfoldable pub fullBy : Sets → ℕ → ℕ
 fullBy T acc = bitAnd (T .low (acc % 256)) (T .high (acc / 256))
 
--- the pattern nodes that meet at summary node x, where position n is held and acc is offered
+-- the pattern nodes that meet at summary node x, where n holds and acc is offered
 unfoldable pub meetsBy : Sets → ℕ → ℕ → ℕ → ℕ
 meetsBy T x n acc = bitAnd (bitAnd (T .fitting x) (T .allowed n)) (fullBy T acc)
 
@@ -46,7 +51,7 @@ meetsBy T x n acc = bitAnd (bitAnd (T .fitting x) (T .allowed n)) (fullBy T acc)
 unfoldable pub offersBy : Sets → ℕ → ℕ → ℕ → ℕ
 offersBy T x n acc = bitOr (meetsBy T x n acc) (bitAnd (T .deep) acc)
 
--- what a node on x with position n, its filled-up children and what hangs from it, g, offer
+-- what a node on x that n holds, its filled-up children and what hangs from it, g, offer
 unfoldable pub nodeBy : Sets → ℕ → ℕ → ℕ → ℕ
 nodeBy T x n g = offersBy T x n (bitOr (T .closed x) g)
 
@@ -55,9 +60,9 @@ nodeBy T x n g = offersBy T x n (bitOr (T .closed x) g)
 -- from x up to below a, at most k nodes, where h is offered to x
 unfoldable pub climbBy : ℕ → Sets → ℕ → ℕ → ℕ → ℕ
 climbBy zero T a x h = h
-climbBy (suc k) T a x h = elim (ltb a x) [ true ↦ climbBy k T a (T .up x) (nodeBy T x 0 h) | false ↦ h ]
+climbBy (suc k) T a x h = elim (ltb a x) [ true ↦ climbBy k T a (T .up x) (nodeBy T x nobody h) | false ↦ h ]
 
--- what the chain from below a down to b offers, where b holds position n and g hangs from it
+-- what the chain from below a down to b offers, where n holds b, nobody the nodes above it, and g hangs from b
 unfoldable pub hangBy : Sets → ℕ → ℕ → ℕ → ℕ → ℕ
 hangBy T a b n g = climbBy b T a (T .up b) (nodeBy T b n g)
 
@@ -65,16 +70,16 @@ hangBy T a b n g = climbBy b T a (T .up b) (nodeBy T b n g)
 
 -- what first-pattern node c passes on to its parent, where e hangs from it
 unfoldable pub passBy : Sets → Pattern → List ℕ → ℕ → ℕ → ℕ
-passBy T P es c e = hangBy T (getD es (patternParent P c) 0) (getD es c 0) (position P c) e
+passBy T P es c e = hangBy T (getD es (patternParent P c) 0) (getD es c 0) c e
 
 -- what hangs from each of its nodes
 unfoldable pub givenBy : Sets → Pattern → List ℕ → List ℕ
 givenBy T P es = gather (patternParent P) (passBy T P es) (length P - 1) (replicate 16 0)
 
 -- the member's root meets at the root, where g hangs from it
-unfoldable pub rootBy : Sets → Pattern → ℕ → Bool
-rootBy T P g = has (meetsBy T 0 (position P 0) (bitOr (T .closed 0) g)) 0
+unfoldable pub rootBy : Sets → ℕ → Bool
+rootBy T g = has (meetsBy T 0 0 (bitOr (T .closed 0) g)) 0
 
 -- by what hangs from the root
 unfoldable pub judgeBy : Sets → Pattern → List ℕ → Bool
-judgeBy T P es = rootBy T P (getD (givenBy T P es) 0 0)
+judgeBy T P es = rootBy T (getD (givenBy T P es) 0 0)

@@ -4,30 +4,34 @@ use mathlib.Core.Path.{_≡_}
 use mathlib.Core.Bool.{Bool}
 use mathlib.Core.List.{List, []}
 use lib.ListN.{length, getD}
-use Rattle.model.specs.Limits.{maxPosition}
 use Rattle.model.specs.Lists.{maskBelow}
 use Rattle.model.specs.Tree.{Rooted, IsTree}
 use Rattle.model.specs.Summary.{Summary, asDocument, summaryLabel, summaryParent}
-use Rattle.model.specs.Pattern.{Pattern, IsPatternTree, patternLabel, descends, position, labelFits}
+use Rattle.model.specs.Pattern.{Pattern, IsPatternTree, patternLabel, descends, labelFits}
 use Rattle.model.specs.Facts.{SummaryFacts}
 use Rattle.model.specs.Embeddings.{childTest, belowTest, isPath}
-use Rattle.model.specs.Quick.{closed}
+use Rattle.model.specs.Quick.{Held, heldBy, unheld, mayHold, closed}
 use Rattle.matching.specs.Matching.{childrenIn}
 use Rattle.judging.specs.Blocks.{upIn, capIn, lastIn, setsIn, candidatesIn}
-use Rattle.judging.specs.Judging.{fullBy, Sets}
-use Rattle.judging.specs.Sets.{mayHold, pathTable, summaryRows}
+use Rattle.judging.specs.Judging.{nobody, fullBy, Sets}
+use Rattle.judging.specs.Sets.{pathTable, summaryRows}
 use Rattle.judging.specs.Stepping.{Candidates}
 
--- what one node takes
-pub record NodeSets (S : Summary) (Q : Pattern) (T : Sets) : Type 0 where
+-- entry n has the nodes of Q that may stand where h is held
+abbrev pub Allows : Pattern → Sets → ℕ → Held → Type 0
+Allows Q T n h = T .allowed n ≡ maskBelow (mayHold Q h) (length Q)
+
+-- what one node takes; P is the first pattern
+pub record NodeSets (S : Summary) (P Q : Pattern) (T : Sets) : Type 0 where
   pub fits : (x : ℕ) → x < length S → T .fitting x ≡ maskBelow (λ p. labelFits (patternLabel Q p) (summaryLabel S x)) (length Q)
-  pub may : (n : ℕ) → n ≤ maxPosition → T .allowed n ≡ maskBelow (mayHold Q n) (length Q)
+  pub may : (c : ℕ) → c < length P → Allows Q T c (heldBy P c)
+  pub free : Allows Q T nobody unheld
   pub full : (acc : ℕ → Bool) → fullBy T (maskBelow acc (length Q)) ≡ maskBelow (childrenIn Q acc) (length Q)
   pub deeps : T .deep ≡ maskBelow (descends Q) (length Q)
 
 -- and what a chain takes
-pub record ChainSets (S : Summary) (Q : Pattern) (T : Sets) : Type 0 where
-  pub node : NodeSets S Q T
+pub record ChainSets (S : Summary) (P Q : Pattern) (T : Sets) : Type 0 where
+  pub node : NodeSets S P Q T
   pub ups : (x : ℕ) → x < length S → T .up x ≡ summaryParent S x
   pub closes : (x : ℕ) → x < length S → T .closed x ≡ maskBelow (closed S Q x) (length Q)
 
@@ -44,21 +48,21 @@ pub record SummaryNarrow (S : Summary) : Type 0 where
   pub tree : IsTree (asDocument S)
   pub few : length S ≤ 64
 
--- the block of a summary and a member holds what one node takes, and the summary's parents, with zeros after them
-pub record SetsMade (S : Summary) (Q : Pattern) (t : List ℕ) : Type 0 where
+-- the block of a summary, a first pattern and a member holds what one node takes, and the summary's parents, with zeros after them
+pub record SetsMade (S : Summary) (P Q : Pattern) (t : List ℕ) : Type 0 where
   pub tree : Rooted 64 (upIn t)
   pub ups : (x : ℕ) → x < length S → upIn t x ≡ summaryParent S x
-  pub node : NodeSets S Q (setsIn t)
+  pub node : NodeSets S P Q (setsIn t)
 
 -- and what a chain takes
-pub record MemberMade (S : Summary) (Q : Pattern) (t : List ℕ) : Type 0 where
+pub record MemberMade (S : Summary) (P Q : Pattern) (t : List ℕ) : Type 0 where
   pub tree : Rooted 64 (upIn t)
-  pub sets : ChainSets S Q (setsIn t)
+  pub sets : ChainSets S P Q (setsIn t)
 
 -- one for each member, in the set's order
-pub record MembersMade (S : Summary) (Qs : List Pattern) (ts : List (List ℕ)) : Type 0 where
+pub record MembersMade (S : Summary) (P : Pattern) (Qs : List Pattern) (ts : List (List ℕ)) : Type 0 where
   pub count : length ts ≡ length Qs
-  pub each : (i : ℕ) → i < length Qs → MemberMade S (getD Qs i []) (getD ts i [])
+  pub each : (i : ℕ) → i < length Qs → MemberMade S P (getD Qs i []) (getD ts i [])
 
 -- the block of a summary and a first pattern holds what stepping takes, if `parts` has the pattern's paths; no ways are counted yet
 pub record MasksMade (S : Summary) (parts lasts : List ℕ) (cap : ℕ) (m : List ℕ) : Type 0 where
@@ -79,9 +83,8 @@ pub record Made (ts : List (List ℕ)) (m : List ℕ) (P : Pattern) : Type 0 whe
   pub members : List Pattern
   pub facts : SummaryFacts summary
   pub narrow : length summary ≤ 64
-  pub chains : (i : ℕ) → i < length ts → ChainSets summary (getD members i []) (setsIn (getD ts i []))
+  pub chains : (i : ℕ) → i < length ts → ChainSets summary P (getD members i []) (setsIn (getD ts i []))
   pub some : (i : ℕ) → i < length ts → 0 < length (getD members i [])
   pub steps : StepSets summary P (candidatesIn m)
   pub tree : IsPatternTree P
   pub small : length P ≤ 16
-  pub range : (c : ℕ) → c < length P → position P c ≤ maxPosition

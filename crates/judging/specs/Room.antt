@@ -5,7 +5,6 @@ use mathlib.Core.List.{List, []}
 use lib.ListN.{length, getD}
 use Rattle.model.specs.Limits.{maxMembers}
 use Rattle.model.specs.Tree.{Rooted}
-use Rattle.model.specs.Pattern.{position}
 use Rattle.format.specs.Given.{patternAt, PatternGiven}
 use Rattle.judging.specs.Blocks.{upIn, parentIn, capIn}
 
@@ -13,7 +12,6 @@ use Rattle.judging.specs.Blocks.{upIn, parentIn, capIn}
 pub record Climbable (t p : List ℕ) (at : ℕ) : Type 0 where
   pub tree : Rooted 64 (upIn t)
   pub pattern : PatternGiven p at
-  pub range : (c : ℕ) → c < length (patternAt p at) → position (patternAt p at) c < 16
 
 -- and images of its nodes
 pub record Judgeable (t p : List ℕ) (at : ℕ) (images : List ℕ) : Type 0 where

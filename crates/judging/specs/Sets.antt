@@ -1,7 +1,7 @@
 -- The tables that judging and stepping read, of a summary and a pattern.
 use Prim.Native.Nat.{ℕ, _+_, _-_, _/_, _%_, _^_, _≤_, _<_}
 use mathlib.Core.Path.{_≡_}
-use mathlib.Core.Bool.{Bool, _||_}
+use mathlib.Core.Bool.{Bool}
 use mathlib.Core.List.{List, [], _∷_, map}
 use lib.Bits.{bitAnd, bitOr}
 use lib.Dec.{eqb}
@@ -9,14 +9,15 @@ use lib.ListN.{length, getD, replicate}
 use lib.Seq.{paste}
 use Rattle.model.specs.Lists.{upFrom, maskBelow}
 use Rattle.model.specs.Summary.{Summary, summaryParent, summaryLabel}
-use Rattle.model.specs.Pattern.{Pattern, patternLabel, descends, position, labelFits}
+use Rattle.model.specs.Pattern.{Pattern, patternLabel, descends, position, patternFigure, labelFits}
 use Rattle.model.specs.Embeddings.{pathMask}
 use Rattle.model.specs.Fitting.{strongChildren}
+use Rattle.model.specs.Quick.{mayHold}
 use Rattle.model.specs.Strong.{strongTable}
 use Rattle.model.specs.Bytes.{writtenAtFront}
-use Rattle.judging.specs.Judging.{gather, Sets, offersBy}
+use Rattle.judging.specs.Judging.{nobody, gather, Sets, offersBy}
 use Rattle.judging.specs.declared.sets.Asked.{Asked}
-use Rattle.judging.specs.declared.sets.Asked.the-variants.{Label, Position, Deep}
+use Rattle.judging.specs.declared.sets.Asked.the-variants.{Label, Held, Deep}
 
 -- f's values at 0 to n - 1, then zeros, k entries in all
 abbrev pub tableOf : (ℕ → ℕ) → ℕ → ℕ → List ℕ
@@ -40,30 +41,30 @@ pathTable S P = map (pathMask S P) (upFrom 0 16)
 
 -- ---- a member of the set
 
--- p's position is 0 or n
-abbrev pub mayHold : Pattern → ℕ → ℕ → Bool
-mayHold Q n p = eqb (position Q p) 0 || eqb (position Q p) n
-
--- p's label fits, its position is the one or none, or it hangs by a descendant edge
+-- p's label fits, it may stand where a position and a figure are held, or it hangs by a descendant edge
 abbrev pub askedBy : Pattern → Asked → ℕ → Bool
 askedBy Q (Label l) p = labelFits (patternLabel Q p) l
-askedBy Q (Position n) p = mayHold Q n p
+askedBy Q (Held n f) p = mayHold Q (record { position = n; figure = f }) p
 askedBy Q Deep p = descends Q p
 
 -- the nodes of which that is so
 unfoldable pub askedSet : Pattern → Asked → ℕ
 askedSet Q w = maskBelow (askedBy Q w) (length Q)
 
+-- and those that may stand where node c of the first pattern holds
+abbrev pub heldSet : Pattern → Pattern → ℕ → ℕ
+heldSet P Q c = askedSet Q (Held (position P c) (patternFigure P c))
+
 -- of n nodes those whose children, from the bit that shift stands for on, are all in byte b; kids has each node's children
 unfoldable pub byteSet : List ℕ → ℕ → ℕ → ℕ → ℕ
 byteSet kids n shift b = maskBelow (λ p. eqb (bitAnd (getD kids p 0 / shift % 256) b) (getD kids p 0 / shift % 256)) n
 
--- by summary node, by position, by byte
+-- by summary node, by the first pattern's node that holds, by byte
 abbrev pub fittingTable : Summary → Pattern → List ℕ
 fittingTable S Q = tableOf (λ x. askedSet Q (Label (summaryLabel S x))) (length S) 64
 
-abbrev pub allowedTable : Pattern → List ℕ
-allowedTable Q = tableOf (λ n. askedSet Q (Position n)) 9 16
+abbrev pub allowedTable : Pattern → Pattern → List ℕ
+allowedTable P Q = tableOf (heldSet P Q) (length P) 16
 
 abbrev pub byteTable : List ℕ → ℕ → ℕ → List ℕ
 byteTable kids n shift = tableOf (byteSet kids n shift) 256 256
@@ -92,7 +93,7 @@ summaryRows S = upTable S ∷ gathered S childBy ∷ gathered S belowBy ∷ stro
 -- acc, joined with what the summary nodes cs offer to the node above them, where each is offered its entry of closed
 unfoldable pub joinOffers : Sets → List ℕ → ℕ → List ℕ → ℕ
 joinOffers T closed acc [] = acc
-joinOffers T closed acc (c ∷ cs) = joinOffers T closed (bitOr acc (offersBy T c 0 (getD closed c 0))) cs
+joinOffers T closed acc (c ∷ cs) = joinOffers T closed (bitOr acc (offersBy T c nobody (getD closed c 0))) cs
 
 -- by summary node, what its filled-up children offer: what its strong children offer, each with its own filled-up children
 pub record Closed (S : Summary) (T : Sets) (closed : List ℕ) : Type 0 where

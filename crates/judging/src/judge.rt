@@ -3,6 +3,7 @@
 use crate::masks::Masks;
 use crate::masks::last;
 use crate::member::Member;
+use crate::member::NOBODY;
 use crate::member::allowed;
 use crate::member::closed;
 use crate::member::deep;
@@ -17,16 +18,15 @@ use format::nodes::SummaryNode;
 use format::nodes::image_of;
 use format::pattern::pattern_count;
 use format::pattern::pattern_parent;
-use format::pattern::pattern_position;
 ghost use mathlib.Core.Path.{_≡_};
-ghost use Prim.Native.Nat.{_<_};
+ghost use Prim.Native.Nat.{_≤_, _<_};
 ghost use lib.Bits.{bitOr};
 ghost use lib.ListN.{length, getD, set as setAt};
 ghost use Rattle.model.specs.Tree.{Rooted};
 ghost use Rattle.format.specs.Given.{patternAt};
 ghost use Rattle.judging.specs.Blocks.{upIn, lastIn, setsIn};
-ghost use Rattle.judging.specs.Judging.{fullBy, meetsBy, offersBy, nodeBy, hangBy, passBy, rootBy};
-ghost use Rattle.judging.specs.Room.{Climbable, Judgeable};
+ghost use Rattle.judging.specs.Judging.{nobody, fullBy, meetsBy, offersBy, nodeBy, hangBy, passBy, rootBy};
+ghost use Rattle.judging.specs.Room.{Judgeable};
 ghost use Rattle.judging.specs.Settling.{unlessOver, foldedRow};
 
 // By node of the first pattern, what the complete parts that hang from it offer.
@@ -42,9 +42,9 @@ fn full(t: &Member, acc: u16) -> u16
     low(t, acc % 256) & high(t, acc / 256)
 }
 
-// The pattern nodes that meet at summary node x, where position n is held and acc is offered.
+// The pattern nodes that meet at summary node x, where n holds and acc is offered.
 fn met(t: &Member, x: SummaryNode, n: usize, acc: u16) -> u16
-    requires { ⌜ (x .0 < 64) × (n < 16) ⌝ }
+    requires { ⌜ (x .0 < 64) × (n ≤ nobody) ⌝ }
     ensures { λ r. ⌜ r ≡ meetsBy (setsIn (now (t .entry))) (x .0) n acc ⌝ }
 {
     fitting(t, x) & allowed(t, n) & full(t, acc)
@@ -52,29 +52,29 @@ fn met(t: &Member, x: SummaryNode, n: usize, acc: u16) -> u16
 
 // What is offered to the node above x.
 pub fn offered(t: &Member, x: SummaryNode, n: usize, acc: u16) -> u16
-    requires { ⌜ (x .0 < 64) × (n < 16) ⌝ }
+    requires { ⌜ (x .0 < 64) × (n ≤ nobody) ⌝ }
     ensures { λ r. ⌜ r ≡ offersBy (setsIn (now (t .entry))) (x .0) n acc ⌝ }
 {
     met(t, x, n, acc) | (deep(t) & acc)
 }
 
-// What a node on x with position n, its filled-up children and what hangs from it, g, offer.
+// What a node on x that n holds, its filled-up children and what hangs from it, g, offer.
 pub fn node(t: &Member, x: SummaryNode, n: usize, g: u16) -> u16
-    requires { ⌜ (x .0 < 64) × (n < 16) ⌝ }
+    requires { ⌜ (x .0 < 64) × (n ≤ nobody) ⌝ }
     ensures { λ r. ⌜ r ≡ nodeBy (setsIn (now (t .entry))) (x .0) n g ⌝ }
 {
     offered(t, x, n, closed(t, x) | g)
 }
 
-// What the chain from below a down to b offers, where b holds position n and g hangs from it.
+// What the chain from below a down to b offers, where n holds b, nobody the nodes above it, and g hangs from b.
 fn hang(t: &Member, a: SummaryNode, b: SummaryNode, n: usize, g: u16) -> u16
-    requires { ⌜ (Rooted 64 (upIn (now t))) × (b .0 < 64) × (n < 16) ⌝ }
+    requires { ⌜ (Rooted 64 (upIn (now t))) × (b .0 < 64) × (n ≤ nobody) ⌝ }
     ensures { λ r. ⌜ r ≡ hangBy (setsIn (now (t .entry))) (a .0) (b .0) n g ⌝ }
 {
     let mut h = node(t, b, n, g);
     let mut x = up(t, b);
     while a.0 < x.0 {
-        h = node(t, x, 0, h);
+        h = node(t, x, NOBODY, h);
         x = up(t, x);
     }
     h
@@ -87,7 +87,7 @@ pub fn pass(t: &Member, p: &[u8], at: usize, images: &[u16], c: PatternNode, e: 
     ensures { λ r. ⌜ r ≡ passBy (setsIn (now (t .entry))) (patternAt (now (p .entry)) at) (now (images .entry)) (c .0) e ⌝ }
 {
     let a = image_of(images, pattern_parent(p, at, c));
-    hang(t, a, image_of(images, c), pattern_position(p, at, c), e)
+    hang(t, a, image_of(images, c), c.0, e)
 }
 
 // Joins a set into entry j.
@@ -146,12 +146,10 @@ pub fn settle(
     hangs
 }
 
-// The member's root meets at the root, where g hangs from it.
-pub fn root(t: &Member, p: &[u8], at: usize, g: u16) -> bool
-    requires { ⌜ Climbable (now t) (now p) at ⌝ }
-    ensures { λ r. ⌜ r ≡ rootBy (setsIn (now (t .entry))) (patternAt (now (p .entry)) at) g ⌝ }
+// The member's root meets at the root, which the first pattern's root holds, where g hangs from it.
+pub fn root(t: &Member, g: u16) -> bool
+    ensures { λ r. ⌜ r ≡ rootBy (setsIn (now (t .entry))) g ⌝ }
 {
-    let n = pattern_position(p, at, PatternNode(0));
     let top = SummaryNode(0);
-    has16(met(t, top, n, closed(t, top) | g), 0)
+    has16(met(t, top, 0, closed(t, top) | g), 0)
 }

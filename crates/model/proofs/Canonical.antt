@@ -12,7 +12,7 @@ use Rattle.model.specs.Tree.{IsTree}
 use Rattle.model.specs.Summary.{Summary, asDocument}
 use Rattle.model.specs.Pattern.{Pattern, IsPatternTree, patternParent, descends, SummaryEmbedding}
 use Rattle.model.specs.Embeddings.{imageIn}
-use Rattle.model.specs.Canonical.{Spot, rootSpot, spotParent, chain, chains, nodeBound, canonicalSpots, canonical, ownNodes, ownFigure}
+use Rattle.model.specs.Canonical.{Spot, rootSpot, spotParent, chain, chains, nodeBound, canonicalSpots, canonical, ownNodes}
 use Rattle.model.proofs.TreeLaws.{edge-below}
 use Rattle.model.proofs.Chains.{step, below-way, chain-way}
 use Rattle.model.proofs.Laid.{InChain, TopOfChain, Laid}
@@ -24,7 +24,7 @@ use Rattle.model.proofs.FillPhase.{Served, Complete, fill-built, fill-c
 -- as many nodes as the table has
 pub length-canonical : (S : Summary) (P : Pattern) (es : List ℕ) → length (canonical S P es) ≡ length (canonicalSpots S P es)
 unfolding canonical
-length-canonical S P es = length-spots S (ownFigure P (ownNodes S P es)) (canonicalSpots S P es)
+length-canonical S P es = length-spots S _ (canonicalSpots S P es)
 
 module _ (S : Summary) (P : Pattern) (es : List ℕ) (tree : IsTree (asDocument S)) (ordered : IsPatternTree P) (placed : SummaryEmbedding S P (imageIn es)) where
   pub canonical-built : Built S P es (length P) (canonicalSpots S P es) (ownNodes S P es)

@@ -39,7 +39,7 @@ module _ {S : Summary} {P : Pattern} (f : SummaryFacts S) (g : PatternFacts P) w
 
   pub canonical-fits : (es : List ℕ) → length es ≡ length P → SummaryEmbedding S P (imageIn es) → Fits S (canonical S P es)
   unfolding canonical
-  canonical-fits es l m = laid-fits (ownFigure P (ownNodes S P es)) f (laid es m)
+  canonical-fits es l m = laid-fits _ f (laid es m)
 
   pub canonical-result : (es : List ℕ) → length es ≡ length P → SummaryEmbedding S P (imageIn es) → Result P (canonical S P es) (ownResult S P es)
   unfolding canonical ownResult

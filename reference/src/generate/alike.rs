@@ -23,8 +23,8 @@ fn outline_tree(nodes: &[OutlineNode]) -> Tree<(u16, bool)> {
     nodes.iter().map(node).collect()
 }
 
-fn selection_tree(nodes: &[SelectionNode]) -> Tree<(u16, bool, usize)> {
-    let own = |node: &SelectionNode| (node.label, node.descendant, node.position);
+fn selection_tree(nodes: &[SelectionNode]) -> Tree<(u16, bool, usize, u16)> {
+    let own = |node: &SelectionNode| (node.label, node.descendant, node.position, node.figure);
     nodes.iter().map(|node| (node.parent, own(node))).collect()
 }
 

@@ -4,7 +4,7 @@ use super::callers;
 use super::changes::{changes, lone_changes, long_changes, tallies, Change};
 use super::layouts::layouts;
 use super::normals;
-use super::plan::{questions, OutlineRow, Plan, SelectionRow, CALLS, MOVES, TALLIED};
+use super::plan::{questions, Form, OutlineRow, Plan, SelectionRow, CALLS, MOVES, TALLIED};
 use super::strikes;
 use crate::calls::CALLERS;
 use crate::records::{read_case, SET_SELECTIONS};
@@ -70,11 +70,10 @@ fn tallies_of_each() -> Vec<Vector> {
     out
 }
 
-/// Every plan as it is, about each of its selections, and in the form that the
-/// call does not take. One that is moved comes with the whole of its set too.
+/// Every plan as it is and in the forms that the call does not take.
 fn unbroken(call: u32) -> Vec<Vector> {
     let mut out = Vec::new();
-    for whole in [
+    let plans = [
         rich(),
         alone(),
         example(),
@@ -84,17 +83,28 @@ fn unbroken(call: u32) -> Vec<Vector> {
         crossed(),
         in_turn(),
         old_and_whole(),
-    ] {
-        let plan = whole.for_call(call);
-        if MOVES.contains(&call) {
-            out.push(plan.vector());
-            out.push(whole.given_to(call).vector());
-        } else {
-            out.extend((1..=plan.last_selection()).map(|number| about(&plan, number)));
-        }
-        out.push(other_form(&whole.given_to(call)));
+        narrow_and_whole(),
+    ];
+    for whole in plans {
+        out.extend(other_forms(&whole.given_to(call)));
+        out.extend(about_each(&whole, call));
+    }
+    for plan in decided_by_figures() {
+        out.extend(about_each(&plan, call));
     }
     out
+}
+
+/// About each of its selections; one that is moved comes with the whole of its set and
+/// its figures too.
+fn about_each(whole: &Plan, call: u32) -> Vec<Vector> {
+    let plan = whole.for_call(call);
+    if MOVES.contains(&call) {
+        vec![plan.vector(), whole.given_to(call).vector()]
+    } else {
+        let numbers = 1..=plan.last_selection();
+        numbers.map(|number| about(&plan, number)).collect()
+    }
 }
 
 /// The call about another selection, with that one's first placement if it
@@ -114,14 +124,19 @@ fn about(plan: &Plan, selection: u64) -> Vector {
     plan.vector()
 }
 
-/// A case with a set in the old form, with the first member alone; an old case
-/// as it is today, with all members.
-fn other_form(plan: &Plan) -> Vector {
+/// The forms that the call does not take.
+fn other_forms(plan: &Plan) -> impl Iterator<Item = Vector> + '_ {
+    let others = Form::ALL.into_iter().filter(|&form| form != plan.form);
+    others.map(|form| in_form(plan, form))
+}
+
+/// The old form has the first member alone, the others have all members.
+fn in_form(plan: &Plan, form: Form) -> Vector {
     let mut other = Plan {
-        old: !plan.old,
+        form,
         ..plan.clone()
     };
-    if other.old {
+    if form == Form::Old {
         other.set.truncate(1);
     }
     other.vector()
@@ -225,7 +240,8 @@ fn cut_everywhere(plan: &Plan) -> Vec<Vector> {
 }
 
 /// A plan with something for every question to be about: three positions, a
-/// set of three, strong edges, siblings, wildcards and descendants.
+/// set of three, strong edges, siblings, wildcards, descendants and figures, which
+/// the volume's just meet.
 pub fn rich() -> Plan {
     Plan {
         limit: 1_000,
@@ -242,33 +258,43 @@ pub fn rich() -> Plan {
             [4, 2, 1],
         ],
         first: vec![
-            [0, 1, 0, 0],
-            [0, 2, 0, 1],
-            [1, 0, 1, 2],
-            [0, 0, 1, 3],
-            [1, 3, 0, 0],
+            [0, 1, 0, 0, 3],
+            [0, 2, 0, 1, 1_999],
+            [1, 0, 1, 2, 0],
+            [0, 0, 1, 3, 2_000],
+            [1, 3, 0, 0, 1],
         ],
         set: vec![
-            vec![[0, 1, 0, 0], [0, 2, 0, 1], [1, 4, 0, 2], [0, 5, 1, 3]],
             vec![
-                [0, 0, 0, 0],
-                [0, 0, 1, 3],
-                [0, 2, 0, 1],
-                [2, 0, 0, 2],
-                [2, 3, 0, 0],
+                [0, 1, 0, 0, 0],
+                [0, 2, 0, 1, 0],
+                [1, 4, 0, 2, 0],
+                [0, 5, 1, 3, 2_000],
             ],
-            vec![[0, 1, 0, 0], [0, 0, 0, 1], [0, 0, 1, 3], [1, 0, 1, 2]],
+            vec![
+                [0, 0, 0, 0, 1],
+                [0, 0, 1, 3, 1_999],
+                [0, 2, 0, 1, 2],
+                [2, 0, 0, 2, 0],
+                [2, 3, 0, 0, 1],
+            ],
+            vec![
+                [0, 1, 0, 0, 3],
+                [0, 0, 0, 1, 1_999],
+                [0, 0, 1, 3, 2_000],
+                [1, 0, 1, 2, 0],
+            ],
         ],
         volume: vec![
-            [0, 1],
-            [0, 2],
-            [0, 5],
-            [1, 3],
-            [2, 2],
-            [1, 4],
-            [3, 2],
-            [0, 2],
-            [7, 3],
+            [0, 1, 3],
+            [0, 2, 1_999],
+            [0, 5, 2_000],
+            [1, 3, 1],
+            [2, 2, 2_000],
+            [1, 4, 0],
+            [3, 2, 0],
+            [0, 2, 2],
+            [7, 3, 1],
         ],
         result: vec![1, 6, 4],
         placement: vec![0, 1, 5, 6, 2],
@@ -290,9 +316,9 @@ fn example() -> Plan {
         selection: 1,
         position: 1,
         outline: vec![[0, 1, 0], [0, 2, 0], [1, 3, 0]],
-        first: vec![[0, 1, 0, 0], [0, 0, 1, 1]],
-        set: vec![vec![[0, 1, 0, 0], [0, 0, 0, 1]]],
-        volume: vec![[0, 1], [0, 2], [1, 3]],
+        first: vec![[0, 1, 0, 0, 0], [0, 0, 1, 1, 0]],
+        set: vec![vec![[0, 1, 0, 0, 0], [0, 0, 0, 1, 0]]],
+        volume: vec![[0, 1, 0], [0, 2, 0], [1, 3, 0]],
         result: vec![2],
         placement: vec![0, 2],
         ..Plan::default()
@@ -306,9 +332,9 @@ fn least() -> Plan {
         selection: 1,
         position: 1,
         outline: vec![[0, u16::MAX, 0]],
-        first: vec![[0, u16::MAX, 0, 1]],
-        set: vec![vec![[0, 0, 0, 1]]],
-        volume: vec![[0, u16::MAX]],
+        first: vec![[0, u16::MAX, 0, 1, 0]],
+        set: vec![vec![[0, 0, 0, 1, 0]]],
+        volume: vec![[0, u16::MAX, 0]],
         result: vec![0],
         placement: vec![0],
         ..Plan::default()
@@ -321,7 +347,7 @@ fn least() -> Plan {
 fn most() -> Plan {
     let selection = |position: &dyn Fn(u16) -> u16| -> Vec<SelectionRow> {
         (0..16)
-            .map(|q| [0, 0, u16::from(q > 0), position(q)])
+            .map(|q| [0, 0, u16::from(q > 0), position(q), q])
             .collect()
     };
     // The eight positions stand further on in each member.
@@ -349,6 +375,7 @@ fn most() -> Plan {
                 [
                     v.saturating_sub(1 + v % 3),
                     if v == 0 { u16::MAX } else { 1 + v % 2 },
+                    2_000 - v,
                 ]
             })
             .collect(),
@@ -361,17 +388,17 @@ fn most() -> Plan {
 /// Fourteen free nodes before one that fits nowhere: 63^14 partial placements
 /// and no whole one.
 fn no_placement() -> Plan {
-    let mut first: Vec<SelectionRow> = vec![[0, 1, 0, 1]];
-    first.extend([[0, 0, 1, 0]; 14]);
-    first.push([0, 9, 1, 0]);
+    let mut first: Vec<SelectionRow> = vec![[0, 1, 0, 1, 0]];
+    first.extend([[0, 0, 1, 0, 0]; 14]);
+    first.push([0, 9, 1, 0, 0]);
     Plan {
         limit: 1_000_000,
         selection: 1,
         position: 1,
         outline: chain(|_| 1),
         first,
-        set: vec![vec![[0, 1, 0, 1], [0, 9, 1, 0]]],
-        volume: vec![[0, 1], [0, 1], [1, 1]],
+        set: vec![vec![[0, 1, 0, 1, 0], [0, 9, 1, 0, 0]]],
+        volume: vec![[0, 1, 0], [0, 1, 0], [1, 1, 0]],
         result: vec![0],
         placement: vec![0; 16],
         ..Plan::default()
@@ -381,7 +408,7 @@ fn no_placement() -> Plan {
 /// Each position of the second trial is right in some member, and no member
 /// has both.
 fn crossed() -> Plan {
-    let pair = |one, other| vec![[0, 1, 0, 0], [0, one, 0, 1], [0, other, 0, 2]];
+    let pair = |one, other| vec![[0, 1, 0, 0, 0], [0, one, 0, 1, 0], [0, other, 0, 2, 0]];
     Plan {
         limit: 1_000,
         selection: 1,
@@ -389,7 +416,7 @@ fn crossed() -> Plan {
         outline: vec![[0, 1, 0], [0, 2, 0], [0, 3, 0]],
         first: pair(0, 0),
         set: vec![pair(2, 2), pair(3, 3)],
-        volume: vec![[0, 1], [0, 2], [0, 3]],
+        volume: vec![[0, 1, 0], [0, 2, 0], [0, 3, 0]],
         result: vec![1, 2],
         placement: vec![0, 1, 2],
         ..Plan::default()
@@ -399,7 +426,7 @@ fn crossed() -> Plan {
 /// Each of eight trials passes through a member of its own.
 fn in_turn() -> Plan {
     const LABELS: std::ops::RangeInclusive<u16> = 2..=9;
-    let child = |label| vec![[0, 1, 0, 0], [0, label, 0, 1]];
+    let child = |label| vec![[0, 1, 0, 0, 0], [0, label, 0, 1, 0]];
     let mut outline = vec![[0, 1, 0]];
     outline.extend(LABELS.map(|label| [0, label, 0]));
     Plan {
@@ -410,28 +437,94 @@ fn in_turn() -> Plan {
         first: child(0),
         // The last member is that of a trial in the middle.
         set: LABELS.map(|label| child((label + 2) % 8 + 2)).collect(),
-        volume: vec![[0, 1], [0, 2], [0, 4]],
+        volume: vec![[0, 1, 0], [0, 2, 0], [0, 4, 0]],
         result: vec![2],
         placement: vec![0, 3],
         ..Plan::default()
     }
 }
 
-/// A plan whose old form is whole when it is read with a set: four members,
-/// of 0, 3, 0 and 0 records.
+/// A plan whose old form is whole when it is read as it is written today: five
+/// members, of 0, 1, 0, 0 and 0 records.
 fn old_and_whole() -> Plan {
     Plan {
         limit: 1,
         selection: 1,
         position: 1,
-        outline: vec![[0, 3, 0], [0, 1, 0]],
-        first: vec![[0, 3, 0, 1]],
-        set: vec![vec![[0, 3, 0, 1], [0, 1, 0, 0], [0, 1, 0, 0], [0, 1, 0, 0]]],
-        volume: vec![[0, 3]],
+        outline: vec![[0, 5, 0], [0, 1, 0]],
+        first: vec![[0, 5, 0, 1, 0], [0, 1, 0, 0, 0]],
+        set: vec![vec![[0, 5, 0, 1, 0], [0, 1, 0, 0, 0], [0, 0, 0, 0, 0]]],
+        volume: vec![[0, 5, 0], [0, 1, 0]],
+        result: vec![0],
+        placement: vec![0, 1],
+        ..Plan::default()
+    }
+}
+
+/// A plan whose form before figures is whole when it is read as it is written
+/// today: five members, of 0, 1, 0, 0 and 2 records.
+fn narrow_and_whole() -> Plan {
+    let child = |label| [0, label, 0, 0, 0];
+    Plan {
+        limit: 1,
+        selection: 1,
+        position: 1,
+        outline: vec![[0, 1, 0], [0, 1, 0], [0, 2, 0]],
+        first: vec![[0, 1, 0, 1, 0]],
+        set: vec![vec![
+            [0, 1, 0, 1, 0],
+            child(1),
+            child(2),
+            child(1),
+            child(1),
+        ]],
+        volume: vec![[0, 1, 0], [0, 2, 0]],
         result: vec![0],
         placement: vec![0],
         ..Plan::default()
     }
+}
+
+/// Plans that are alike but for two figures, what there is and what is asked for:
+/// equal or not, in both bytes and at the bounds. What is asked about is a node of
+/// the first selection itself, the root or another, or one that a descendant edge or
+/// a strong edge brings, which has 0.
+fn decided_by_figures() -> Vec<Plan> {
+    let figures = [
+        (0, 1),
+        (1, 0),
+        (1, 1),
+        (255, 256),
+        (256, 255),
+        (1_999, 2_000),
+        (2_000, 2_000),
+    ];
+    let each = |(own, asked)| {
+        let of_node = |figure| vec![[0, 1, 0, 0, 0], [0, 2, 0, 1, figure]];
+        let of_root = |figure| vec![[0, 1, 0, 1, figure], [0, 2, 0, 0, 0]];
+        let below = vec![[0, 1, 0, 0, own], [0, 3, 1, 1, own]];
+        let inside = vec![[0, 1, 0, 0, 0], [0, 2, 0, 0, asked], [1, 3, 0, 1, 0]];
+        let alone = vec![[0, 1, 0, 1, own]];
+        let granted = vec![[0, 1, 0, 1, 0], [0, 2, 0, 0, asked]];
+        let plan = |first, member, held| Plan {
+            limit: 1_000,
+            selection: 2,
+            position: 1,
+            outline: vec![[0, 1, 0], [0, 2, 1], [1, 3, 0]],
+            first,
+            set: vec![member],
+            volume: vec![[0, 1, own], [0, 2, own], [1, 3, own]],
+            result: vec![held],
+            ..Plan::default()
+        };
+        [
+            plan(of_node(own), of_node(asked), 1),
+            plan(of_root(own), of_root(asked), 0),
+            plan(below, inside, 2),
+            plan(alone, granted, 0),
+        ]
+    };
+    figures.into_iter().flat_map(each).collect()
 }
 
 fn chain(label: fn(u16) -> u16) -> Vec<OutlineRow> {
@@ -443,6 +536,8 @@ fn chain(label: fn(u16) -> u16) -> Vec<OutlineRow> {
 #[cfg(test)]
 mod tests {
     use super::*;
+    use crate::calls::{is_result, INCLUDED, NOT_INCLUDED};
+    use crate::generate::plan::refusal_of;
     use crate::vectors::{DOWNGRADE, UPGRADE};
 
     #[test]
@@ -457,6 +552,7 @@ mod tests {
                 crossed(),
                 in_turn(),
                 old_and_whole(),
+                narrow_and_whole(),
             ] {
                 let plan = plan.for_call(call);
                 assert_eq!(plan.vector().refusal(), 0, "call {call}");
@@ -469,19 +565,64 @@ mod tests {
     }
 
     #[test]
-    fn the_old_form_is_not_taken() {
+    fn earlier_forms_are_not_taken() {
         for call in CALLS.into_iter().filter(|&call| call != UPGRADE) {
-            for plan in [rich(), example(), least(), most(), no_placement()] {
-                assert_eq!(other_form(&plan.given_to(call)).refusal(), 3);
+            for form in [Form::Old, Form::Narrow] {
+                for plan in [rich(), example(), least(), most(), no_placement()] {
+                    assert_eq!(in_form(&plan.given_to(call), form).refusal(), 3);
+                }
             }
-            assert_eq!(other_form(&old_and_whole().given_to(call)).refusal(), 4);
+            let whole = in_form(&old_and_whole().given_to(call), Form::Old);
+            assert_eq!(whole.refusal(), 4);
+            let whole = in_form(&narrow_and_whole().given_to(call), Form::Narrow);
+            assert_eq!(whole.refusal(), 4);
         }
     }
 
     #[test]
-    fn todays_form_is_not_moved_over() {
-        for plan in [rich(), alone(), example(), most(), old_and_whole()] {
-            assert_eq!(other_form(&plan.given_to(UPGRADE)).refusal(), 3);
+    fn later_forms_are_not_moved_over() {
+        for form in [Form::Today, Form::Narrow] {
+            for plan in [rich(), alone(), example(), most(), old_and_whole()] {
+                assert_eq!(in_form(&plan.given_to(UPGRADE), form).refusal(), 3);
+            }
+        }
+    }
+
+    #[test]
+    fn a_volume_without_figures_is_not_taken() {
+        for call in [FITS, IS_RESULT, NODES_AT] {
+            for plan in [rich(), example(), least(), most()] {
+                let plan = Plan {
+                    narrow_volume: true,
+                    ..plan.for_call(call)
+                };
+                assert_eq!(plan.vector().refusal(), 10);
+            }
+        }
+    }
+
+    /// Each of the four kinds is included, and its list a result, where what there
+    /// is comes up to what is asked for.
+    #[test]
+    fn figures_decide() {
+        for (index, plan) in decided_by_figures().iter().enumerate() {
+            let asked = plan.set[0].iter().map(|row| row[4]).max();
+            let there = match index % 4 {
+                0 => plan.first[1][4],
+                1 => plan.first[0][4],
+                _ => 0,
+            };
+            let kind = if Some(there) >= asked {
+                INCLUDED
+            } else {
+                NOT_INCLUDED
+            };
+            assert_eq!((plan.judged(1).kind, plan.judged(1).tried), (kind, 1));
+            let given = plan.for_call(IS_RESULT);
+            let (case, volume) = (given.case_bytes(), given.volume_bytes());
+            let list = given.vector().list;
+            let holds = is_result(&case, 2, &volume, &list).holds;
+            assert_eq!(holds, Some(plan.volume[0][2]) >= asked);
         }
     }
 
@@ -489,9 +630,30 @@ mod tests {
     fn a_set_of_one_alone_is_moved_back() {
         for plan in [rich(), alone(), example(), least(), most(), crossed()] {
             for (count, refused) in [(0, 14), (1, 0), (2, 15), (8, 15), (9, 14)] {
-                let mut plan = plan.given_to(DOWNGRADE);
+                let mut plan = plan.for_call(DOWNGRADE);
                 plan.resize_set(count);
                 assert_eq!(plan.vector().refusal(), refused);
+            }
+        }
+    }
+
+    #[test]
+    fn figures_of_0_alone_are_moved_back() {
+        for call in CALLS {
+            for (figure, refused) in [(0, 0), (1, 15), (2_000, 15), (2_001, 17), (u16::MAX, 17)] {
+                for which in 0..2 {
+                    let mut plan = example().for_call(call);
+                    for rows in plan.selections_mut().skip(which).take(1) {
+                        rows[1][4] = figure;
+                    }
+                    let expected = match call {
+                        UPGRADE => 0,
+                        DOWNGRADE => refused,
+                        _ if refused == 15 => 0,
+                        _ => refused,
+                    };
+                    assert_eq!(plan.vector().refusal(), expected, "call {call}");
+                }
             }
         }
     }
@@ -506,11 +668,12 @@ mod tests {
                     (change.apply)(&mut plan);
                     let refused = plan.vector().refusal();
                     // A change meant to be accepted may leave no placement, or
-                    // more members than are moved back.
-                    if call == DOWNGRADE && change.question == 0 && plan.set.len() > 1 {
+                    // more members or figures than are moved back.
+                    let stays = plan.set.len() > 1 || plan.asks_figures();
+                    if call == DOWNGRADE && change.question == 0 && stays {
                         assert_eq!(refused, 15);
                     } else if change.question != 0 || ![IS_RESULT, LAYOUT].contains(&call) {
-                        assert_eq!(refused, change.question, "call {call}");
+                        assert_eq!(refused, refusal_of(change.question), "call {call}");
                     }
                 }
             }
@@ -527,7 +690,8 @@ mod tests {
                     let place = |c: &Change| order.iter().position(|&q| q == c.question);
                     if place(a) < place(b) {
                         let refused = changed(&rich(), call, &[b, a]).refusal();
-                        assert_eq!(refused, a.question, "call {call} with {}", b.question);
+                        let expected = refusal_of(a.question);
+                        assert_eq!(refused, expected, "call {call} with {}", b.question);
                     }
                 }
             }
@@ -553,7 +717,7 @@ mod tests {
         for call in CALLS {
             let of_call = || stored.iter().filter(|vector| vector.call == call);
             for &question in questions(call).iter().chain(&[0]) {
-                assert!(of_call().any(|vector| vector.refusal() == question));
+                assert!(of_call().any(|vector| vector.refusal() == refusal_of(question)));
             }
         }
     }

@@ -2,7 +2,7 @@
 //! gives the same cases, limits and tallies whoever calls.
 
 use super::plan::TALLIED;
-use super::prng::Prng;
+use super::prng::{Prng, Seed};
 use crate::calls::CALLERS;
 use crate::vectors::Vector;
 
@@ -30,8 +30,8 @@ pub const REFUSED: [u64; 15] = [
 
 /// A caller for each call that has one; so many in a hundred have one that is
 /// refused.
-pub fn draw(seed: u64, refused: usize, mut vectors: Vec<Vector>) -> Vec<Vector> {
-    let mut prng = Prng::new(!seed);
+pub fn draw(seed: Seed, refused: usize, mut vectors: Vec<Vector>) -> Vec<Vector> {
+    let mut prng = Prng::new(!seed.number());
     for vector in tallied(&mut vectors) {
         vector.caller = match prng.one_of(&REFUSED) {
             Some(&caller) if prng.percent(refused) => caller,

@@ -2,8 +2,9 @@
 //! nodes, no placement or thousands, failing first, in the middle or last.
 
 use super::callers;
-use super::plan::{OutlineRow, Plan, SelectionRow, Set};
-use super::prng::Prng;
+use super::figures;
+use super::plan::{least_length, OutlineRow, Plan, SelectionRow, Set};
+use super::prng::{Prng, Seed};
 use super::sets;
 use super::trees::{self, Freedom};
 use crate::calls::{NOT_INCLUDED, STOPPED};
@@ -13,7 +14,8 @@ use crate::vectors::{Vector, VERDICT};
 /// take seconds.
 const TRIALS_MOST: u64 = 4_000;
 
-pub fn cases(seed: u64, count: usize) -> Vec<Vector> {
+pub fn cases(seed: impl Into<Seed>, count: usize) -> Vec<Vector> {
+    let seed = seed.into();
     let mut prng = Prng::new(seed);
     let drawn = (0..count).map(|index| one(&mut prng, index)).collect();
     callers::draw(seed, 0, drawn)
@@ -29,7 +31,7 @@ fn one(prng: &mut Prng, index: usize) -> Vector {
         _ => many(prng),
     };
     plan.call = VERDICT;
-    plan.length = 4_096 + prng.below(3) as u64;
+    plan.length = least_length(VERDICT) + prng.below(3) as u64;
     plan.tally = [0, prng.draw() % 999_000_000_000, 999_999_000_000][prng.below(3)];
     plan.limit = limit(prng, &plan);
     plan.vector()
@@ -74,7 +76,8 @@ pub fn many(prng: &mut Prng) -> Plan {
     let size = prng.between(1, 6);
     let mut first = trees::selection(prng, &outline, size, fixed);
     for _ in 0..prng.between(1, 3) {
-        first.push([prng.below(first.len()) as u16, 0, 1, 0]);
+        let parent = prng.below(first.len()) as u16;
+        first.push([parent, 0, 1, 0, figures::seldom(prng)]);
     }
     let first = trees::reorder(prng, &first);
     related(prng, outline, first)
@@ -119,18 +122,18 @@ fn member(prng: &mut Prng, plan: &Plan) -> Vec<SelectionRow> {
 fn no_placement(prng: &mut Prng) -> Plan {
     let size = prng.between(50, 64);
     let outline = trees::outline(prng, size);
-    let mut first: Vec<SelectionRow> = vec![[0, outline[0][1], 0, 1]];
+    let mut first: Vec<SelectionRow> = vec![[0, outline[0][1], 0, 1, 0]];
     while first.len() < 15 {
         let parent = if prng.percent(80) {
             0
         } else {
             prng.below(first.len())
         };
-        first.push([parent as u16, 0, 1, 0]);
+        first.push([parent as u16, 0, 1, 0, 0]);
     }
     let parent = prng.below(first.len()) as u16;
-    first.push([parent, 60_000, 1, 0]);
-    let set = vec![vec![[0, outline[0][1], 0, 1]]; prng.between(1, 8)];
+    first.push([parent, 60_000, 1, 0, 0]);
+    let set = vec![vec![[0, outline[0][1], 0, 1, 0]]; prng.between(1, 8)];
     Plan {
         outline,
         first,
@@ -163,8 +166,9 @@ fn one_failure(prng: &mut Prng, place: usize) -> Plan {
             u16::from(prng.percent(30)),
         ]);
     }
-    let mut first: Vec<SelectionRow> = vec![[0, 1, 0, 1]];
-    first.extend(std::iter::repeat_n([0, 0, 0, 0], w));
+    let mut first: Vec<SelectionRow> = vec![[0, 1, 0, 1, 0]];
+    first.extend(std::iter::repeat_n([0, 0, 0, 0, 0], w));
+    figures::ask(prng, &mut first);
     let mut set = asking(prng, width, without, X);
     sets::rearrange(prng, &mut set);
     Plan {
@@ -178,13 +182,13 @@ fn one_failure(prng: &mut Prng, place: usize) -> Plan {
 /// A child of the root with an x, asked for by one member; or by one for each
 /// of seven such children, and one more where there are others.
 fn asking(prng: &mut Prng, width: usize, without: usize, x: u16) -> Set {
-    let root = [0, [0, 1][prng.below(2)], 0, 1];
+    let root = [0, [0, 1][prng.below(2)], 0, 1, 0];
     // Each trial also takes the strong children of the free nodes, so a
     // member may ask below the root as well.
     let anywhere = if prng.percent(50) {
-        vec![root, [0, x, 1, 0]]
+        vec![root, [0, x, 1, 0, 0]]
     } else {
-        vec![root, [0, 0, 0, 0], [1, x, 0, 0]]
+        vec![root, [0, 0, 0, 0, 0], [1, x, 0, 0, 0]]
     };
     if prng.percent(50) {
         return vec![anywhere];
@@ -193,7 +197,7 @@ fn asking(prng: &mut Prng, width: usize, without: usize, x: u16) -> Set {
     let mut set: Set = with
         .iter()
         .take(7)
-        .map(|&child| vec![root, [0, 10 + child as u16, 0, 0], [1, x, 0, 0]])
+        .map(|&child| vec![root, [0, 10 + child as u16, 0, 0, 0], [1, x, 0, 0, 0]])
         .collect();
     if with.len() > set.len() {
         set.push(anywhere);

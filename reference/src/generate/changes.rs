@@ -2,9 +2,12 @@
 //! number to a bound where it is still accepted.
 
 use super::callers;
-use super::plan::{least_length, questions, Plan, SelectionRow};
+use super::figures::{OF_SELECTION, OF_VOLUME};
+use super::plan::{least_length, questions, Form, Plan, SelectionRow, VOLUME_FIGURE};
 use crate::calls::TALLY_MOST;
-use crate::records::{CASE_BYTES, OUTLINE_NODES, SELECTION_NODES, SET_SELECTIONS, VOLUME_NODES};
+use crate::records::{
+    CASE_BYTES, FIGURE_MOST, OUTLINE_NODES, SELECTION_NODES, SET_SELECTIONS, VOLUME_NODES,
+};
 use crate::vectors::{IS_RESULT, LAYOUT, NODES_AT, UPGRADE};
 
 /// `question` is the one that the change breaks, 0 where it breaks none. A
@@ -93,10 +96,12 @@ pub fn changes() -> Vec<Change> {
     for which in [FIRST, LAST] {
         all.extend(selection_counts(which));
         all.extend(selection_records(which));
+        all.extend(selection_figures(which).into_iter().map(Change::with_set));
         all.extend(positions(which));
     }
     all.extend(common_positions());
     all.extend(volumes());
+    all.extend(volume_figures());
     all.extend(lists());
     all.extend(callers());
     all
@@ -109,8 +114,16 @@ pub fn lone_changes() -> Vec<Change> {
     all.extend(selection_counts(MIDDLE));
     all.extend(selection_records(MIDDLE));
     all.extend(positions(MIDDLE));
+    for which in [FIRST, MIDDLE, LAST] {
+        all.extend(more_selection_figures(which));
+    }
     let mut all: Vec<Change> = all.into_iter().map(Change::with_set).collect();
+    all.extend(more_volume_figures());
     all.push(change(2, |plan| plan.length = 1));
+    // As much as was enough before there were figures.
+    all.push(change(2, |plan| plan.length = least_length(plan.call) / 2));
+    all.push(change(3, |plan| plan.form = Form::Narrow).with_set());
+    all.push(change(10, |plan| plan.narrow_volume = true));
     all
 }
 
@@ -125,9 +138,8 @@ fn numbers() -> Vec<Change> {
     }
     all.push(change(2, |plan| plan.length = least_length(plan.call) - 1));
     all.push(change(2, |plan| plan.length = 0));
-    for more in [1, 4_096] {
-        all.push(change(0, move |plan| plan.length += more));
-    }
+    all.push(change(0, |plan| plan.length += 1));
+    all.push(change(0, |plan| plan.length *= 2));
     all.extend(tallies());
     for selection in [0, 257, 65_537, (1 << 32) + 1, u64::MAX] {
         all.push(change(12, move |plan| plan.selection = selection));
@@ -188,10 +200,12 @@ fn case_bytes() -> Vec<Change> {
         change(3, |plan| plan.case_ending.cut = usize::MAX),
         change(3, |plan| plan.case_ending.cut = 1),
         change(3, |plan| plan.case_ending.cut = 2),
-        change(3, |plan| plan.case_ending.cut = 8),
+        change(3, |plan| plan.case_ending.cut = plan.record_bytes()),
         change(3, |plan| plan.case_ending.after = vec![0]),
         change(3, |plan| plan.case_ending.after = vec![0, 0]),
-        change(3, |plan| plan.case_ending.after = vec![1; 8]),
+        change(3, |plan| {
+            plan.case_ending.after = vec![1; plan.record_bytes()]
+        }),
         change(3, |plan| announce_last(plan, 1)),
         change(3, |plan| announce_last(plan, u16::MAX)),
         change(3, |plan| plan.excess.outline = 40_000),
@@ -206,7 +220,8 @@ fn old_sections() -> Vec<Change> {
         change_of(UPGRADE, 3, |plan| plan.set.clear()),
         change_of(UPGRADE, 3, |plan| plan.resize_set(2)),
         change_of(UPGRADE, 3, |plan| plan.set.push(vec![])),
-        change_of(UPGRADE, 3, |plan| plan.old = false),
+        change_of(UPGRADE, 3, |plan| plan.form = Form::Narrow),
+        change_of(UPGRADE, 3, |plan| plan.form = Form::Today),
     ]
 }
 
@@ -219,14 +234,14 @@ fn announce_last(plan: &mut Plan, more: u16) {
 /// Questions 3, 4 and 14 at 65,536 bytes: long vectors, so kept apart.
 pub fn long_changes() -> Vec<Change> {
     vec![
-        // Whole and not too long: 6 + 3 x 6 + 8,189 x 8 = 65,536.
-        change(4, |plan| long_case(plan, 3, 8_189)),
+        // Whole and not too long.
+        change(4, |plan| long_case(plan, 0)),
         change(3, |plan| {
-            long_case(plan, 3, 8_189);
+            long_case(plan, 0);
             plan.case_ending.after = vec![0];
         }),
         // Whole but two bytes too long.
-        change(3, |plan| long_case(plan, 2, 8_190)),
+        change(3, |plan| long_case(plan, 2)),
         // As many empty members as there is room for.
         change(4, |plan| fill_set(plan, 2, &[])).with_set(),
         change(3, |plan| {
@@ -240,8 +255,8 @@ pub fn long_changes() -> Vec<Change> {
         })
         .with_set(),
         // As many members of one node; a low byte of 1 is not a set of one.
-        change(14, |plan| fill_set(plan, 10, &[[0, 0, 0, 1]])),
-        change(14, |plan| plan.set = vec![vec![[0, 0, 0, 1]]; 257]),
+        change(14, |plan| fill_set(plan, 12, &[[0, 0, 0, 1, 0]])),
+        change(14, |plan| plan.set = vec![vec![[0, 0, 0, 1, 0]]; 257]),
         change(3, |plan| fill_case(plan, CASE_BYTES)),
         change(3, |plan| fill_case(plan, CASE_BYTES + 1)),
         // The second selection is the long one.
@@ -253,20 +268,28 @@ pub fn long_changes() -> Vec<Change> {
     ]
 }
 
+/// An old case of 65,536 bytes, most of them the second selection's.
 fn long_second(plan: &mut Plan) {
-    long_case(plan, 3, 0);
-    plan.set = vec![vec![[0, 0, 0, 0]; 8_189]];
+    long_case(plan, 0);
+    plan.set = vec![std::mem::take(&mut plan.first)];
 }
 
 /// Members all alike, of so many bytes each, as far as 65,536 bytes go.
 fn fill_set(plan: &mut Plan, bytes: usize, member: &[SelectionRow]) {
-    let room = CASE_BYTES - 6 - 6 * plan.outline.len() - 8 * plan.first.len();
+    let first = plan.record_bytes() * plan.first.len();
+    let room = CASE_BYTES - 6 - 6 * plan.outline.len() - first;
     plan.set = vec![member.to_vec(); room / bytes];
 }
 
-fn long_case(plan: &mut Plan, outline: usize, first: usize) {
+/// A case of 65,536 bytes and so many more: three counts, a few outline records,
+/// and a first selection that fills it up.
+fn long_case(plan: &mut Plan, more: usize) {
+    let room = CASE_BYTES + more - 6;
+    let rest = |outline: &usize| (room - 6 * outline) % plan.record_bytes();
+    let outline = (2..).find(|outline| rest(outline) == 0).unwrap_or(2);
+    let first = (room - 6 * outline) / plan.record_bytes();
     plan.outline.resize(outline, [0, 77, 0]);
-    plan.first.resize(first, [0, 0, 0, 0]);
+    plan.first.resize(first, [0, 0, 0, 0, 0]);
     end_in_0(plan);
 }
 
@@ -274,7 +297,7 @@ fn long_case(plan: &mut Plan, outline: usize, first: usize) {
 /// selection's.
 fn end_in_0(plan: &mut Plan) {
     plan.set.clear();
-    if plan.old {
+    if plan.form == Form::Old {
         plan.set.push(vec![]);
     }
 }
@@ -311,7 +334,8 @@ fn selection_counts(which: usize) -> Vec<Change> {
     ]
 }
 
-/// Questions 14 and 15, and the questions 3 and 4 that come before 14.
+/// Questions 14 and 15, as far as they are about the set, and the questions 3 and 4
+/// that come before 14.
 fn sets() -> Vec<Change> {
     vec![
         change(14, |plan| plan.set.clear()),
@@ -319,6 +343,8 @@ fn sets() -> Vec<Change> {
         change(15, |plan| plan.resize_set(2)),
         change(15, |plan| plan.set.push(plan.first.clone())),
         change(15, |plan| plan.resize_set(SET_SELECTIONS)),
+        change(15, |plan| ask_one(plan, FIRST)),
+        change(15, |plan| ask_one(plan, LAST)),
         change(4, |plan| {
             plan.resize_set(SET_SELECTIONS);
             plan.set.push(vec![]);
@@ -338,6 +364,13 @@ fn sets() -> Vec<Change> {
         }),
         change(0, |plan| plan.resize_set(SET_SELECTIONS)),
     ]
+}
+
+/// The last node asks for the figure 1.
+fn ask_one(plan: &mut Plan, which: usize) {
+    if let Some(row) = selection_mut(plan, which).last_mut() {
+        row[OF_SELECTION] = 1;
+    }
 }
 
 /// The same with other counts, and sets that are accepted.
@@ -395,7 +428,7 @@ fn grow_outline(plan: &mut Plan, size: usize) {
 fn grow_selection(plan: &mut Plan, which: usize, size: usize) {
     let rows = selection_mut(plan, which);
     let more = size.saturating_sub(rows.len());
-    rows.extend(std::iter::repeat_n::<SelectionRow>([0, 0, 0, 0], more));
+    rows.extend(std::iter::repeat_n::<SelectionRow>([0, 0, 0, 0, 0], more));
     let number = if which == LAST {
         plan.last_selection()
     } else {
@@ -502,6 +535,42 @@ fn selection_records(which: usize) -> Vec<Change> {
         .collect()
 }
 
+/// Question 17 in one selection.
+fn selection_figures(which: usize) -> Vec<Change> {
+    let values = [(0, FIGURE_MOST + 1), (1, u16::MAX), (LAST, FIGURE_MOST + 1)];
+    figures_of_selection(17, which, &values)
+}
+
+/// The same in other records and with other bits, figures that are accepted, and
+/// question 15, which no figure but 0 passes.
+fn more_selection_figures(which: usize) -> Vec<Change> {
+    let broken = [
+        (0, u16::MAX),
+        (1, FIGURE_MOST + 1),
+        (1, FIGURE_MOST + 256),
+        (2, 1 << 15),
+        (LAST, u16::MAX),
+    ];
+    let mut all = figures_of_selection(17, which, &broken);
+    for question in [0, 15] {
+        for figure in [1, 255, 256, FIGURE_MOST - 1, FIGURE_MOST] {
+            let values = [(0, figure), (1, figure), (LAST, figure)];
+            all.extend(figures_of_selection(question, which, &values));
+        }
+    }
+    all.extend(figures_of_selection(0, which, &[(1, 0), (LAST, 0)]));
+    all
+}
+
+/// For each (record, figure) a change.
+fn figures_of_selection(question: u64, which: usize, values: &[(usize, u16)]) -> Vec<Change> {
+    let values: Vec<(usize, usize, u16)> = values
+        .iter()
+        .map(|&(record, figure)| (record, OF_SELECTION, figure))
+        .collect();
+    fields(question, move |plan| selection_mut(plan, which), &values)
+}
+
 /// Question 8, broken in one selection.
 fn positions(which: usize) -> Vec<Change> {
     let each = |question, renumber: fn(u16) -> u16| {
@@ -579,15 +648,15 @@ fn volumes() -> Vec<Change> {
         change(10, |plan| plan.volume_ending.cut = usize::MAX),
         change(10, |plan| plan.volume_ending.cut = 1),
         change(10, |plan| plan.volume_ending.cut = 2),
-        change(10, |plan| plan.volume_ending.cut = 4),
+        change(10, |plan| plan.volume_ending.cut = 6),
         change(10, |plan| plan.volume_ending.after = vec![0]),
         change(10, |plan| plan.volume_ending.after = vec![0, 0]),
-        change(10, |plan| plan.volume_ending.after = vec![1; 4]),
+        change(10, |plan| plan.volume_ending.after = vec![1; 6]),
         change(10, |plan| plan.excess.volume = 1),
         change(10, |plan| plan.excess.volume = u16::MAX),
         change(10, |plan| plan.volume.clear()),
-        change(10, |plan| plan.volume.resize(VOLUME_NODES + 1, [0, 2])),
-        change(0, |plan| plan.volume.resize(VOLUME_NODES, [0, 2])),
+        change(10, |plan| plan.volume.resize(VOLUME_NODES + 1, [0, 2, 0])),
+        change(0, |plan| plan.volume.resize(VOLUME_NODES, [0, 2, 0])),
         field(0, 0, 1),
         field(0, 1, 0),
         field(1, 0, 1),
@@ -611,6 +680,43 @@ fn volumes() -> Vec<Change> {
             }
         }),
     ]
+}
+
+/// Question 17 about the volume.
+fn volume_figures() -> Vec<Change> {
+    let values = [(0, FIGURE_MOST + 1), (1, u16::MAX), (LAST, FIGURE_MOST + 1)];
+    figures_of_volume(VOLUME_FIGURE, &values)
+}
+
+/// The same in other records and with other bits, and figures that are accepted.
+fn more_volume_figures() -> Vec<Change> {
+    let broken = [
+        (0, u16::MAX),
+        (1, FIGURE_MOST + 1),
+        (2, FIGURE_MOST + 256),
+        (2, 1 << 15),
+        (LAST, u16::MAX),
+    ];
+    let mut all = figures_of_volume(VOLUME_FIGURE, &broken);
+    for figure in [0, 1, 255, 256, FIGURE_MOST - 1, FIGURE_MOST] {
+        let values = [(0, figure), (1, figure), (LAST, figure)];
+        all.extend(figures_of_volume(0, &values));
+        all.push(change(0, move |plan| {
+            for row in &mut plan.volume {
+                row[OF_VOLUME] = figure;
+            }
+        }));
+    }
+    all
+}
+
+/// For each (record, figure) a change.
+fn figures_of_volume(question: u64, values: &[(usize, u16)]) -> Vec<Change> {
+    let values: Vec<(usize, usize, u16)> = values
+        .iter()
+        .map(|&(record, figure)| (record, OF_VOLUME, figure))
+        .collect();
+    fields(question, |plan| &mut plan.volume, &values)
 }
 
 /// Question 11 or 13, as the call's list is a result or a placement.

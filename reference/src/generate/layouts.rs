@@ -1,13 +1,14 @@
 //! Random layouts near the limits, all accepted: trials of hundreds of nodes,
 //! every fourth as large as a trial can be.
 
+use super::figures;
 use super::plan::{least_length, OutlineRow, Plan, SelectionRow, Set};
-use super::prng::Prng;
+use super::prng::{Prng, Seed};
 use super::trees;
 use crate::records::{OUTLINE_NODES, SELECTION_NODES, SET_SELECTIONS};
 use crate::vectors::{Vector, LAYOUT};
 
-pub fn layouts(seed: u64, count: usize) -> Vec<Vector> {
+pub fn layouts(seed: impl Into<Seed>, count: usize) -> Vec<Vector> {
     let mut prng = Prng::new(seed);
     (0..count).map(|index| one(&mut prng, index)).collect()
 }
@@ -24,6 +25,7 @@ fn one(prng: &mut Prng, index: usize) -> Vector {
     };
     let k = prng.between(1, rows.len().min(8));
     trees::hold_positions(prng, &mut rows, k);
+    figures::ask(prng, &mut rows);
     let count = [1, 1, 2, SET_SELECTIONS][prng.below(4)];
     let mut first = trees::weaken(prng, &rows);
     let mut set: Set = (0..count).map(|_| trees::weaken(prng, &rows)).collect();
@@ -56,7 +58,7 @@ impl Placed {
     fn root(outline: Vec<OutlineRow>) -> Self {
         Placed {
             outline,
-            rows: vec![[0, 0, 0, 0]],
+            rows: vec![[0, 0, 0, 0, 0]],
             places: vec![0],
         }
     }
@@ -67,7 +69,8 @@ impl Placed {
         let label = [0, label][prng.below(2)];
         let child = usize::from(above) == self.places[parent];
         let descendant = !child || prng.percent(50);
-        self.rows.push([parent as u16, label, descendant.into(), 0]);
+        self.rows
+            .push([parent as u16, label, descendant.into(), 0, 0]);
         self.places.push(place);
     }
 }

@@ -2,12 +2,14 @@
 //! limit, exactly at it and one past it; one failing placement far down, and
 //! many behind a long run that passes; all passing, at different places or
 //! through different members by turns; passing by turns up to a failure at the
-//! first rank, in the middle, at the limit and one past it.
+//! first rank, in the middle, at the limit and one past it; failing by figures
+//! alone.
 
 use super::callers;
 use super::cases;
+use super::figures::{self, OF_SELECTION};
 use super::plan::{least_length, OutlineRow, Plan, SelectionRow};
-use super::prng::Prng;
+use super::prng::{Prng, Seed};
 use super::sets;
 use super::trees;
 use super::turns::{turns, Rank};
@@ -23,7 +25,8 @@ const DESCENDANT: u16 = 1;
 
 /// The cases that are always the same, six by turns for each size of a set, and
 /// `count` random ones.
-pub fn many(seed: u64, count: usize) -> Vec<Vector> {
+pub fn many(seed: impl Into<Seed>, count: usize) -> Vec<Vector> {
+    let seed = seed.into();
     let mut prng = Prng::new(seed);
     let fixed = [
         // 63^15 placements, far above 10^18, all of which pass.
@@ -45,6 +48,12 @@ pub fn many(seed: u64, count: usize) -> Vec<Vector> {
         // all of 800,000 pass, through eight members by turns.
         (member_each(10, 6), LIMIT),
         (alternating(9, 5), LIMIT),
+        // By figures alone: the first that fails is the 800,001st, or the 9th.
+        (one_figure(10, 6, 1), LIMIT),
+        (one_figure(10, 6, 1), 800_000),
+        (one_figure(10, 6, 6), LIMIT),
+        // Those pass that have an own node at x, which is the last place of all.
+        (own_node_at_x(9, 6), LIMIT),
     ];
     let fixed = fixed.into_iter().map(|(plan, limit)| verdict(plan, limit));
     let sizes = (1..=SET_SELECTIONS).flat_map(|members| at_ranks(&mut prng, members));
@@ -97,7 +106,16 @@ fn drawn_turns(prng: &mut Prng) -> Vector {
             made = made.crossed(prng);
         }
     }
-    verdict(made.plan(), limit)
+    let mut plan = made.plan();
+    now_and_then(prng, &mut plan);
+    verdict(plan, limit)
+}
+
+/// What all ask for drawn anew, now and then.
+fn now_and_then(prng: &mut Prng, plan: &mut Plan) {
+    if prng.figures().is_some_and(|prng| prng.percent(40)) {
+        figures::ask_all(prng, plan);
+    }
 }
 
 fn verdict(plan: Plan, limit: u64) -> Vector {
@@ -117,17 +135,26 @@ fn drawn(prng: &mut Prng) -> Vector {
     let (most, nodes) = [(31, 3), (31, 4), (15, 5), (10, 6), (5, 8)][prng.below(5)];
     let width = prng.between(most * 2 / 3, most);
     let soon = 1 + prng.draw() % 30_000;
-    let plan = match prng.below(20) {
-        0 | 1 => one_without(width, nodes, prng.below(width)),
-        2 | 3 => two_blocks(width, prng.between(1, 4), nodes),
-        4 => star(width, nodes),
-        5 => return verdict(vast(prng), soon),
-        6 => return verdict(by_turns(prng), soon),
-        7 => member_each(width, nodes),
-        8 => return verdict(alternating(width, nodes), soon),
-        9 => return verdict(cases::many(prng), soon),
+    let (mut plan, whole) = match prng.below(20) {
+        0 | 1 => (one_without(width, nodes, prng.below(width)), true),
+        2 | 3 => (two_blocks(width, prng.between(1, 4), nodes), true),
+        4 => (star(width, nodes), true),
+        5 => (vast(prng), false),
+        6 => (by_turns(prng), false),
+        7 => (member_each(width, nodes), true),
+        8 => (alternating(width, nodes), false),
+        9 => (cases::many(prng), false),
         _ => return drawn_turns(prng),
     };
+    if let Some(prng) = prng.figures() {
+        if whole && prng.percent(20) {
+            plan = one_figure(width, nodes, prng.between(1, nodes));
+        }
+    }
+    now_and_then(prng, &mut plan);
+    if !whole {
+        return verdict(plan, soon);
+    }
     let all = (width as u64).pow(nodes as u32);
     let limit = [all - 1, all, all + 1, 1 + prng.draw() % all, LIMIT][prng.below(5)];
     verdict(plan, limit.clamp(1, LIMIT))
@@ -147,17 +174,52 @@ fn plan(outline: Vec<OutlineRow>, first: Vec<SelectionRow>, member: Vec<Selectio
 fn star(width: usize, free: usize) -> Plan {
     let mut outline = vec![[0, ROOT, 0]];
     outline.extend((0..width).map(|child| [0, 10 + child as u16, 0]));
-    let mut first = vec![[0, ROOT, CHILD, 1]];
-    first.extend(std::iter::repeat_n([0, ANY, DESCENDANT, 0], free));
-    plan(outline, first, vec![[0, ANY, CHILD, 1], [0, ANY, CHILD, 0]])
+    let mut first = vec![[0, ROOT, CHILD, 1, 0]];
+    first.extend(std::iter::repeat_n([0, ANY, DESCENDANT, 0, 0], free));
+    plan(
+        outline,
+        first,
+        vec![[0, ANY, CHILD, 1, 0], [0, ANY, CHILD, 0, 0]],
+    )
 }
 
 /// A star with a member for each child, as far as eight go: a trial fails only
 /// where all free nodes are at children without one.
 fn member_each(width: usize, free: usize) -> Plan {
     let mut made = star(width, free);
-    let asking = |child| vec![[0, ROOT, CHILD, 1], [0, 10 + child as u16, CHILD, 0]];
+    let asking = |child| vec![[0, ROOT, CHILD, 1, 0], [0, 10 + child as u16, CHILD, 0, 0]];
     made.set = (0..width.min(SET_SELECTIONS)).map(asking).collect();
+    made
+}
+
+/// A star with a member for each child, as far as eight go, that asks for a figure
+/// there; one of the free nodes alone has it, and the others one less. So a trial
+/// fails where that one is at a child without a member.
+fn one_figure(width: usize, free: usize, number: usize) -> Plan {
+    const FIGURE: u16 = 256;
+    let mut made = member_each(width, free);
+    for (q, node) in made.first.iter_mut().enumerate().skip(1) {
+        node[OF_SELECTION] = FIGURE - u16::from(q != number);
+    }
+    for member in &mut made.set {
+        member[1][OF_SELECTION] = FIGURE;
+    }
+    made
+}
+
+/// A child x of the root with the other places below it, and free nodes that have a
+/// figure, which the member asks for at x: there are as many placements as with one
+/// place more, and only those fail that have no free node at x itself.
+fn own_node_at_x(width: usize, free: usize) -> Plan {
+    let mut made = star(width, free);
+    for place in &mut made.outline[1..] {
+        place[0] = 1;
+    }
+    made.outline.insert(1, [0, X, 0]);
+    for node in &mut made.first[1..] {
+        node[OF_SELECTION] = 1;
+    }
+    made.set = vec![vec![[0, ROOT, CHILD, 1, 0], [0, X, CHILD, 0, 1]]];
     made
 }
 
@@ -171,15 +233,16 @@ fn alternating(width: usize, free: usize) -> Plan {
     made.outline.push([0, X, 0]);
     made.outline
         .extend((0..SET_SELECTIONS).map(|child| [at, below(child), 0]));
-    made.first.extend([[0, X, CHILD, 0], [last, ANY, CHILD, 0]]);
+    made.first
+        .extend([[0, X, CHILD, 0, 0], [last, ANY, CHILD, 0, 0]]);
     for node in &mut made.first[1..] {
         node[2] = CHILD;
     }
     let asking = |child| {
         vec![
-            [0, ROOT, CHILD, 1],
-            [0, X, CHILD, 0],
-            [1, below(child), CHILD, 0],
+            [0, ROOT, CHILD, 1, 0],
+            [0, X, CHILD, 0, 0],
+            [1, below(child), CHILD, 0, 0],
         ]
     };
     made.set = (0..SET_SELECTIONS).map(asking).collect();
@@ -197,9 +260,9 @@ fn one_without(width: usize, free: usize, without: usize) -> Plan {
         node[2] = CHILD;
     }
     made.set = vec![vec![
-        [0, ROOT, CHILD, 1],
-        [0, ANY, CHILD, 0],
-        [1, X, CHILD, 0],
+        [0, ROOT, CHILD, 1, 0],
+        [0, ANY, CHILD, 0, 0],
+        [1, X, CHILD, 0, 0],
     ]];
     made
 }
@@ -212,12 +275,12 @@ fn two_blocks(passing: usize, failing: usize, free: usize) -> Plan {
     let mut outline = vec![[0, ROOT, 0], [0, FIRST, 0], [0, FIRST + 1, 0]];
     outline.extend((0..passing).map(|child| [1, 10 + child as u16, 0]));
     outline.extend((0..failing).map(|child| [2, 10 + child as u16, 0]));
-    let mut first = vec![[0, ROOT, CHILD, 1], [0, ANY, CHILD, 0]];
-    first.extend(std::iter::repeat_n([1, ANY, CHILD, 0], free));
+    let mut first = vec![[0, ROOT, CHILD, 1, 0], [0, ANY, CHILD, 0, 0]];
+    first.extend(std::iter::repeat_n([1, ANY, CHILD, 0, 0], free));
     plan(
         outline,
         first,
-        vec![[0, ROOT, CHILD, 1], [0, FIRST, CHILD, 0]],
+        vec![[0, ROOT, CHILD, 1, 0], [0, FIRST, CHILD, 0, 0]],
     )
 }
 
@@ -230,14 +293,14 @@ fn vast(prng: &mut Prng) -> Plan {
         let label = 10 + outline.len() as u16;
         outline.push([parent, label, u16::from(prng.percent(10))]);
     }
-    let mut first: Vec<SelectionRow> = vec![[0, 1, 0, 1]];
+    let mut first: Vec<SelectionRow> = vec![[0, 1, 0, 1, 0]];
     while first.len() <= 15 {
         let parent = if prng.percent(80) {
             0
         } else {
             prng.below(first.len()) as u16
         };
-        first.push([parent, 0, 1, 0]);
+        first.push([parent, 0, 1, 0, 0]);
     }
     let weak = trees::weaken(prng, &first);
     let mut made = plan(outline, first, weak);
@@ -273,14 +336,14 @@ fn by_turns(prng: &mut Prng) -> Plan {
             u16::from(prng.percent(20)),
         ]);
     }
-    let mut first: Vec<SelectionRow> = vec![[0, 1, 0, 1], [0, 2, 0, 0]];
+    let mut first: Vec<SelectionRow> = vec![[0, 1, 0, 1, 0], [0, 2, 0, 0, 0]];
     for _ in 0..prng.between(1, 13) {
-        first.push([prng.below(2) as u16, 0, 1, 0]);
+        first.push([prng.below(2) as u16, 0, 1, 0, 0]);
     }
-    first.push([1, 3, 1, 0]);
-    let mut member: Vec<SelectionRow> = vec![[0, 1, 0, 1], [0, 2, 1, 0], [1, 3, 0, 0]];
+    first.push([1, 3, 1, 0, 0]);
+    let mut member: Vec<SelectionRow> = vec![[0, 1, 0, 1, 0], [0, 2, 1, 0, 0], [1, 3, 0, 0, 0]];
     if prng.percent(30) {
-        member.push([0, 0, 1, 0]);
+        member.push([0, 0, 1, 0, 0]);
     }
     plan(outline, first, member)
 }

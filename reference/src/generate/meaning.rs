@@ -4,20 +4,20 @@
 use super::alike::alike;
 use super::cases;
 use super::normals::{self, altered_case, normals, renumbered_case};
-use super::plan::{put_fields, put_section, Plan, SelectionRow, Set};
+use super::plan::{put_fields, put_section, Form, Plan, SelectionRow, Set, VolumeRow};
 use super::prng::Prng;
 use super::random::{around_embedding, random, result, selections};
 use super::sets::rearrange;
 use super::strikes;
 use super::trees;
-use crate::calls::{INCLUDED, NOT_INCLUDED, STOPPED};
+use crate::calls::{ANSWER_BYTES, INCLUDED, NOT_INCLUDED, STOPPED};
 use crate::old::read_old_case;
 use crate::records::{holder, read_case, Case};
-use crate::trials::{count_placements, each_placement, lay_out};
+use crate::trials::{count_placements, each_placement, lay_out, Trial, TrialNode};
 use crate::vectors::UPGRADE;
 use crate::*;
 
-fn volume_bytes(rows: &[[u16; 2]]) -> Vec<u8> {
+fn volume_bytes(rows: &[VolumeRow]) -> Vec<u8> {
     let mut bytes = Vec::new();
     put_section(&mut bytes, rows, 0);
     bytes
@@ -32,7 +32,7 @@ fn list_bytes(fields: &[u16]) -> Vec<u8> {
 /// The volume and the list that "not included" wrote.
 fn shown(answer: &[u8]) -> (&[u8], &[u8]) {
     let field = |at: usize| usize::from(u16::from_le_bytes([answer[at], answer[at + 1]]));
-    let end = 2 + 4 * field(0);
+    let end = 2 + 6 * field(0);
     (&answer[..end], &answer[end + 2..end + 2 + 2 * field(end)])
 }
 
@@ -47,12 +47,12 @@ fn in_union(plan: &Plan, volume: &[u8], list: &[u8]) -> bool {
 
 #[test]
 fn a_shown_volume_fits_and_tells_the_selections_apart() {
-    let mut prng = Prng::new(11);
+    let mut prng = Prng::new(11u64);
     let mut seen = 0;
     for _ in 0..600 {
         let plan = selections(&mut prng);
         let case = plan.case_bytes();
-        let mut answer = [0; 4_096];
+        let mut answer = [0; ANSWER_BYTES];
         if verdict(&case, 500, 0, &mut [0; CALLERS], &mut answer).kind == NOT_INCLUDED {
             let (volume, list) = shown(&answer);
             assert!(fits(&case, volume).holds);
@@ -66,7 +66,7 @@ fn a_shown_volume_fits_and_tells_the_selections_apart() {
 
 #[test]
 fn included_holds_in_fitting_volumes() {
-    let mut prng = Prng::new(12);
+    let mut prng = Prng::new(12u64);
     let mut seen = 0;
     for _ in 0..400 {
         let mut plan = Plan {
@@ -74,7 +74,7 @@ fn included_holds_in_fitting_volumes() {
             ..selections(&mut prng)
         };
         let case = plan.case_bytes();
-        if verdict(&case, 500, 0, &mut [0; CALLERS], &mut [0; 4_096]).kind != INCLUDED {
+        if verdict(&case, 500, 0, &mut [0; CALLERS], &mut [0; ANSWER_BYTES]).kind != INCLUDED {
             continue;
         }
         for _ in 0..10 {
@@ -90,6 +90,32 @@ fn included_holds_in_fitting_volumes() {
     assert!(seen > 500);
 }
 
+/// A trial's records, with the figures put on node by node: a node that ends the
+/// chain of a selection node has what that asks for, and every other 0.
+fn figured(case: &Case, placement: &[usize], trial: &Trial) -> Vec<VolumeRow> {
+    let label = |node: &TrialNode| case.outline[node.outline].label;
+    let mut rows: Vec<VolumeRow> = trial
+        .nodes
+        .iter()
+        .map(|node| [node.parent as u16, label(node), 0])
+        .collect();
+    rows[0][2] = case.first[0].figure;
+    let depth = |mut t: usize| {
+        let mut steps = 0;
+        while t != 0 {
+            t = case.outline[t].parent;
+            steps += 1;
+        }
+        steps
+    };
+    let mut last = 0;
+    for (q, node) in case.first.iter().enumerate().skip(1) {
+        last += depth(placement[q]) - depth(placement[node.parent]);
+        rows[last][2] = node.figure;
+    }
+    rows
+}
+
 /// Kind and tried worked out from each trial and each member by itself.
 fn worked_out(plan: &Plan, limit: u64) -> (u64, u64) {
     let case = read_case(&plan.case_bytes()).expect("the plan is accepted");
@@ -103,11 +129,7 @@ fn worked_out(plan: &Plan, limit: u64) -> (u64, u64) {
         }
         tried += 1;
         let trial = lay_out(&case.outline, &case.first, placement);
-        let rows: Vec<[u16; 2]> = trial
-            .nodes
-            .iter()
-            .map(|node| [node.parent as u16, case.outline[node.outline].label])
-            .collect();
+        let rows = figured(&case, placement, &trial);
         let list: Vec<u16> = holders.iter().map(|&q| trial.own[q] as u16).collect();
         let passes = in_union(plan, &volume_bytes(&rows), &list_bytes(&list));
         if !passes {
@@ -120,7 +142,7 @@ fn worked_out(plan: &Plan, limit: u64) -> (u64, u64) {
 
 #[test]
 fn a_trial_passes_through_any_member() {
-    let mut prng = Prng::new(15);
+    let mut prng = Prng::new(15u64);
     let mut together = 0;
     for _ in 0..800 {
         let plan = selections(&mut prng);
@@ -129,7 +151,7 @@ fn a_trial_passes_through_any_member() {
                 set,
                 ..plan.clone()
             };
-            let mut answer = [0xAA; 4_096];
+            let mut answer = [0xAA; ANSWER_BYTES];
             let got = verdict(&plan.case_bytes(), 100, 0, &mut [0; CALLERS], &mut answer);
             ((got.kind, got.tried), answer)
         };
@@ -147,11 +169,11 @@ fn a_trial_passes_through_any_member() {
 
 #[test]
 fn layouts_fit() {
-    let mut prng = Prng::new(13);
-    let mut seen = 0;
+    let mut prng = Prng::new(13u64);
+    let (mut seen, mut figured) = (0, 0);
     for _ in 0..600 {
         let plan = selections(&mut prng);
-        let tree: Vec<[u16; 2]> = plan.outline.iter().map(|row| [row[0], row[1]]).collect();
+        let tree = trees::as_volume(&plan.outline);
         let Some(places) = trees::embedding(&mut prng, &plan.first, &tree) else {
             continue;
         };
@@ -160,22 +182,34 @@ fn layouts_fit() {
         let case = plan.case_bytes();
         let got = layout(&case, 1, &list_bytes(&places), &mut table);
         assert!(got.refused == 0 && (1..=1_009).contains(&got.count));
-        let rows: Vec<[u16; 2]> = table[..got.count as usize]
+        let rows: Vec<VolumeRow> = table[..got.count as usize]
             .iter()
-            .map(|node| [node.parent, node.label])
+            .map(|node| [node.parent, node.label, node.figure])
             .collect();
         assert!(fits(&case, &volume_bytes(&rows)).holds);
+        let asked: Vec<u16> = plan
+            .first
+            .iter()
+            .map(|row| row[4])
+            .filter(|&f| f > 0)
+            .collect();
+        let given = rows.iter().map(|row| row[2]).filter(|&f| f > 0);
+        assert_eq!(given.collect::<Vec<_>>(), asked);
+        figured += u32::from(!asked.is_empty());
         for (node, path) in places.iter().enumerate() {
             assert_eq!(paths(&case, 1).masks[node] >> path & 1, 1);
         }
         seen += 1;
     }
-    assert!(seen > 300);
+    assert!(
+        seen > 300 && figured > 100,
+        "{seen} seen, {figured} with figures"
+    );
 }
 
 #[test]
 fn with_one_position_the_nodes_are_the_results() {
-    let mut prng = Prng::new(14);
+    let mut prng = Prng::new(14u64);
     let mut seen = 0;
     for _ in 0..1_000 {
         let mut plan = Plan {
@@ -190,7 +224,7 @@ fn with_one_position_the_nodes_are_the_results() {
         let nodes: Vec<u16> = (0..plan.volume.len() as u16)
             .filter(|&v| is_result(&case, 2, &volume, &list_bytes(&[v])).holds)
             .collect();
-        let mut answer = [0xAA; 4_096];
+        let mut answer = [0xAA; ANSWER_BYTES];
         assert_eq!(
             nodes_at(&case, 2, &volume, 1, &mut answer).count,
             nodes.len() as u64
@@ -205,7 +239,7 @@ fn with_one_position_the_nodes_are_the_results() {
 
 /// What a call that writes a case writes, or its refusal.
 fn written(call: fn(&[u8], &mut [u8]) -> CountAnswer, case: &[u8]) -> Result<Vec<u8>, u64> {
-    let mut answer = [0xAA; 4_096];
+    let mut answer = [0xAA; ANSWER_BYTES];
     let got = call(case, &mut answer);
     let (bytes, rest) = answer.split_at(got.count as usize);
     assert!(rest.iter().all(|&byte| byte == 0xAA));
@@ -224,14 +258,14 @@ fn there_and_back_gives_the_same_bytes() {
         let case = vector.case;
         if let Ok(new) = written(upgrade, &case) {
             assert_eq!(written(downgrade, &new), Ok(case.clone()));
-            assert_eq!(new.len(), case.len() + 2);
             let read = read_old_case(&case).map(|old| old.with_set_of_one());
+            let nodes = read.as_ref().map_or(0, |c| c.first.len() + c.set[0].len());
+            assert_eq!(new.len(), case.len() + 2 + 2 * nodes);
             assert_eq!(read_case(&new), read);
             over += 1;
         }
         if let Ok(old) = written(downgrade, &case) {
             assert_eq!(written(upgrade, &old), Ok(case.clone()));
-            assert_eq!(written(upgrade, &case), Err(3));
             back += 1;
         }
     }
@@ -242,14 +276,14 @@ fn there_and_back_gives_the_same_bytes() {
 /// selection.
 #[test]
 fn an_old_case_moved_over_is_judged_by_its_second_selection() {
-    let mut prng = Prng::new(17);
+    let mut prng = Prng::new(17u64);
     let mut seen = 0;
     for _ in 0..300 {
         let mut plan = selections(&mut prng).for_call(UPGRADE);
         let new = written(upgrade, &plan.case_bytes()).expect("the plan is accepted");
-        plan.old = false;
+        plan.form = Form::Today;
         assert_eq!(new, plan.case_bytes());
-        let got = verdict(&new, 100, 0, &mut [0; CALLERS], &mut [0; 4_096]);
+        let got = verdict(&new, 100, 0, &mut [0; CALLERS], &mut [0; ANSWER_BYTES]);
         assert_eq!((got.kind, got.tried), worked_out(&plan, 100));
         seen += u32::from(got.tried > 0);
     }
@@ -269,7 +303,7 @@ impl Struck {
     fn drawn(prng: &mut Prng) -> Struck {
         let plan = strikes::order(prng);
         let limit = strikes::limit(prng, &plan, strikes::TRIALS_MOST);
-        let mut answer = [0xAA; 4_096];
+        let mut answer = [0xAA; ANSWER_BYTES];
         let mut tallies = [0; CALLERS];
         let got = minimise(&plan.case_bytes(), limit, 0, &mut tallies, &mut answer);
         assert_eq!((got.refused, tallies[0]), (0, got.tried));
@@ -277,8 +311,10 @@ impl Struck {
             .chunks(2)
             .map(|field| u16::from_le_bytes([field[0], field[1]]))
             .collect();
-        let (rows, rest) = fields[1..].split_at(4 * usize::from(fields[0]));
-        let left = rows.chunks(4).map(|row| [row[0], row[1], row[2], row[3]]);
+        let (rows, rest) = fields[1..].split_at(5 * usize::from(fields[0]));
+        let left = rows
+            .chunks(5)
+            .map(|row| [row[0], row[1], row[2], row[3], row[4]]);
         assert_eq!(u64::from(rest[0]), got.struck);
         Struck {
             left: left.collect(),
@@ -318,7 +354,7 @@ fn without(rows: &[SelectionRow], leaf: usize) -> Vec<SelectionRow> {
 #[test]
 fn a_shortened_order_has_the_same_results() {
     const MOST: u64 = 400;
-    let mut prng = Prng::new(18);
+    let mut prng = Prng::new(18u64);
     let (mut shorter, mut whole, mut seen) = (0, 0, 0);
     for _ in 0..250 {
         let struck = Struck::drawn(&mut prng);
@@ -354,7 +390,7 @@ fn a_shortened_order_has_the_same_results() {
 /// order, what all of it takes, and that "no remaining such leaf would be struck".
 #[test]
 fn leaves_are_struck_by_verdicts_on_cases() {
-    let mut prng = Prng::new(19);
+    let mut prng = Prng::new(19u64);
     let (mut not_ascending, mut paid_again, mut stopped) = (0, 0, 0);
     for _ in 0..250 {
         let struck = Struck::drawn(&mut prng);
@@ -393,7 +429,7 @@ fn leaves_are_struck_by_verdicts_on_cases() {
 
 #[test]
 fn the_set_does_not_matter_to_striking_out() {
-    let mut prng = Prng::new(20);
+    let mut prng = Prng::new(20u64);
     for _ in 0..100 {
         let mut struck = Struck::drawn(&mut prng);
         let before = struck.plan.minimised(struck.limit);
@@ -418,7 +454,7 @@ fn drawn_case(prng: &mut Prng) -> Case {
 /// Writing twice changes nothing".
 #[test]
 fn written_alike_exactly_where_numbers_alone_differ() {
-    let mut prng = Prng::new(21);
+    let mut prng = Prng::new(21u64);
     let (mut moved, mut same, mut other) = (0, 0, 0);
     for _ in 0..1_500 {
         let case = drawn_case(&mut prng);
@@ -451,7 +487,7 @@ fn written_alike_exactly_where_numbers_alone_differ() {
 /// "every tree in preorder": a node's parent is the one before it or above that.
 #[test]
 fn what_is_written_is_in_preorder() {
-    let mut prng = Prng::new(22);
+    let mut prng = Prng::new(22u64);
     for _ in 0..300 {
         let read = read_case(&normal(&drawn_case(&mut prng))).expect("it is accepted");
         let outline: Vec<usize> = read.outline.iter().map(|node| node.parent).collect();
@@ -482,7 +518,7 @@ fn what_is_written_is_in_preorder() {
 #[test]
 fn the_kind_of_verdict_stays() {
     const MOST: u64 = 300;
-    let mut prng = Prng::new(23);
+    let mut prng = Prng::new(23u64);
     let (mut included, mut not, mut elsewhere) = (0, 0, 0);
     for _ in 0..400 {
         // Of few free nodes, so that the first failure is often not the first trial.
@@ -496,7 +532,7 @@ fn the_kind_of_verdict_stays() {
             continue;
         }
         let judged = |bytes: &[u8]| {
-            let got = verdict(bytes, MOST, 0, &mut [0; CALLERS], &mut [0; 4_096]);
+            let got = verdict(bytes, MOST, 0, &mut [0; CALLERS], &mut [0; ANSWER_BYTES]);
             (got.kind, got.tried)
         };
         let (before, after) = (judged(&case.bytes()), judged(&normal(&case)));
@@ -524,8 +560,51 @@ fn the_cases_to_be_written_are_of_all_kinds() {
         .collect();
     assert_eq!(accepted.len(), all.len());
     let of = |kind: &dyn Fn(&Case) -> bool| accepted.iter().filter(|case| kind(case)).count();
-    let whole = |case: &Case| case.outline.len() == 64 && case.bytes().len() == 1_558;
+    let whole = |case: &Case| case.outline.len() == 64 && case.bytes().len() == 1_846;
     let again = |case: &Case| normal(case) == case.bytes();
     assert!(of(&whole) > 200 && of(&again) > 50 && of(&|case| !again(case)) > 1_000);
     assert!(all.iter().filter(|vector| vector.refusal() == 2).count() > 20);
+}
+
+/// The same without figures.
+fn plain(plan: &Plan) -> Plan {
+    let mut plan = plan.clone();
+    plan.forget_figures();
+    for row in &mut plan.volume {
+        row[2] = 0;
+    }
+    plan
+}
+
+/// Figures only take results away: verdicts and results that hold with them hold
+/// without them, and each way it is often the figure alone that decides.
+#[test]
+fn figures_decide_either_way() {
+    let mut prng = Prng::new(24u64);
+    let (mut within, mut outside, mut result_in, mut result_out) = (0, 0, 0, 0);
+    for _ in 0..1_500 {
+        let mut plan = selections(&mut prng);
+        plan.selection = prng.between(1, plan.last_selection() as usize) as u64;
+        plan.volume = around_embedding(&mut prng, &plan, 30);
+        let (with, without) = (plan.judged(60), plain(&plan).judged(60));
+        assert!(with.kind == without.kind || with.kind == NOT_INCLUDED);
+        assert!(with.tried <= without.tried);
+        let asks = |rows: &Vec<SelectionRow>| rows.iter().any(|row| row[4] > 0);
+        within += u32::from(with.kind == INCLUDED && plan.set.iter().all(asks));
+        outside += u32::from(with != without);
+        let list = list_bytes(&result(&mut prng, &plan));
+        let holds = |plan: &Plan| {
+            let (case, volume) = (plan.case_bytes(), volume_bytes(&plan.volume));
+            is_result(&case, plan.selection, &volume, &list).holds
+        };
+        let (with, without) = (holds(&plan), holds(&plain(&plan)));
+        assert!(without || !with);
+        result_in += u32::from(with && asks(&plan.chosen().to_vec()));
+        result_out += u32::from(without && !with);
+    }
+    assert!(within > 150 && outside > 100, "{within} in, {outside} out");
+    assert!(
+        result_in > 150 && result_out > 50,
+        "{result_in} results, {result_out} none by figures"
+    );
 }

@@ -2,8 +2,9 @@
 //! differ in one field far below, equal subtrees, and subtrees that are prefixes
 //! of others.
 
+use super::figures::{self, OF_SELECTION};
 use super::plan::{least_length, OutlineRow, Plan, SelectionRow, Set};
-use super::prng::Prng;
+use super::prng::{Prng, Seed};
 use super::random::selections;
 use super::trees::{self, Freedom};
 use crate::records::{
@@ -15,11 +16,11 @@ const ROOT: u16 = 1;
 const CHILD: u16 = 0;
 const DESCENDANT: u16 = 1;
 /// The root, which holds the only position.
-const HEAD: SelectionRow = [0, ROOT, CHILD, 1];
+const HEAD: SelectionRow = [0, ROOT, CHILD, 1, 0];
 
 /// The cases that are always the same, and `count` random ones, of which many are
 /// the one before with other numbers, or nearly so.
-pub fn normals(seed: u64, count: usize) -> Vec<Vector> {
+pub fn normals(seed: impl Into<Seed>, count: usize) -> Vec<Vector> {
     let mut prng = Prng::new(seed);
     let mut all = fixed();
     let mut plan = drawn(&mut prng);
@@ -67,6 +68,8 @@ pub fn fixed() -> Vec<Vector> {
         // Labels by number, with any label first.
         of(&[(0, 256), (0, 255), (0, u16::MAX), (0, 0), (0, 1)]),
         label_edge_position(),
+        figure_last(),
+        figures_below(),
         // Equal ones, and all but one equal.
         of(&[(0, a), (1, b), (0, a), (3, b), (0, a), (5, b)]),
         heap(None),
@@ -80,7 +83,7 @@ pub fn fixed() -> Vec<Vector> {
         whole(|t| t.saturating_sub(1) / 2),
         whole(|t| t.saturating_sub(2 - t % 2)),
     ];
-    let mut prng = Prng::new(106);
+    let mut prng = Prng::new(106u64);
     let mut all = Vec::new();
     for plan in plans {
         all.push(plan.vector());
@@ -107,7 +110,7 @@ fn over_root(first: Vec<SelectionRow>) -> Plan {
 
 /// Child edges below the root, each node by its parent and label.
 fn of(nodes: &[(u16, u16)]) -> Plan {
-    let row = |&(parent, label): &(u16, u16)| [parent, label, CHILD, 0];
+    let row = |&(parent, label): &(u16, u16)| [parent, label, CHILD, 0, 0];
     let mut rows = vec![HEAD];
     rows.extend(nodes.iter().map(row));
     over_root(rows)
@@ -117,11 +120,40 @@ fn of(nodes: &[(u16, u16)]) -> Plan {
 fn label_edge_position() -> Plan {
     let mut rows = vec![HEAD];
     rows.extend([
-        [0, 3, CHILD, 0],
-        [0, 2, DESCENDANT, 0],
-        [0, 2, CHILD, 2],
-        [0, 2, CHILD, 0],
+        [0, 3, CHILD, 0, 0],
+        [0, 2, DESCENDANT, 0, 0],
+        [0, 2, CHILD, 2, 0],
+        [0, 2, CHILD, 0, 0],
     ]);
+    over_root(rows)
+}
+
+/// The figure decides by number, after all else.
+fn figure_last() -> Plan {
+    let mut rows = vec![HEAD];
+    rows.extend([
+        [0, 2, CHILD, 0, 256],
+        [0, 2, CHILD, 2, 0],
+        [0, 2, DESCENDANT, 0, 0],
+        [0, 2, CHILD, 0, 2_000],
+        [0, 2, CHILD, 0, 255],
+        [0, 1, CHILD, 0, 2_000],
+        [0, 2, CHILD, 0, 0],
+    ]);
+    over_root(rows)
+}
+
+/// Subtrees that are alike but for a figure, above and below.
+fn figures_below() -> Plan {
+    let mut rows = vec![HEAD];
+    for (above, below) in [(1, 0), (0, 2), (0, 1), (1, 0), (0, 1)] {
+        let number = rows.len() as u16;
+        rows.extend([
+            [0, 2, CHILD, 0, above],
+            [number, 3, CHILD, 0, below],
+            [number, 3, CHILD, 0, 1],
+        ]);
+    }
     over_root(rows)
 }
 
@@ -134,7 +166,7 @@ fn outline_alone(nodes: &[OutlineRow]) -> Plan {
 /// Fifteen nodes two by two, all alike but for one of them, and the root above.
 fn heap(other: Option<usize>) -> Plan {
     let mut rows = vec![HEAD];
-    rows.extend((1..SELECTION_NODES as u16).map(|q| [q / 2, 2, CHILD, 0]));
+    rows.extend((1..SELECTION_NODES as u16).map(|q| [q / 2, 2, CHILD, 0, 0]));
     if let Some(q) = other {
         rows[q][2] = DESCENDANT;
     }
@@ -147,7 +179,7 @@ fn two_chains() -> Plan {
     for last in [3, 2] {
         for step in 0..7 {
             let parent = if step == 0 { 0 } else { rows.len() as u16 - 1 };
-            rows.push([parent, if step == 6 { last } else { 2 }, CHILD, 0]);
+            rows.push([parent, if step == 6 { last } else { 2 }, CHILD, 0, 0]);
         }
     }
     over_root(rows)
@@ -157,7 +189,7 @@ fn two_chains() -> Plan {
 fn ordered_set() -> Plan {
     let member = |labels: &[u16]| {
         let mut rows = vec![HEAD];
-        rows.extend(labels.iter().map(|&label| [0, label, DESCENDANT, 0]));
+        rows.extend(labels.iter().map(|&label| [0, label, DESCENDANT, 0, 0]));
         rows
     };
     let labels: [&[u16]; SET_SELECTIONS] =
@@ -175,7 +207,7 @@ fn whole(parent: fn(u16) -> u16) -> Plan {
     let outline = (0..OUTLINE_NODES as u16).map(|t| [parent(t), label(t), t % 2]);
     let row = |q: u16| {
         let edge = u16::from(q % 3 == 1);
-        [parent(q), label(q), edge, u16::from(q == 0)]
+        [parent(q), label(q), edge, u16::from(q == 0), 0]
     };
     let selection: Vec<SelectionRow> = (0..SELECTION_NODES as u16).map(row).collect();
     let set = vec![selection.clone(); SET_SELECTIONS];
@@ -246,7 +278,7 @@ fn repetitive(prng: &mut Prng) -> Plan {
 
 /// A tree grown by single nodes and by copies of what it has already.
 fn said_again(prng: &mut Prng, size: usize, labels: usize, edges: usize) -> Vec<SelectionRow> {
-    let mut rows: Vec<SelectionRow> = vec![[0, ROOT, CHILD, 0]];
+    let mut rows: Vec<SelectionRow> = vec![[0, ROOT, CHILD, 0, 0]];
     let reach = [1, 2, SELECTION_NODES][prng.below(3)];
     while rows.len() < size {
         // The lower the number, the more there often is below.
@@ -256,20 +288,21 @@ fn said_again(prng: &mut Prng, size: usize, labels: usize, edges: usize) -> Vec<
         } else {
             let parent = rows.len() - 1 - prng.below(reach.min(rows.len()));
             let edge = u16::from(prng.percent(edges));
-            rows.push([parent as u16, prng.below(labels) as u16, edge, 0]);
+            let label = prng.below(labels) as u16;
+            rows.push([parent as u16, label, edge, 0, figures::seldom(prng)]);
         }
     }
     rows
 }
 
 /// The subtree of a node again beside it, as far as the size goes, often with its
-/// last node altered: another label or edge, or one step higher, which leaves all
-/// but the depths alike.
+/// last node altered: another figure, label or edge, or one step higher, which
+/// leaves all but the depths alike.
 fn copy(prng: &mut Prng, rows: &mut Vec<SelectionRow>, from: usize, size: usize) {
     let mut twins = vec![None; rows.len()];
     let before = rows.len();
     for q in from..before {
-        let [parent, label, edge, _] = rows[q];
+        let [parent, label, edge, _, figure] = rows[q];
         let parent = if q == from {
             Some(parent)
         } else {
@@ -277,10 +310,11 @@ fn copy(prng: &mut Prng, rows: &mut Vec<SelectionRow>, from: usize, size: usize)
         };
         if let Some(parent) = parent.filter(|_| rows.len() < size) {
             twins[q] = Some(rows.len() as u16);
-            rows.push([parent, label, edge, 0]);
+            rows.push([parent, label, edge, 0, figure]);
         }
     }
     let last = rows.len() - 1;
+    figures::alter(prng, &mut rows[last]);
     let above = usize::from(rows[last][0]);
     match prng.below(5) {
         0 => rows[last][1] += 1,
@@ -342,6 +376,13 @@ fn outline_stroke(prng: &mut Prng, rows: &mut [OutlineRow]) {
 
 fn selection_stroke(prng: &mut Prng, rows: &mut [SelectionRow]) {
     let (q, other) = (low(prng, rows.len()), prng.below(rows.len()));
+    if prng.figures().is_some_and(|prng| prng.percent(20)) {
+        match prng.percent(50) {
+            true => exchange(rows, q, other, OF_SELECTION),
+            false => figures::alter(prng, &mut rows[q]),
+        }
+        return;
+    }
     match prng.below(7) {
         0 => rows[q][1] = [0, rows[other][1], rows[q][1] ^ 1][prng.below(3)],
         1 if q > 0 => rows[q][2] ^= 1,

@@ -1,12 +1,53 @@
 //! Splitmix64: the same seed gives the same vectors everywhere.
 
+/// What a generator starts from; a number gives figures too.
+#[derive(Clone, Copy, Debug)]
+pub struct Seed {
+    number: u64,
+    figures: bool,
+}
+
+impl Seed {
+    /// The same trees with figures of 0.
+    pub fn without_figures(number: u64) -> Seed {
+        let figures = false;
+        Seed { number, figures }
+    }
+
+    pub fn number(self) -> u64 {
+        self.number
+    }
+}
+
+impl From<u64> for Seed {
+    fn from(number: u64) -> Seed {
+        let figures = true;
+        Seed { number, figures }
+    }
+}
+
 pub struct Prng {
     state: u64,
+    figures: Option<Box<Prng>>,
 }
 
 impl Prng {
-    pub fn new(seed: u64) -> Self {
-        Prng { state: seed }
+    pub fn new(seed: impl Into<Seed>) -> Self {
+        let Seed { number, figures } = seed.into();
+        Prng {
+            state: number,
+            figures: figures.then(|| {
+                Box::new(Prng {
+                    state: number.rotate_left(32) ^ 107,
+                    figures: None,
+                })
+            }),
+        }
+    }
+
+    /// What figures are drawn from, `None` where all are to be 0.
+    pub fn figures(&mut self) -> Option<&mut Prng> {
+        self.figures.as_deref_mut()
     }
 
     /// Any number of 64 bits.

@@ -2,9 +2,10 @@
 
 use super::callers;
 use super::changes::{changes, Change};
+use super::figures;
 use super::normals;
-use super::plan::{OutlineRow, Plan, SelectionRow, VolumeRow, CALLS};
-use super::prng::Prng;
+use super::plan::{Form, OutlineRow, Plan, SelectionRow, VolumeRow, CALLS};
+use super::prng::{Prng, Seed};
 use super::sets;
 use super::strikes;
 use super::trees::{self, Freedom};
@@ -17,7 +18,8 @@ const TRIALS_MOST: u64 = 2_000;
 /// So many verdicts in a hundred have a caller that there is not.
 const NOBODY: usize = 3;
 
-pub fn random(seed: u64, count: usize) -> Vec<Vector> {
+pub fn random(seed: impl Into<Seed>, count: usize) -> Vec<Vector> {
+    let seed = seed.into();
     let mut prng = Prng::new(seed);
     let mut changes = changes();
     // Those are drawn with the other callers.
@@ -69,12 +71,25 @@ fn one(prng: &mut Prng, changes: &[Change]) -> Vector {
     vector
 }
 
-/// Mostly one member where the case is moved, and now and then the form that is
-/// not taken.
+/// Mostly one member and no figure where the case goes back, and now and then a
+/// form that is not taken.
 fn take_form(prng: &mut Prng, plan: &mut Plan) {
-    plan.old ^= prng.percent(3);
-    if plan.old || plan.call == DOWNGRADE && prng.percent(60) {
+    if prng.percent(3) {
+        plan.form = match Form::of(plan.call) {
+            Form::Old => Form::Today,
+            _ => Form::Old,
+        };
+    }
+    if plan.form == Form::Old || plan.call == DOWNGRADE && prng.percent(60) {
         plan.set.truncate(1);
+    }
+    let Some(prng) = prng.figures() else { return };
+    if prng.percent(2) {
+        plan.form = Form::Narrow;
+    }
+    plan.narrow_volume = prng.percent(2);
+    if plan.call == DOWNGRADE && prng.percent(80) {
+        plan.forget_figures();
     }
 }
 
@@ -188,14 +203,21 @@ pub fn around_embedding(prng: &mut Prng, plan: &Plan, size: usize) -> Vec<Volume
         }
         own.push(above);
     }
-    trees::grow_volume(prng, &plan.outline, nodes, size)
+    let mut rows = trees::grow_volume(prng, &plan.outline, nodes, size);
+    figures::meet(prng, selection, &own, &mut rows);
+    rows
 }
 
-/// Often a result, often one with a node changed, sometimes any nodes.
+/// Often a result, often one with a node changed, sometimes any nodes; now and then
+/// what would be a result but for figures.
 pub fn result(prng: &mut Prng, plan: &Plan) -> Vec<u16> {
     let k = plan.positions() as usize;
     let any = |prng: &mut Prng| prng.below(plan.volume.len()) as u16;
-    let images = trees::embedding(prng, plan.chosen(), &plan.volume);
+    let mut volume = plan.volume.clone();
+    if prng.figures().is_some_and(|prng| prng.percent(40)) {
+        figures::grant(&mut volume);
+    }
+    let images = trees::embedding(prng, plan.chosen(), &volume);
     let mut list: Vec<u16> = match images.filter(|_| prng.percent(85)) {
         Some(images) => (1..=k)
             .filter_map(|p| {
@@ -209,7 +231,7 @@ pub fn result(prng: &mut Prng, plan: &Plan) -> Vec<u16> {
     };
     if prng.percent(40) {
         // Another result's node at one position is the subtler change.
-        let other = trees::embedding(prng, plan.chosen(), &plan.volume);
+        let other = trees::embedding(prng, plan.chosen(), &volume);
         let p = prng.below(list.len());
         let holder = plan
             .chosen()

@@ -2,8 +2,9 @@
 //! no placement, and limits around the number at which a leaf goes.
 
 use super::callers;
+use super::figures;
 use super::plan::{least_length, OutlineRow, Plan, SelectionRow};
-use super::prng::Prng;
+use super::prng::{Prng, Seed};
 use super::random::selections;
 use super::sets;
 use super::trees::{self, Freedom};
@@ -27,11 +28,12 @@ const DESCENDANT: u16 = 1;
 const PLAIN: u16 = 0;
 const STRONG: u16 = 1;
 /// The root, which holds the only position.
-const HEAD: SelectionRow = [0, ROOT, CHILD, 1];
+const HEAD: SelectionRow = [0, ROOT, CHILD, 1, 0];
 
 /// The orders that are always the same, and `count` random ones, some of them
 /// near the limits.
-pub fn strikes(seed: u64, count: usize) -> Vec<Vector> {
+pub fn strikes(seed: impl Into<Seed>, count: usize) -> Vec<Vector> {
+    let seed = seed.into();
     let mut prng = Prng::new(seed);
     let mut all = fixed();
     all.extend((0..count).map(|_| drawn(&mut prng)));
@@ -68,17 +70,21 @@ pub fn fixed() -> Vec<Vector> {
     let inner = vec![[0, ROOT, 0], [0, a, PLAIN], [1, b, STRONG]];
     let one_strong = vec![[0, ROOT, 0], [0, a, STRONG], [0, b, PLAIN], [0, c, PLAIN]];
     let of = |outline: &[OutlineRow], rows: &[SelectionRow]| plan(outline.to_vec(), headed(rows));
-    let any = [0, ANY, CHILD, 0];
-    let below = [0, ANY, DESCENDANT, 0];
-    let leaf = |label| [0, label, CHILD, 0];
+    let any = [0, ANY, CHILD, 0, 0];
+    let below = [0, ANY, DESCENDANT, 0, 0];
+    let good = |label, figure| [0, label, CHILD, 0, figure];
+    let leaf = |label| good(label, 0);
     let mut all = vec![
         // All that has no position goes: 15, 14, .. of a line, 1, 2, .. of a star.
         (plan(line(64), chain(16)), LIMIT),
         (plan(star(15), headed(&fan(15))), LIMIT),
         // 2, then 1, which has become a leaf, then 3.
-        (of(&granted, &[leaf(a), [1, b, CHILD, 0], leaf(c)]), LIMIT),
+        (
+            of(&granted, &[leaf(a), [1, b, CHILD, 0, 0], leaf(c)]),
+            LIMIT,
+        ),
         // 2 goes, and its parent stays.
-        (of(&inner, &[leaf(a), [1, b, CHILD, 0]]), LIMIT),
+        (of(&inner, &[leaf(a), [1, b, CHILD, 0, 0]]), LIMIT),
         // Of equal ones the lower goes, and one stays.
         (of(&plain, &[leaf(a), leaf(a)]), LIMIT),
         (of(&plain, &[leaf(a); 15]), LIMIT),
@@ -92,29 +98,45 @@ pub fn fixed() -> Vec<Vector> {
         (of(&one_strong, &[leaf(a), below]), 3),
         // Nothing goes; nothing is asked.
         (of(&plain, &[leaf(a), leaf(b)]), LIMIT),
-        (of(&plain, &[[0, a, CHILD, 2]]), LIMIT),
+        (of(&plain, &[[0, a, CHILD, 2, 0]]), LIMIT),
         (of(&plain, &[]), 1),
         // No placement: what goes is free, and what has none itself stays.
         (of(&plain, &[leaf(a), leaf(NOWHERE)]), LIMIT),
         (of(&plain, &[leaf(NOWHERE), leaf(a)]), LIMIT),
         (of(&plain, &[leaf(a), leaf(NOWHERE), leaf(NOWHERE)]), 1),
-        (of(&granted, &[leaf(b), [1, a, CHILD, 0], leaf(c)]), LIMIT),
+        (
+            of(&granted, &[leaf(b), [1, a, CHILD, 0, 0], leaf(c)]),
+            LIMIT,
+        ),
         (
             plan(
                 granted.clone(),
-                vec![[0, a, CHILD, 1], leaf(b), [1, c, DESCENDANT, 0]],
+                vec![[0, a, CHILD, 1, 0], leaf(b), [1, c, DESCENDANT, 0, 0]],
             ),
             LIMIT,
         ),
         // Eight stay and are asked about again after each of seven that go.
         (kept_and_granted(), LIMIT),
         (eight_positions(), LIMIT),
+        // Of two the one that asks for less goes, and of equal ones the lower.
+        (of(&plain, &[good(a, 5), good(a, 7)]), LIMIT),
+        (of(&plain, &[good(a, 7), good(a, 5)]), LIMIT),
+        (of(&plain, &[good(a, 7), good(a, 7)]), LIMIT),
+        (
+            of(&plain, &[good(ANY, 256), good(a, 255), good(a, 256)]),
+            LIMIT,
+        ),
+        (of(&plain, &[good(a, 1_999), good(ANY, 2_000)]), LIMIT),
+        // What is granted has 0.
+        (of(&granted, &[good(a, 1), good(c, 0)]), LIMIT),
+        (of(&inner, &[good(a, 9), [1, b, CHILD, 0, 1]]), LIMIT),
+        (of(&inner, &[good(a, 9), [1, b, CHILD, 0, 0]]), LIMIT),
     ];
     // Sets of all sizes, which have to do with nothing; the tally at its bound.
     for members in 1..=SET_SELECTIONS {
-        let mut plan = of(&granted, &[leaf(a), [1, b, CHILD, 0], leaf(c)]);
+        let mut plan = of(&granted, &[leaf(a), [1, b, CHILD, 0, 0], leaf(c)]);
         plan.set = (0..members as u16)
-            .map(|m| vec![[0, m, CHILD, 1]])
+            .map(|m| vec![[0, m, CHILD, 1, 0]])
             .collect();
         plan.tally = 999_880_000_000;
         all.push((plan, LIMIT));
@@ -149,7 +171,7 @@ fn line(size: u16) -> Vec<OutlineRow> {
 /// The first so many nodes of it.
 fn chain(size: u16) -> Vec<SelectionRow> {
     (0..size)
-        .map(|q| [q.saturating_sub(1), ROOT + q, CHILD, u16::from(q == 0)])
+        .map(|q| [q.saturating_sub(1), ROOT + q, CHILD, u16::from(q == 0), 0])
         .collect()
 }
 
@@ -162,7 +184,7 @@ fn star(children: u16) -> Vec<OutlineRow> {
 
 /// A condition for each of them.
 fn fan(children: u16) -> Vec<SelectionRow> {
-    (1..=children).map(|q| [0, ROOT + q, CHILD, 0]).collect()
+    (1..=children).map(|q| [0, ROOT + q, CHILD, 0, 0]).collect()
 }
 
 /// Eight leaves that the outline does not grant, before seven that it does.
@@ -261,15 +283,18 @@ fn granted(
     let &(q, t) = prng.one_of(&all)?;
     let edge = u16::from(prng.percent(20));
     let label = if prng.percent(85) { outline[t][1] } else { ANY };
-    Some([q as u16, label, edge, 0])
+    Some([q as u16, label, edge, 0, figures::seldom(prng)])
 }
 
-/// A node like another one, its label or edge now and then wider.
+/// A node like another one, its label or edge now and then wider, its figure
+/// now and then another.
 fn said_again(prng: &mut Prng, first: &[SelectionRow]) -> SelectionRow {
-    let [parent, label, edge, _] = first[prng.below(first.len())];
+    let [parent, label, edge, _, figure] = first[prng.below(first.len())];
     let label = if prng.percent(75) { label } else { ANY };
     let edge = if prng.percent(75) { edge } else { DESCENDANT };
-    [parent, label, edge, 0]
+    let mut row = [parent, label, edge, 0, figure];
+    figures::alter(prng, &mut row);
+    row
 }
 
 /// A limit around the number of placements without one of the leaves, or any up

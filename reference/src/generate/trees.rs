@@ -1,9 +1,10 @@
 //! Random outlines, selections and volumes as rows.
 
+use super::figures;
 use super::plan::{OutlineRow, SelectionRow, VolumeRow};
 use super::prng::Prng;
 use crate::embedding::{has, Shape};
-use crate::records::{selection_nodes, VolumeNode, SELECTION_NODES, VOLUME_NODES};
+use crate::records::{selection_nodes, volume_node, VolumeNode, SELECTION_NODES, VOLUME_NODES};
 
 /// An outline of some size, from a chain to a bush. Few labels make equal
 /// ones on a path common.
@@ -82,7 +83,7 @@ pub fn selection(
     freedom: Freedom,
 ) -> Vec<SelectionRow> {
     let mut places = vec![0];
-    let mut rows: Vec<SelectionRow> = vec![[0, drawn_label(prng, outline, 0, freedom), 0, 0]];
+    let mut rows: Vec<SelectionRow> = vec![[0, drawn_label(prng, outline, 0, freedom), 0, 0, 0]];
     while rows.len() < size {
         let descendant = prng.percent(freedom.descendant);
         let parents: Vec<usize> = (0..rows.len())
@@ -96,9 +97,10 @@ pub fn selection(
         };
         let place = prng.one_of(&room).copied().unwrap_or(0);
         let label = drawn_label(prng, outline, place, freedom);
-        rows.push([parent as u16, label, descendant.into(), 0]);
+        rows.push([parent as u16, label, descendant.into(), 0, 0]);
         places.push(place);
     }
+    figures::ask(prng, &mut rows);
     rows
 }
 
@@ -122,7 +124,7 @@ pub fn hold_positions(prng: &mut Prng, rows: &mut [SelectionRow], k: usize) {
 }
 
 /// A selection that asks less than another: fewer labels, wider edges, fewer
-/// leaves. So it holds the other's results.
+/// leaves, lower figures. So it holds the other's results.
 pub fn weaken(prng: &mut Prng, rows: &[SelectionRow]) -> Vec<SelectionRow> {
     let mut rows = rows.to_vec();
     for _ in 0..prng.between(1, 6) {
@@ -134,6 +136,7 @@ pub fn weaken(prng: &mut Prng, rows: &[SelectionRow]) -> Vec<SelectionRow> {
             _ => splice(&mut rows, q),
         }
     }
+    figures::ask_less(prng, &mut rows);
     rows
 }
 
@@ -153,11 +156,12 @@ pub fn strengthen(
             1 => rows[q][2] = 0,
             _ if rows.len() < SELECTION_NODES => {
                 let label = [0, outline[place][1]][prng.below(2)];
-                rows.push([q as u16, label, u16::from(prng.percent(50)), 0]);
+                rows.push([q as u16, label, u16::from(prng.percent(50)), 0, 0]);
             }
             _ => rows[q][1] = 0,
         }
     }
+    figures::ask_more(prng, &mut rows);
     rows
 }
 
@@ -250,10 +254,10 @@ pub fn grow_volume(
         }
         visited += 1;
     }
-    nodes
-        .iter()
-        .map(|&(parent, t)| [parent as u16, outline[t][1]])
-        .collect()
+    let row = |&(parent, t): &(usize, usize)| [parent as u16, outline[t][1], 0];
+    let mut rows: Vec<VolumeRow> = nodes.iter().map(row).collect();
+    figures::give(prng, &mut rows);
+    rows
 }
 
 /// A few strokes that often make a volume not fit.
@@ -274,7 +278,7 @@ pub fn spoil_volume(prng: &mut Prng, outline: &[OutlineRow], rows: &mut Vec<Volu
 /// A volume with no regard to the outline but for its labels.
 pub fn wild_volume(prng: &mut Prng, outline: &[OutlineRow], size: usize) -> Vec<VolumeRow> {
     let reach = [1, 3, VOLUME_NODES][prng.below(3)];
-    (0..size.max(1))
+    let mut rows: Vec<VolumeRow> = (0..size.max(1))
         .map(|v| {
             let parent = if v == 0 {
                 0
@@ -282,26 +286,23 @@ pub fn wild_volume(prng: &mut Prng, outline: &[OutlineRow], size: usize) -> Vec<
                 v - 1 - prng.below(reach.min(v))
             };
             let label = outline[prng.below(outline.len())][1];
-            [parent as u16, if v == 0 { outline[0][1] } else { label }]
+            [parent as u16, if v == 0 { outline[0][1] } else { label }, 0]
         })
-        .collect()
+        .collect();
+    figures::give(prng, &mut rows);
+    rows
 }
 
-/// "the outline read as a volume"
+/// "the outline read as a volume", which grants any figure.
 pub fn as_volume(outline: &[OutlineRow]) -> Vec<VolumeRow> {
     outline
         .iter()
-        .map(|&[parent, label, _]| [parent, label])
+        .map(|&[parent, label, _]| [parent, label, u16::MAX])
         .collect()
 }
 
 pub fn volume_nodes(rows: &[VolumeRow]) -> Vec<VolumeNode> {
-    rows.iter()
-        .map(|&[parent, label]| VolumeNode {
-            parent: parent.into(),
-            label,
-        })
-        .collect()
+    rows.iter().map(volume_node).collect()
 }
 
 /// An embedding drawn at random, `None` where there is none.

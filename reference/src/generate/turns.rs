@@ -222,7 +222,7 @@ impl Member {
     /// The root, the classes on the path, and the deciders that hold positions.
     fn new(turns: &Turns, path: &[Turn]) -> Member {
         let mut member = Member {
-            rows: vec![[0, ROOT, CHILD, 1]],
+            rows: vec![[0, ROOT, CHILD, 1, 0]],
         };
         for &turn in path {
             let above = member.below(0, class_label(turn), CHILD);
@@ -247,7 +247,7 @@ impl Member {
 
     /// One more node, and its number.
     fn below(&mut self, parent: u16, label: u16, edge: u16) -> u16 {
-        self.rows.push([parent, label, edge, 0]);
+        self.rows.push([parent, label, edge, 0, 0]);
         self.rows.len() as u16 - 1
     }
 }
@@ -266,7 +266,7 @@ impl Tables<'_> {
         Tables {
             turns,
             outline: vec![[0, ROOT, 0]],
-            first: vec![[0, ROOT, CHILD, 1]],
+            first: vec![[0, ROOT, CHILD, 1, 0]],
             groups: 0,
         }
     }
@@ -298,9 +298,9 @@ impl Tables<'_> {
             }
         }
         let above = self.first.len() as u16;
-        self.first.push([0, parent, CHILD, 0]);
+        self.first.push([0, parent, CHILD, 0, 0]);
         self.first
-            .extend(std::iter::repeat_n([above, ANY, DESCENDANT, 0], count));
+            .extend(std::iter::repeat_n([above, ANY, DESCENDANT, 0, 0], count));
     }
 
     /// Below a node for each class its places, one below another.
@@ -314,7 +314,7 @@ impl Tables<'_> {
             lowest[class] = self.place(lowest[class], own, 0);
         }
         let position = self.turns.position(number);
-        self.first.push([0, own, DESCENDANT, position]);
+        self.first.push([0, own, DESCENDANT, position, 0]);
     }
 
     /// Below x, first the label asked for, then places that have it further
@@ -334,7 +334,7 @@ impl Tables<'_> {
         }
         let above = self.first.len() as u16;
         self.first
-            .extend([[0, WAYS, CHILD, 0], [above, ANY, CHILD, 0]]);
+            .extend([[0, WAYS, CHILD, 0, 0], [above, ANY, CHILD, 0, 0]]);
     }
 
     /// One more outline node, and its number.

@@ -31,17 +31,17 @@ fn holding(caller: usize, tally: u64) -> Tallies {
 /// What a verdict on E6 answers, and the tallies after it; a refusal leaves
 /// these and the buffer as they were.
 fn called(limit: u64, caller: u64, mut tallies: Tallies) -> (VerdictAnswer, Tallies) {
-    let (before, mut answer) = (tallies, [0xAA; 4_096]);
+    let (before, mut answer) = (tallies, [0xAA; 8_192]);
     let got = verdict(&e6(), limit, caller, &mut tallies, &mut answer);
     if got.refused != 0 {
         assert_eq!((got.kind, got.tried), (0, 0));
-        assert_eq!((tallies, answer), (before, [0xAA; 4_096]));
+        assert_eq!((tallies, answer), (before, [0xAA; 8_192]));
     }
     (got, tallies)
 }
 
 fn refusal(limit: u64, caller: u64, tallies: &Tallies) -> u64 {
-    verdict_refusal(&e6(), limit, caller, tallies, 4_096)
+    verdict_refusal(&e6(), limit, caller, tallies, 8_192)
 }
 
 #[test]
@@ -100,11 +100,11 @@ fn callers_are_0_to_7() {
 fn question_16_comes_after_8_and_before_9() {
     let full = [u64::MAX; CALLERS];
     let unheld = case("r", "r", "r");
-    assert_eq!(verdict_refusal(&unheld, 1, 8, &full, 4_096), 8);
+    assert_eq!(verdict_refusal(&unheld, 1, 8, &full, 8_192), 8);
     assert_eq!(refusal(1, 8, &full), 16);
     assert_eq!(refusal(1, 7, &full), 9);
     assert_eq!(refusal(0, 8, &full), 1);
-    assert_eq!(verdict_refusal(&e6(), 1, 8, &full, 4_095), 2);
+    assert_eq!(verdict_refusal(&e6(), 1, 8, &full, 8_191), 2);
 }
 
 /// Two runs with the same calls of caller 2 in the same order: alone, and with

@@ -1,9 +1,11 @@
 //! E1 to E10 with sets of one, the misreadings to catch, and the readings where
 //! two differ; those about sets are in `sets`, those about the old form in
 //! `moving`, those about callers in `callers`, those about striking out in
-//! `striking`, those about one way of writing a case in `normal`.
+//! `striking`, those about one way of writing a case in `normal`, those about figures
+//! in `figures`.
 
 mod callers;
+mod figures;
 mod moving;
 mod normal;
 mod notation;
@@ -18,7 +20,7 @@ const LIMIT: u64 = 1_000_000;
 
 /// Kind and tried, with what was written checked against the expectation.
 fn judged(case: &[u8], limit: u64, written: &[u8]) -> (u64, u64) {
-    let mut answer = [0xAA; 4_096];
+    let mut answer = [0xAA; 8_192];
     let mut tallies = [5; CALLERS];
     let got = verdict(case, limit, 0, &mut tallies, &mut answer);
     assert_eq!(got.refused, 0);
@@ -71,7 +73,7 @@ fn e6() -> Vec<u8> {
 
 #[test]
 fn e6_by_limit() {
-    assert_eq!(e6().len(), 58);
+    assert_eq!(e6().len(), 66);
     assert_eq!(judged(&e6(), 1, &[]), (STOPPED, 1));
     assert_eq!(judged(&e6(), 2, &shown("r(a(b))", &[2])), (NOT_INCLUDED, 2));
     assert_eq!(
@@ -133,6 +135,7 @@ fn strong_children_are_numbered_by_visit() {
         parent,
         outline,
         label,
+        figure: 0,
     };
     let wanted = [
         node(0, 0, 1),
@@ -154,13 +157,13 @@ fn positions_are_tested_as_one_list() {
     // Each position is right by itself in another embedding of the member.
     let crossed = case("r(a(!b,!c))", "r(a(b^),a(c^2))", "r(a(b^,c^2))");
     let trial = shown("r(a(b),a(c))", &[2, 4]);
-    let mut answer = [0xAA; 4_096];
+    let mut answer = [0xAA; 8_192];
     let got = verdict(&crossed, LIMIT, 0, &mut [0; CALLERS], &mut answer);
     assert_eq!((got.kind, got.tried), (NOT_INCLUDED, 1));
     // Seven nodes: the missing c and b are appended as nodes 5 and 6.
     let mut wanted = list(&[7]);
-    wanted.extend(&trial[2..2 + 5 * 4]);
-    wanted.extend(list(&[1, 4, 3, 3, 2, 2, 4]));
+    wanted.extend(&trial[2..2 + 5 * 6]);
+    wanted.extend(list(&[1, 4, 0, 3, 3, 0, 2, 2, 4]));
     assert_eq!(&answer[..wanted.len()], wanted);
 
     let two = volume("r(a(b,c),a(b,c))");
@@ -203,12 +206,12 @@ fn no_placement_behind_many_partial_ones_is_found_at_once() {
     for node in 1..64 {
         bytes.extend(list(&[node - 1, 1, 0]));
     }
-    bytes.extend(list(&[16, 0, 1, 0, 1]));
+    bytes.extend(list(&[16, 0, 1, 0, 1, 0]));
     for _ in 0..14 {
-        bytes.extend(list(&[0, 0, 1, 0]));
+        bytes.extend(list(&[0, 0, 1, 0, 0]));
     }
-    bytes.extend(list(&[0, 2, 1, 0]));
-    bytes.extend(list(&[1, 1, 0, 1, 0, 1]));
+    bytes.extend(list(&[0, 2, 1, 0, 0]));
+    bytes.extend(list(&[1, 1, 0, 1, 0, 1, 0]));
     assert_eq!(judged(&bytes, LIMIT, &[]), (INCLUDED, 0));
 }
 
@@ -237,24 +240,24 @@ fn nodes_are_written_ascending_after_their_count() {
     let case = case("r(a(b))", "r//b^", "r(b^)");
     // The volume need not fit.
     let found = volume("r(a(b),b,c(a(b)))");
-    let mut answer = [0xAA; 4_096];
+    let mut answer = [0xAA; 8_192];
     let got = nodes_at(&case, 1, &found, 1, &mut answer);
     assert_eq!((got.refused, got.count), (0, 3));
     assert_eq!(answer[..8], list(&[3, 2, 3, 6])[..]);
-    assert_eq!(answer[8..], [0xAA; 4_088]);
+    assert_eq!(answer[8..], [0xAA; 8_184]);
 
-    let mut answer = [0xAA; 4_096];
+    let mut answer = [0xAA; 8_192];
     let got = nodes_at(&case, 2, &volume("r(a)"), 1, &mut answer);
     assert_eq!((got.refused, got.count), (0, 0));
     assert_eq!(
         (&answer[..2], &answer[2..]),
-        (&[0, 0][..], &[0xAA; 4_094][..])
+        (&[0, 0][..], &[0xAA; 8_190][..])
     );
 }
 
 #[test]
 fn a_refusal_alters_nothing() {
-    let mut answer = [0xAA; 4_095];
+    let mut answer = [0xAA; 8_191];
     let mut tallies = [7; CALLERS];
     let refused = |refused| VerdictAnswer {
         refused,
@@ -263,13 +266,13 @@ fn a_refusal_alters_nothing() {
     };
     assert_eq!(verdict(&e6(), 0, 0, &mut tallies, &mut answer), refused(1));
     assert_eq!(verdict(&e6(), 1, 0, &mut tallies, &mut answer), refused(2));
-    assert_eq!((tallies, answer), ([7; CALLERS], [0xAA; 4_095]));
+    assert_eq!((tallies, answer), ([7; CALLERS], [0xAA; 8_191]));
 }
 
 #[test]
 fn the_tally_never_wraps() {
     let most = 1_000_000_000_000;
-    let refusal = |limit, tally| verdict_refusal(&e6(), limit, 0, &[tally; CALLERS], 4_096);
+    let refusal = |limit, tally| verdict_refusal(&e6(), limit, 0, &[tally; CALLERS], 8_192);
     assert_eq!(refusal(1, most - 1), 0);
     assert_eq!(refusal(1, most), 9);
     assert_eq!(refusal(2, u64::MAX), 9);
@@ -283,5 +286,5 @@ fn question_12_comes_before_question_11() {
     assert_eq!(result_refusal(&e6(), 1, &found, &[1]), 11);
     assert_eq!(result_refusal(&e6(), 1, &found, &list(&[2])), 11);
     assert_eq!(result_refusal(&e6(), 1, &found, &list(&[1])), 0);
-    assert_eq!(nodes_refusal(&e6(), 1, &found, 2, 4_096), 12);
+    assert_eq!(nodes_refusal(&e6(), 1, &found, 2, 8_192), 12);
 }

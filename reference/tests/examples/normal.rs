@@ -1,19 +1,21 @@
 //! Request #106: one way of writing a case, and each reading of the request that
 //! an answer can tell.
 
-use super::notation::{case, list, rows, section, set_case, volume};
+use super::notation::{
+    bytes, case, list, rows, section, set_case, volume, Row, OUTLINE, SELECTION,
+};
 use super::LIMIT;
 use reference::*;
 
 /// What is written to the front of a buffer: as many bytes as the case has, and
 /// the same again where it is written twice. The rest of the buffer is as it was.
 fn normal(case: &[u8]) -> Vec<u8> {
-    let mut answer = [0xAA; 4_096];
+    let mut answer = [0xAA; 8_192];
     let got = normalise(case, &mut answer);
     assert_eq!((got.refused, got.count), (0, case.len() as u64));
     let (written, rest) = answer.split_at(case.len());
     assert!(rest.iter().all(|&byte| byte == 0xAA));
-    let mut again = [0x55; 4_096];
+    let mut again = [0x55; 8_192];
     assert_eq!(normalise(written, &mut again), got);
     assert_eq!(&again[..case.len()], written);
     written.to_vec()
@@ -21,13 +23,15 @@ fn normal(case: &[u8]) -> Vec<u8> {
 
 /// The refusal, with nothing altered and the count 0.
 fn refused(case: &[u8]) -> u64 {
-    let mut answer = [0xAA; 4_096];
+    let mut answer = [0xAA; 8_192];
     let got = normalise(case, &mut answer);
-    assert_eq!((got.count, answer), (0, [0xAA; 4_096]));
+    assert_eq!((got.count, answer), (0, [0xAA; 8_192]));
     got.refused
 }
 
-type Row = [u16; 4];
+fn with_parent(parent: usize, [label, flag, position, figure]: [u16; 4]) -> Row {
+    [parent as u16, label, flag, position, figure]
+}
 
 /// Every renumbering of a table in which parents come before their children.
 fn shuffles(rows: &[Row]) -> Vec<Vec<Row>> {
@@ -41,8 +45,8 @@ fn extend(rows: &[Row], chosen: &mut Vec<usize>, found: &mut Vec<Vec<Row>>) {
     let new = |old: u16| chosen.iter().position(|&q| q == usize::from(old));
     if chosen.len() == rows.len() {
         let row = |&q: &usize| {
-            let [parent, label, flag, position] = rows[q];
-            [new(parent).unwrap_or(0) as u16, label, flag, position]
+            let [parent, own @ ..] = rows[q];
+            with_parent(new(parent).unwrap_or(0), own)
         };
         return found.push(chosen.iter().map(row).collect());
     }
@@ -56,19 +60,11 @@ fn extend(rows: &[Row], chosen: &mut Vec<usize>, found: &mut Vec<Vec<Row>>) {
     }
 }
 
-fn bytes(rows: &[Row], fields: usize) -> Vec<u8> {
-    let mut out = list(&[rows.len() as u16]);
-    for row in rows {
-        out.extend(list(&row[..fields]));
-    }
-    out
-}
-
 /// A case over the outline r, with all three selections the same.
 fn of_selection(rows: &[Row]) -> Vec<u8> {
-    let section = bytes(rows, 4);
+    let section = bytes(rows, SELECTION);
     [
-        &bytes(&[[0, 1, 0, 0]], 3),
+        &bytes(&[[0, 1, 0, 0, 0]], OUTLINE),
         &section,
         &list(&[2])[..],
         &section,
@@ -89,7 +85,8 @@ fn selection_goes(from: &str, to: &str) {
 
 /// The same of outlines.
 fn outline_goes(from: &str, to: &str) {
-    let of_outline = |rows: &[Row]| [bytes(rows, 3), case("r", "r^", "r^")[8..].to_vec()].concat();
+    let of_outline =
+        |rows: &[Row]| [bytes(rows, OUTLINE), case("r", "r^", "r^")[8..].to_vec()].concat();
     let all = shuffles(&rows(from));
     assert!(all.contains(&rows(to)), "{to} is another outline");
     for shuffled in all {
@@ -120,7 +117,7 @@ fn a_prefix_comes_first() {
 }
 
 #[test]
-fn label_then_edge_then_position() {
+fn label_then_edge_then_position_then_figure() {
     selection_goes("r^(a,0)", "r^(0,a)");
     selection_goes("r^(c,b,a,r,0)", "r^(0,r,a,b,c)");
     selection_goes("r^(//a,a)", "r^(a,//a)");
@@ -129,6 +126,16 @@ fn label_then_edge_then_position() {
     selection_goes("r(a^3,a^,a^2)", "r(a^,a^2,a^3)");
     selection_goes("r(//a,a^)", "r(a^,//a)");
     selection_goes("r(b,a^)", "r(a^,b)");
+    // The figure comes last, by number.
+    selection_goes("r^(a@2,a@1,a)", "r^(a,a@1,a@2)");
+    selection_goes("r^(a@256,a@255,a@2000)", "r^(a@255,a@256,a@2000)");
+    selection_goes("r(a^,a@9)", "r(a@9,a^)");
+    selection_goes("r^(//a,a@9)", "r^(a@9,//a)");
+    selection_goes("r^(b,a@9)", "r^(a@9,b)");
+    // Before what stands below, and not before what stands above.
+    selection_goes("r^(a@1(0),a(c))", "r^(a(c),a@1(0))");
+    selection_goes("r^(a(b,c),a(b@1))", "r^(a(b,c),a(b@1))");
+    selection_goes("r^(a(b@2,b@1),a(b@1,b))", "r^(a(b,b@1),a(b@1,b@2))");
     // The sibling's own entry goes before all that is below it.
     selection_goes("r(a^(0),a(c))", "r(a(c),a^(0))");
     selection_goes("r^(//a(0),a(c))", "r^(a(c),//a(0))");
@@ -138,8 +145,8 @@ fn label_then_edge_then_position() {
 fn labels_go_by_number() {
     // Of 255 and 256 the bytes would go the other way.
     let labelled = |labels: [u16; 5]| {
-        let mut rows = vec![[0, 1, 0, 1]];
-        rows.extend(labels.map(|label| [0, label, 1, 0]));
+        let mut rows = vec![[0, 1, 0, 1, 0]];
+        rows.extend(labels.map(|label| [0, label, 1, 0, 0]));
         of_selection(&rows)
     };
     let wanted = labelled([0, 2, 255, 256, 65_535]);
@@ -213,21 +220,22 @@ fn what_means_the_same_is_not_written_alike() {
 /// A section of 64 outline records, or of 16 selection records with position 1 at
 /// the root.
 fn large(parent: impl Fn(u16) -> u16, label: impl Fn(u16) -> u16) -> Vec<u8> {
-    let tree = |size: u16, fields: usize, position| {
+    let tree = |size: u16, fields: &[usize], position| {
         let row = |t: u16| {
             [
                 parent(t),
                 label(t),
                 u16::from(t > 0),
                 u16::from(t == 0) * position,
+                0,
             ]
         };
         bytes(&(0..size).map(row).collect::<Vec<Row>>(), fields)
     };
-    let selection = tree(16, 4, 1);
-    let mut case = [tree(64, 3, 0), selection.clone(), list(&[8])].concat();
+    let selection = tree(16, SELECTION, 1);
+    let mut case = [tree(64, OUTLINE, 0), selection.clone(), list(&[8])].concat();
     case.extend(selection.repeat(8));
-    assert_eq!(case.len(), 1_558);
+    assert_eq!(case.len(), 1_846);
     case
 }
 
@@ -239,11 +247,11 @@ fn chains_and_stars_of_the_most_nodes() {
     assert_eq!(normal(&star), star);
     // Sixteen of its 64 are the selection's, so both go by their own numbers.
     let turned = large(|_| 0, |t| if t == 0 { 1 } else { 100 - t });
-    let mut rows = vec![[0, 1, 0, 0]];
-    rows.extend((37..100).map(|label| [0, label, 1, 0]));
-    let mut selection = vec![[0, 1, 0, 1]];
-    selection.extend((85..100).map(|label| [0, label, 1, 0]));
-    let wanted = [bytes(&rows, 3), bytes(&selection, 4)].concat();
+    let mut rows = vec![[0, 1, 0, 0, 0]];
+    rows.extend((37..100).map(|label| [0, label, 1, 0, 0]));
+    let mut selection = vec![[0, 1, 0, 1, 0]];
+    selection.extend((85..100).map(|label| [0, label, 1, 0, 0]));
+    let wanted = [bytes(&rows, OUTLINE), bytes(&selection, SELECTION)].concat();
     assert_eq!(normal(&turned)[..wanted.len()], wanted);
 }
 
@@ -275,9 +283,8 @@ fn renumbered(one: &[Row], other: &[Row]) -> bool {
     fn try_all(one: &[Row], other: &[Row], new: &mut Vec<usize>) -> bool {
         if new.len() == one.len() {
             return one.iter().zip(&*new).all(|(row, &at)| {
-                let [parent, label, flag, position] = *row;
-                let parent = new[usize::from(parent)] as u16;
-                other[at] == [parent, label, flag, position]
+                let [parent, own @ ..] = *row;
+                other[at] == with_parent(new[usize::from(parent)], own)
             });
         }
         (1..one.len()).any(|at| {
@@ -295,13 +302,13 @@ fn renumbered(one: &[Row], other: &[Row]) -> bool {
 
 /// All tables of so many nodes, with two labels and position 1 at one of them.
 fn tables(size: usize, holders: usize) -> Vec<Vec<Row>> {
-    let mut all = vec![vec![[0, 1, 0, 0]]];
+    let mut all = vec![vec![[0, 1, 0, 0, 0]]];
     for number in 1..size as u16 {
         let more = |rows: &Vec<Row>| {
             let mut longer = Vec::new();
             for code in 0..4 * number {
                 let mut rows = rows.clone();
-                rows.push([code / 4, code % 2, code / 2 % 2, 0]);
+                rows.push([code / 4, code % 2, code / 2 % 2, 0, 0]);
                 longer.push(rows);
             }
             longer
@@ -340,7 +347,7 @@ fn only_the_kind_of_the_verdict_stays() {
     // Three trials pass and one does not: its rank is another one.
     let before = case("r(c,b,a)", "r(0^)", "r(//c^)");
     let judged = |case: &[u8]| {
-        let got = verdict(case, LIMIT, 0, &mut [0; CALLERS], &mut [0; 4_096]);
+        let got = verdict(case, LIMIT, 0, &mut [0; CALLERS], &mut [0; 8_192]);
         (got.kind, got.tried)
     };
     assert_eq!(judged(&before), (calls::NOT_INCLUDED, 2));
@@ -350,10 +357,10 @@ fn only_the_kind_of_the_verdict_stays() {
 }
 
 #[test]
-fn the_questions_are_2_to_8_with_14() {
+fn the_questions_are_2_to_8_with_14_and_17() {
     let good = case("r(b,a)", "r^", "r^");
-    for length in [0, 1, 4_095, 4_096, 4_097, 8_192] {
-        let wanted = if length < 4_096 { 2 } else { 0 };
+    for length in [0, 1, 4_096, 8_191, 8_192, 8_193] {
+        let wanted = if length < 8_192 { 2 } else { 0 };
         assert_eq!(normalise_refusal(&good, length), wanted);
         let mut answer = vec![0xAA; length];
         let got = normalise(&good, &mut answer);
@@ -361,7 +368,7 @@ fn the_questions_are_2_to_8_with_14() {
         assert_eq!((got.refused, got.count), (wanted, count as u64));
         assert!(answer[count..].iter().all(|&byte| byte == 0xAA));
     }
-    assert_eq!(normalise_refusal(&[], 4_095), 2);
+    assert_eq!(normalise_refusal(&[], 8_191), 2);
     assert_eq!(refused(&[]), 3);
     assert_eq!(refused(&[&good[..], &[0]].concat()), 3);
     assert_eq!(refused(&volume("r")), 3);
@@ -371,6 +378,7 @@ fn the_questions_are_2_to_8_with_14() {
     assert_eq!(refused(&case("0(a,a)", "r^9", "r")), 5);
     assert_eq!(refused(&case("r(a,a)", "r^9", "r")), 6);
     assert_eq!(refused(&case("r(a)", "r", "r^9")), 7);
+    assert_eq!(refused(&case("r(a)", "r", "r^@2001")), 17);
     assert_eq!(refused(&case("r(a)", "r^", "r")), 8);
     assert_eq!(refused(&section("r^")), 3);
 }

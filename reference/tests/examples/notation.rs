@@ -1,11 +1,20 @@
 //! Document 01's notation for outlines, selections and volumes: r, a, b, c are
 //! labels 1 to 4 and 0 any label; `^` marks position 1 and `^2` position 2;
-//! `//` is a descendant edge. `!` before a node marks a strong edge. Numbers
-//! follow the writing.
+//! `//` is a descendant edge. `!` before a node marks a strong edge, and `@5` after it
+//! the figure 5, which is else 0. Numbers follow the writing.
+
+/// Parent, label, strong or edge, position and figure.
+pub type Row = [u16; 5];
+
+/// The fields of a record.
+pub const OUTLINE: &[usize] = &[0, 1, 2];
+pub const SELECTION: &[usize] = &[0, 1, 2, 3, 4];
+const OLD_SELECTION: &[usize] = &[0, 1, 2, 3];
+const VOLUME: &[usize] = &[0, 1, 4];
 
 struct Reader<'a> {
     text: &'a [u8],
-    rows: Vec<[u16; 4]>,
+    rows: Vec<Row>,
 }
 
 impl Reader<'_> {
@@ -19,6 +28,13 @@ impl Reader<'_> {
         }
     }
 
+    fn number(&mut self) -> Option<u16> {
+        let digits = self.text.iter().take_while(|byte| byte.is_ascii_digit());
+        let (digits, rest) = self.text.split_at(digits.count());
+        self.text = rest;
+        str::from_utf8(digits).ok()?.parse().ok()
+    }
+
     fn node(&mut self, parent: u16, flag: u16) {
         let label = match self.text[0] {
             b'r' => 1,
@@ -29,16 +45,15 @@ impl Reader<'_> {
             other => panic!("no label: {other}"),
         };
         self.text = &self.text[1..];
-        let mut position = 0;
-        if self.take("^") {
-            position = 1;
-            if let Some(digit) = self.text.first().filter(|byte| byte.is_ascii_digit()) {
-                position = u16::from(digit - b'0');
-                self.text = &self.text[1..];
-            }
-        }
+        let position = if self.take("^") {
+            self.number().unwrap_or(1)
+        } else {
+            0
+        };
+        let figure = if self.take("@") { self.number() } else { None };
         let own = self.rows.len() as u16;
-        self.rows.push([parent, label, flag, position]);
+        self.rows
+            .push([parent, label, flag, position, figure.unwrap_or(0)]);
         if self.take("//") {
             self.node(own, 1);
         } else if self.take("(") {
@@ -54,8 +69,7 @@ impl Reader<'_> {
     }
 }
 
-/// Parent, label, strong or edge, and position of each node.
-pub fn rows(text: &str) -> Vec<[u16; 4]> {
+pub fn rows(text: &str) -> Vec<Row> {
     let mut reader = Reader {
         text: text.as_bytes(),
         rows: Vec::new(),
@@ -69,13 +83,15 @@ fn put(out: &mut Vec<u8>, fields: &[u16]) {
     out.extend(fields.iter().flat_map(|field| field.to_le_bytes()));
 }
 
-/// A count and as many records, of each the first so many fields.
-fn put_section(out: &mut Vec<u8>, text: &str, fields: usize) {
-    let rows = rows(text);
-    put(out, &[rows.len() as u16]);
+/// A count and as many records, of each these fields.
+pub fn bytes(rows: &[Row], fields: &[usize]) -> Vec<u8> {
+    let mut out = Vec::new();
+    put(&mut out, &[rows.len() as u16]);
     for row in rows {
-        put(out, &row[..fields]);
+        let record: Vec<u16> = fields.iter().map(|&field| row[field]).collect();
+        put(&mut out, &record);
     }
+    out
 }
 
 /// A case with a set of one.
@@ -84,36 +100,31 @@ pub fn case(outline: &str, first: &str, member: &str) -> Vec<u8> {
 }
 
 pub fn set_case(outline: &str, first: &str, set: &[&str]) -> Vec<u8> {
-    let mut out = Vec::new();
-    put_section(&mut out, outline, 3);
-    put_section(&mut out, first, 4);
+    let mut out = bytes(&rows(outline), OUTLINE);
+    out.extend(section(first));
     put(&mut out, &[set.len() as u16]);
     for member in set {
-        put_section(&mut out, member, 4);
+        out.extend(section(member));
     }
     out
 }
 
 /// The same in the old form: the second selection follows the first.
 pub fn old_case(outline: &str, first: &str, second: &str) -> Vec<u8> {
-    let mut out = Vec::new();
-    put_section(&mut out, outline, 3);
-    put_section(&mut out, first, 4);
-    put_section(&mut out, second, 4);
+    let mut out = bytes(&rows(outline), OUTLINE);
+    for selection in [first, second] {
+        out.extend(bytes(&rows(selection), OLD_SELECTION));
+    }
     out
 }
 
 /// A selection's section by itself.
 pub fn section(text: &str) -> Vec<u8> {
-    let mut out = Vec::new();
-    put_section(&mut out, text, 4);
-    out
+    bytes(&rows(text), SELECTION)
 }
 
 pub fn volume(text: &str) -> Vec<u8> {
-    let mut out = Vec::new();
-    put_section(&mut out, text, 2);
-    out
+    bytes(&rows(text), VOLUME)
 }
 
 pub fn list(fields: &[u16]) -> Vec<u8> {

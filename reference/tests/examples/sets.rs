@@ -1,27 +1,27 @@
 //! Request #101: a case's second selection is a set, and each reading of the
 //! request that an answer can tell.
 
-use super::notation::{case, list, set_case, volume};
+use super::notation::{case, list, old_case, set_case, volume};
 use super::{judged, shown, LIMIT};
 use reference::calls::{INCLUDED, NOT_INCLUDED, STOPPED};
 use reference::*;
 
 /// The verdict's refusal with nothing else to refuse.
 fn refused(case: &[u8]) -> u64 {
-    verdict_refusal(case, LIMIT, 0, &[0; CALLERS], 4_096)
+    verdict_refusal(case, LIMIT, 0, &[0; CALLERS], 8_192)
 }
 
 /// A case of r alone, with a set announced so and these sections after it.
 fn announced(count: u16, sections: &[&[u16]]) -> Vec<u8> {
     let mut bytes = case("r", "r^", "r^");
-    bytes.truncate(2 + 6 + 2 + 8);
+    bytes.truncate(2 + 6 + 2 + 10);
     bytes.extend(list(&[count]));
     bytes.extend(list(&sections.concat()));
     bytes
 }
 
 /// A selection's section, whole and right; and one of no nodes.
-const GOOD: &[u16] = &[1, 0, 1, 0, 1];
+const GOOD: &[u16] = &[1, 0, 1, 0, 1, 0];
 const EMPTY: &[u16] = &[0];
 
 #[test]
@@ -40,7 +40,7 @@ fn as_many_sections_are_read_as_announced() {
 
 #[test]
 fn some_32000_empty_sections_are_whole() {
-    let mut long = announced(32_758, &vec![EMPTY; 32_758]);
+    let mut long = announced(32_757, &vec![EMPTY; 32_757]);
     assert_eq!((long.len(), refused(&long)), (65_536, 4));
     long.pop();
     assert_eq!(refused(&long), 3);
@@ -51,7 +51,7 @@ fn the_counts_of_all_sections_come_before_the_sets() {
     assert_eq!(refused(&announced(9, &[GOOD; 9])), 14);
     let empty_ninth = [&[GOOD; 8][..], &[EMPTY]].concat();
     assert_eq!(refused(&announced(9, &empty_ninth)), 4);
-    let seventeen = [&[17][..], &[0, 1, 0, 1], &[0; 64]].concat();
+    let seventeen = [&[17][..], &[0, 1, 0, 1, 0], &[0; 80]].concat();
     assert_eq!(
         refused(&announced(9, &[&[GOOD; 8][..], &[&seventeen]].concat())),
         4
@@ -71,11 +71,11 @@ fn a_set_of_none_is_whole() {
 #[test]
 fn the_sets_count_comes_before_every_record() {
     // A label 0 in the outline, then a position 9 in the ninth member.
-    let mut broken = announced(9, &[&[GOOD; 8][..], &[&[1, 0, 1, 0, 9]]].concat());
+    let mut broken = announced(9, &[&[GOOD; 8][..], &[&[1, 0, 1, 0, 9, 0]]].concat());
     assert_eq!(refused(&broken), 14);
     broken[4] = 0;
     assert_eq!(refused(&broken), 14);
-    let mut broken = announced(2, &[GOOD, &[1, 0, 1, 0, 9]]);
+    let mut broken = announced(2, &[GOOD, &[1, 0, 1, 0, 9, 0]]);
     assert_eq!(refused(&broken), 7);
     broken[4] = 0;
     assert_eq!(refused(&broken), 5);
@@ -107,7 +107,7 @@ fn selections_are_numbered_from_the_first_on() {
     for (number, answer) in [(9, 0), (10, 12)] {
         assert_eq!(paths_refusal(&eight, number), answer);
         assert_eq!(result_refusal(&eight, number, &found, &list(&[1])), answer);
-        assert_eq!(nodes_refusal(&eight, number, &found, 1, 4_096), answer);
+        assert_eq!(nodes_refusal(&eight, number, &found, 1, 8_192), answer);
         assert_eq!(
             layout_refusal(&eight, number, &list(&[0, 1]), 1_024),
             answer
@@ -128,7 +128,7 @@ fn each_call_is_about_the_member_that_it_names() {
         [1, 2, 3, 4].map(|node| holds(3, node)),
         [false, false, true, false]
     );
-    let count = |number| nodes_at(&three, number, &found, 1, &mut [0; 4_096]).count;
+    let count = |number| nodes_at(&three, number, &found, 1, &mut [0; 8_192]).count;
     assert_eq!([1, 2, 3].map(count), [4, 2, 1]);
     let placed = |number, place| layout_refusal(&three, number, &list(&[0, place]), 1_024);
     assert_eq!([1, 2, 3].map(|place| placed(3, place)), [13, 13, 0]);
@@ -200,18 +200,19 @@ fn order_and_repetition_change_nothing() {
 
 #[test]
 fn an_old_case_is_read_as_a_new_one() {
-    let mut old = case("r(a(b))", "r//0^", "r(0^)");
-    assert_eq!(old.len(), 58);
-    old.drain(38..40);
+    let old = old_case("r(a(b))", "r//0^", "r(0^)");
+    assert_eq!(old.len(), 56);
     let found = volume("r");
     assert_eq!(refused(&old), 3);
     assert_eq!(fits_refusal(&old, &found), 3);
     assert_eq!(result_refusal(&old, 1, &found, &list(&[0])), 3);
-    assert_eq!(nodes_refusal(&old, 1, &found, 1, 4_096), 3);
+    assert_eq!(nodes_refusal(&old, 1, &found, 1, 8_192), 3);
     assert_eq!(paths_refusal(&old, 1), 3);
     assert_eq!(layout_refusal(&old, 1, &list(&[0, 1]), 1_024), 3);
-    // A root's parent 0 makes the first member empty, so none is accepted.
-    let mut whole = set_case("r", "r^", &["b^(r,r,r)"]);
-    whole.drain(18..20);
+    // Whole, by chance: members of 0, 1, 0, 0 and 0 records.
+    let outline_and_first = [1, 0, 5, 0, 2, 0, 5, 0, 1, 0, 1, 0, 0];
+    let second = [3, 0, 5, 0, 1, 0, 1, 0, 0, 0, 0, 0, 0];
+    let whole = list(&[outline_and_first, second].concat());
+    assert_eq!(upgrade_refusal(&whole, 8_192), 0);
     assert_eq!(refused(&whole), 4);
 }

@@ -9,12 +9,12 @@ use reference::*;
 /// What is left, what was struck in striking order, and tried; the rest of the
 /// buffer and the other tallies are as they were.
 fn shortened(case: &[u8], limit: u64) -> (Vec<u8>, Vec<u16>, u64) {
-    let (mut tallies, mut answer) = ([5; CALLERS], [0xAA; 4_096]);
+    let (mut tallies, mut answer) = ([5; CALLERS], [0xAA; 8_192]);
     let got = minimise(case, limit, 3, &mut tallies, &mut answer);
     assert_eq!(got.refused, 0);
     assert_eq!(tallies, [5, 5, 5, 5 + got.tried, 5, 5, 5, 5]);
     let field = |at: usize| u16::from_le_bytes([answer[at], answer[at + 1]]);
-    let end = 2 + 8 * usize::from(field(0));
+    let end = 2 + 10 * usize::from(field(0));
     let struck: Vec<u16> = (0..field(end))
         .map(|index| field(end + 2 + 2 * usize::from(index)))
         .collect();
@@ -138,7 +138,7 @@ fn the_set_is_asked_about_and_not_used() {
     for members in [&["r^"][..], &["b^", "0^(c,c,c)"], &["r^(a(b),c)"; 8]] {
         assert_eq!(shortened(&set_case(outline, first, members), LIMIT), wanted);
     }
-    let refused = |case: &[u8]| minimise_refusal(case, 1, 0, &[0; CALLERS], 4_096);
+    let refused = |case: &[u8]| minimise_refusal(case, 1, 0, &[0; CALLERS], 8_192);
     assert_eq!(refused(&set_case(outline, first, &[])), 14);
     assert_eq!(refused(&set_case(outline, first, &["r^"; 9])), 14);
     assert_eq!(refused(&set_case(outline, first, &["r^", "r"])), 8);
@@ -160,7 +160,7 @@ fn question_9_asks_room_for_120_verdicts() {
         ] {
             let mut tallies = [u64::MAX; CALLERS];
             tallies[6] = tally;
-            let (mut after, mut answer) = (tallies, [0xAA; 4_096]);
+            let (mut after, mut answer) = (tallies, [0xAA; 8_192]);
             let got = minimise(&order, limit, 6, &mut after, &mut answer);
             assert_eq!(got.refused, refused);
             if refused == 0 {
@@ -168,7 +168,7 @@ fn question_9_asks_room_for_120_verdicts() {
                 assert_eq!((got.struck, got.tried), (1, 1));
             } else {
                 assert_eq!((got.struck, got.tried), (0, 0));
-                assert_eq!(answer, [0xAA; 4_096]);
+                assert_eq!(answer, [0xAA; 8_192]);
             }
             assert_eq!(after, tallies);
         }
@@ -180,21 +180,21 @@ fn the_other_questions_are_the_verdicts() {
     let order = case("r(!a)", "r^(a)", "r^");
     let full = [u64::MAX; CALLERS];
     let refusal = |limit, caller, length| minimise_refusal(&order, limit, caller, &full, length);
-    assert_eq!(refusal(0, 8, 4_095), 1);
-    assert_eq!(refusal(LIMIT + 1, 8, 4_095), 1);
-    assert_eq!(refusal(1, 8, 4_095), 2);
-    assert_eq!(refusal(1, 8, 4_096), 16);
-    assert_eq!(refusal(1, 7, 4_096), 9);
+    assert_eq!(refusal(0, 8, 8_191), 1);
+    assert_eq!(refusal(LIMIT + 1, 8, 8_191), 1);
+    assert_eq!(refusal(1, 8, 8_191), 2);
+    assert_eq!(refusal(1, 8, 8_192), 16);
+    assert_eq!(refusal(1, 7, 8_192), 9);
     let unheld = case("r(!a)", "r(a)", "r");
-    assert_eq!(minimise_refusal(&unheld, 1, 8, &full, 4_096), 8);
+    assert_eq!(minimise_refusal(&unheld, 1, 8, &full, 8_192), 8);
 }
 
 #[test]
 fn an_order_as_a_client_writes_it() {
     // The set's bytes are no part of what is written, nor is any trial.
     let bytes = case("r(!a(!b),c)", "r^(a(b),c)", "r^");
-    let mut answer = [0xAA; 4_096];
+    let mut answer = [0xAA; 8_192];
     minimise(&bytes, LIMIT, 0, &mut [0; CALLERS], &mut answer);
-    let wanted = [2, 0, 1, 0, 1, 0, 4, 0, 0, 2, 2, 1];
-    assert_eq!(answer[..24], list(&wanted));
+    let wanted = [2, 0, 1, 0, 1, 0, 0, 4, 0, 0, 0, 2, 2, 1];
+    assert_eq!(answer[..28], list(&wanted));
 }

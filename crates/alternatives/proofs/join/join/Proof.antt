@@ -6,18 +6,17 @@ use native.Mathlib.Omega.{arith}
 use lib.ListN.{length}
 use lib.Seq.{length-take-le}
 use borrow.Author.Needs.{needs}
-use Rattle.format.specs.Given.{patternAt}
 use Rattle.alternatives.specs.Alternatives.{Met}
 use Rattle.alternatives.proofs.JoinLaws.{Growing, growing-start, growing-step, growing-end, WithList, Copy, copied-copy, among-copy}
 use Rattle.alternatives.proofs.join.join.Statement.{statement}
 use Rattle.alternatives.proofs.join.join.Tie as tie
 
 abbrev Inv-loop : tie.InvT-loop
-Inv-loop t p at top list₀ count others old n r₀ i₀ list r i =
-    Growing (length t) (WithList (length t) list₀ count) (Met t (patternAt p at) top) others list₀ 0 list r i × Copy count list₀ old
+Inv-loop t top list₀ count others old n r₀ i₀ list r i =
+    Growing (length t) (WithList (length t) list₀ count) (Met t top) others list₀ 0 list r i × Copy count list₀ old
 
 abbrev μ-loop : tie.MeasureT-loop
-μ-loop t p at top list₀ count others old n r₀ i₀ list r i = n - i
+μ-loop t top list₀ count others old n r₀ i₀ list r i = n - i
 
 copy-sets-requires : tie.Need-copy-sets-requires Inv-loop μ-loop
 copy-sets-requires c κs = search needs
@@ -32,7 +31,7 @@ slice-aggregate-join-one : tie.Need-slice-aggregate-join-one Inv-loop μ-loop
 slice-aggregate-join-one c = sym (length-take-le _ _ (c .before .before .before .loop .inv .1 .room))
 
 join-one-requires : tie.Need-join-one-requires Inv-loop μ-loop
-join-one-requires c κs = (c .before .before .before .before .before .before .before .before .before .before .before .pre .0, c .before .before .before .before .loop .inv .0 .grown .few)
+join-one-requires c κs = (c .before .before .before .before .before .before .before .before .before .before .pre .0, c .before .before .before .before .loop .inv .0 .grown .few)
 
 loop-again : tie.Need-loop-again Inv-loop μ-loop
 loop-again c =

@@ -3,7 +3,6 @@
 use Prim.Native.Nat.{_-_}
 use lib.ListN.{length}
 use borrow.Author.Needs.{needs}
-use Rattle.format.specs.Given.{patternAt}
 use Rattle.cover.proofs.CoverLaws.{either-covers}
 use Rattle.alternatives.specs.Alternatives.{Met}
 use Rattle.alternatives.proofs.JoinLaws.{Growing, growing-start, growing-step, growing-end, With}
@@ -11,16 +10,16 @@ use Rattle.alternatives.proofs.join.join_one.Statement.{statement}
 use Rattle.alternatives.proofs.join.join_one.Tie as tie
 
 abbrev Inv-loop : tie.InvT-loop
-Inv-loop t p at top list₀ count sets a n r₀ i₀ list r i = Growing (length t) (With (length t) a) (Met t (patternAt p at) top) sets list₀ count list r i
+Inv-loop t top list₀ count sets a n r₀ i₀ list r i = Growing (length t) (With (length t) a) (Met t top) sets list₀ count list r i
 
 abbrev μ-loop : tie.MeasureT-loop
-μ-loop t p at top list₀ count sets a n r₀ i₀ list r i = n - i
+μ-loop t top list₀ count sets a n r₀ i₀ list r i = n - i
 
 loop-holds : tie.Need-loop-holds Inv-loop μ-loop
-loop-holds c = growing-start (c .before .pre .1)
+loop-holds c = growing-start (c .pre .1)
 
 keep-requires : tie.Need-keep-requires Inv-loop μ-loop
-keep-requires c κs = (c .before .before .before .before .before .before .pre .0, c .before .before .before .before .loop .inv .grown .few)
+keep-requires c κs = (c .before .before .before .before .before .pre .0, c .before .before .before .before .loop .inv .grown .few)
 
 loop-again : tie.Need-loop-again Inv-loop μ-loop
 loop-again c =

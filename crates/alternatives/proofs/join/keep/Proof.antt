@@ -9,8 +9,8 @@ use Rattle.alternatives.proofs.join.keep.Tie as tie
 
 returns : tie.Need-returns
 returns c =
-    let s = c .before .before .before .before .before in
-    (record { few = s .pre .1; more = λ f u. u }, λ f i. inr (c .before .before .before .if1 .taken, (s .args .t7, i, sym (c .before .met-by-some .ensures) ∙ c .if2 .taken)))
+    let s = c .before .before .before .before in
+    (record { few = s .pre .1; more = λ f u. u }, λ f i. inr (c .before .before .before .if1 .taken, (s .args .t5, i, sym (c .before .met-by-some .ensures) ∙ c .if2 .taken)))
 
 returns-2 : tie.Need-returns-2
 returns-2 c = let a = c .add .ensures in (added-grown a, λ f i. inl (a .1 _ f (inr i)))

@@ -37,7 +37,7 @@ join-open-requires c κs =
     let l : j .result .0 < c .before .before .before .before .before .before .before .before .before .before .before .before .before .before .before .before .args .c .0 = parent-lt (s .0 .0 .stands .stands .pattern) z h (j .ensures) in
     let n : c .before .before .before .before .before .before .before .before .before .before .before .before .before .before .before .before .args .c .0 < 16 = omega (arith, h, s .0 .0 .made .small) in
     let x = placed (c .before .before) in
-    ((s .0 .0 .stands .base, s .0 .0 .table .room (c .before .before .before .before .before .before .before .before .before .before .before .before .before .before .before .before .args .c .0) (c .before .before .image-of .result .0) n x, n, x, l), (s .1 .0, s .1 .1, s .1 .2 .few (j .result .0) (omega (arith, l, h))))
+    ((s .0 .0 .stands .base .few, s .0 .0 .table .room (c .before .before .before .before .before .before .before .before .before .before .before .before .before .before .before .before .args .c .0) (c .before .before .image-of .result .0) n x, n, x, l), (s .1 .0, s .1 .1, s .1 .2 .few (j .result .0) (omega (arith, l, h))))
 
 returns-4 : tie.Need-returns-4
 returns-4 c =

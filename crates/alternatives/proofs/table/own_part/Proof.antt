@@ -1,32 +1,31 @@
 -- `alternatives::table::own_part` meets its contract: it is added, or the node has no path there. Assumes nothing.
-use Prim.Native.Nat.{ℕ, _<_}
-use mathlib.Core.Path.{sym, ap, _∙_, subst}
+use Prim.Native.Nat.{ℕ}
+use mathlib.Core.Path.{sym, ap, _∙_}
 use native.Mathlib.Omega.{arith}
 use borrow.Author.Needs.{needs}
 use Rattle.model.specs.Lists.{has}
-use Rattle.alternatives.proofs.FillLaws.{own-covered, own-none, grown-none, raises-at}
+use Rattle.alternatives.proofs.FillLaws.{own-covered, own-none, grown-none}
 use Rattle.alternatives.proofs.table.own_part.Statement.{statement}
 use Rattle.alternatives.proofs.table.own_part.Tie as tie
 
 add-bare-requires : tie.Need-add-bare-requires
 add-bare-requires c κs =
-    let s = c .before .before .before .before .before .before .before .before .before in
-    let p = s .pre in
-    (p .0 .base .few, p .0 .narrow, subst (λ (k : ℕ). k < 16) (sym (c .before .pattern-position .ensures .0)) (omega (arith, p .0 .made .range (s .args .c .0) (p .0 .inside))), p .1)
+    let p = c .before .before .before .before .before .before .before .before .pre in
+    (p .0 .base .few, p .0 .narrow, omega (arith, p .0 .inside, p .0 .pattern .few), p .1)
 
 returns : tie.Need-returns
 returns c =
-    let s = c .before .before .before .before .before .before .before .before .before .before in
+    let s = c .before .before .before .before .before .before .before .before .before in
     let p = s .pre in
     let a = c .add-bare .ensures in
-    (a .0, own-covered (p .0 .table) (s .args .c .0) (s .args .y .0) (p .0 .some) (p .0 .inside) (p .0 .narrow) (λ g f R e. a .1 g f (raises-at (s .args .t .now) (s .args .y .0) (c .before .before .pattern-position .ensures .0) R)))
+    (a .0, own-covered (p .0 .table) (s .args .c .0) (s .args .y .0) (p .0 .some) (p .0 .inside) (p .0 .narrow) (λ g f R e. a .1 g f R))
 
 add-own-requires : tie.Need-add-own-requires
 add-own-requires c κs =
     let s = c .before .before .before .before .before .before .before .before in
     let p = s .pre in (
-      (p .0 .base, p .0 .pattern),
-      ((λ d h. p .0 .table .room d (s .args .y .0) h (p .0 .narrow), p .0 .inside, omega (arith, p .0 .made .range (s .args .c .0) (p .0 .inside))), (p .0 .narrow, p .1)),
+      (p .0 .base .few, p .0 .pattern),
+      ((λ d h. p .0 .table .room d (s .args .y .0) h (p .0 .narrow), p .0 .inside), (p .0 .narrow, p .1)),
     )
 
 returns-2 : tie.Need-returns-2
@@ -44,4 +43,4 @@ returns-3 c =
 
 pub own-part-spec : {M : Type 1} → statement M
 own-part-spec =
-    tie.close (tie.spec (λ c κs. search needs) (λ c κs. search needs) (λ c κs. search needs) (λ c κs. search needs) (λ c κs. search needs) add-bare-requires returns add-own-requires returns-2 returns-3)
+    tie.close (tie.spec (λ c κs. search needs) (λ c κs. search needs) (λ c κs. search needs) (λ c κs. search needs) add-bare-requires returns add-own-requires returns-2 returns-3)
