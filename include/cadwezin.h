@@ -4,23 +4,30 @@
  *
  * Bytes. Every field is 16 bits, low byte first. A section is a count and as many records. A case is the section of the summary
  * (document 01: outline), records (parent, label, strong 0 or 1); the section of the first pattern (document 01: selection), records
- * (parent, label or 0 for any, edge 0 child or 1 descendant, position or 0); and the set: a count of patterns, its members, and as many
- * sections like the first pattern's. A document (document 01: volume) is one section, records (parent, label). A list is bare fields
- * with no count. Record 0 is the root, with parent 0; any other parent number is below its record's own. Patterns have numbers: 1 is
- * the first pattern, 1 + i the set's i-th member. A case in the old form, which only cadwezin_upgrade takes, has one second pattern's
- * section right after the first's, with no count of patterns between.
+ * (parent, label or 0 for any, edge 0 child or 1 descendant, position or 0, least figure accepted); and the set: a count of patterns, its
+ * members, and as many sections like the first pattern's. A document (document 01: volume) is one section, records (parent, label,
+ * figure). A list is bare fields with no count. Record 0 is the root, with parent 0; any other parent number is below its record's own.
+ * Patterns have numbers: 1 is the first pattern, 1 + i the set's i-th member. A case in the old form, which only cadwezin_upgrade takes,
+ * has one second pattern's section right after the first's, with no count of patterns between, and its pattern records have no figure.
+ *
+ * Figures. Each document node has a figure, 0 to 2,000, and an embedding takes a pattern node only to a document node whose figure is at
+ * least the least one that the pattern node accepts. In a canonical document (document 01: trial) the nodes of the pattern itself, its
+ * root among them, have just their least figure, and all others 0. Whether a document conforms to the summary, and what the placements
+ * of a pattern are, has nothing to do with figures.
  *
  * Any bytes, any numbers and buffers and tables of any length may be given. Each call asks its questions in the order that its
  * paragraph gives, and the first one answered no refuses the call:
  *
  *    1  Is the limit 1 to 1,000,000?
- *    2  Has the answer buffer 4,096 bytes or more, or the table 1,024 records or more?
+ *    2  Has the answer buffer 8,192 bytes or more, or the table 1,024 records or more?
  *    3  Has the case at most 65,536 bytes, every count, announced record and announced member whole, and nothing after?
  *    4  Is the summary's count 1 to 64, and the first pattern's and every member's 1 to 16?
  *   14  Is the set's count 1 to 8? (Each call that asks question 4 asks this one right after it, but for cadwezin_upgrade.)
  *    5  Do all summary records keep the rules for parent, label (not 0) and strong (0 on the root)?
  *    6  Do siblings in the summary have different labels?
  *    7  Do all records of all patterns keep the rules for parent and edge (0 on the root), with positions at most 8?
+ *   17  Is every figure of every pattern at most 2,000? (Each call that asks question 7 asks this one right after it, but for
+ *       cadwezin_upgrade. Each call that asks question 10 asks it of the document right after that, and refuses with 17 too.)
  *    8  Has each pattern the positions 1 to k once each, k at least 1, the same k in all?
  *   16  Is the caller 0 to 7?
  *    9  Is the caller's tally plus the limit (of cadwezin_minimise, 120 times the limit) at most 1,000,000,000,000?
@@ -28,7 +35,7 @@
  *   11  Is the list k fields, each below the document's count?
  *   12  Is the pattern's number 1 to 1 + the set's count and, where given, the position 1 to k?
  *   13  Is the list a placement of that pattern?
- *   15  Has the set one member and no more?
+ *   15  Has the set one member and no more, and is every figure of both patterns 0?
  *
  * A refusal holds the question's number in `refused` and zero in every other field, and alters no lent byte, record or tally. Where a
  * call is accepted `refused` is 0, and what lies after what it writes keeps its contents.
@@ -52,7 +59,7 @@
 extern "C" {
 #endif
 
-#define CADWEZIN_ANSWER_BYTES 4096                     /* the least length of an answer buffer */
+#define CADWEZIN_ANSWER_BYTES 8192                     /* the least length of an answer buffer */
 #define CADWEZIN_TABLE_RECORDS 1024                    /* the least length of a table */
 #define CADWEZIN_LIMIT_MOST UINT64_C(1000000)          /* the greatest limit */
 #define CADWEZIN_TALLY_MOST UINT64_C(1000000000000)    /* what tally and limit may come to */
@@ -62,6 +69,7 @@ extern "C" {
 #define CADWEZIN_PATTERN_NODES_MOST 16                 /* the greatest count of a pattern */
 #define CADWEZIN_MEMBERS_MOST 8                        /* the greatest count of a set */
 #define CADWEZIN_CALLERS 8                             /* how many callers there are, from 0 on */
+#define CADWEZIN_FIGURE_MOST 2000                      /* the greatest figure */
 
 /* The kind of a verdict. A refused one has kind 0. */
 #define CADWEZIN_CONTAINED UINT64_C(1)     /* document 01: included */
@@ -107,16 +115,17 @@ struct cadwezin_paths_answer {
 };
 
 /* A node of a laid-out document: the number of its parent in the document (0 for the root), the number in the summary of the node on
- * whose path it is, and its label. The six bytes after the label are padding and no part of the record: a call may leave anything there,
- * so compare records field by field. */
+ * whose path it is, its label and its figure. The four bytes after the figure are padding and no part of the record: a call may leave
+ * anything there, so compare records field by field. */
 struct cadwezin_node_record {
   size_t parent;
   size_t at;
   uint16_t label;
+  uint16_t figure;
 };
 
-/* Verdict: is the first pattern contained in the union of the set: in every document that conforms to the summary, is each of its
- * results a result of at least one member? Takes a case, a limit on the canonical documents tried, a caller, the tallies and an answer
+/* Verdict: is the first pattern contained in the union of the set: in every document that conforms to the summary, with any figures, is
+ * each of its results a result of at least one member? Takes a case, a limit on the canonical documents tried, a caller, the tallies and an answer
  * buffer. Questions 1 to 8, 16, 9. Answers CADWEZIN_CONTAINED (all pass; tried is how many there are, or 0 where there are none),
  * CADWEZIN_NOT_CONTAINED (one of the first `limit` does not pass; tried is the earliest one's rank, from 1) or CADWEZIN_STOPPED (the
  * first `limit` all pass and there are more; tried is the limit). One passes if its list is, as a whole, a result of some member; the
@@ -127,8 +136,8 @@ struct cadwezin_node_record {
 struct cadwezin_verdict_answer cadwezin_verdict(const uint8_t *case_bytes, size_t case_length, uint64_t limit, uint64_t caller,
                                                 struct cadwezin_tallies *tallies, uint8_t *answer, size_t answer_length);
 
-/* Fits: does the document conform to the case's summary? Takes a case and a document. Questions 3 to 8, 10. Answers holds. Writes
- * nothing. */
+/* Fits: does the document conform to the case's summary, whatever its figures are? Takes a case and a document. Questions 3 to 8, 10.
+ * Answers holds. Writes nothing. */
 struct cadwezin_test_answer cadwezin_fits(const uint8_t *case_bytes, size_t case_length, const uint8_t *document,
                                           size_t document_length);
 
@@ -155,12 +164,13 @@ struct cadwezin_count_answer cadwezin_layout(const uint8_t *case_bytes, size_t c
                                              size_t list_length, struct cadwezin_node_record *table, size_t table_length);
 
 /* From the old form to today's. Takes a case in the old form and an answer buffer. Question 2, then 3 to 8 about the two patterns that
- * the old form has; it has no set, so 14 is not asked. Answers how many bytes the case has as a set of one, two more than it had, at
- * most 648, and writes them to the front of the answer buffer. cadwezin_downgrade gives the old bytes back. */
+ * the old form has; it has no set and no figures, so 14 and 17 are not asked. Answers how many bytes the case has as a set of one with
+ * figures of 0, two more than it had and two for each pattern node, at most 712, and writes them to the front of the answer buffer.
+ * cadwezin_downgrade gives the old bytes back. Bytes may be a case in both forms: what is moved already is not told from an old case. */
 struct cadwezin_count_answer cadwezin_upgrade(const uint8_t *case_bytes, size_t case_length, uint8_t *answer, size_t answer_length);
 
 /* From today's form back to the old one. Takes a case and an answer buffer. Questions 2 to 8, 15. Answers how many bytes the case has in
- * the old form, two fewer than it had, and writes them to the front of the answer buffer. cadwezin_upgrade gives the case back. */
+ * the old form, at most 646, and writes them to the front of the answer buffer. cadwezin_upgrade gives the case back. */
 struct cadwezin_count_answer cadwezin_downgrade(const uint8_t *case_bytes, size_t case_length, uint8_t *answer, size_t answer_length);
 
 /* Striking out: what need the first pattern not say? Takes a case, a limit, a caller, the tallies and an answer buffer, as the verdict
@@ -172,15 +182,16 @@ struct cadwezin_count_answer cadwezin_downgrade(const uint8_t *case_bytes, size_
  * these verdicts tried, also those after which a leaf stayed, and adds the latter to the caller's tally. Writes to the front of the
  * answer buffer: the section of what is left, records in their old order, with parents by their new numbers; then a count and the
  * struck nodes, by their numbers in the case, in the order in which they were struck. Nothing struck: the pattern as it was and a
- * count 0. At most 132 bytes. */
+ * count 0. At most 164 bytes. */
 struct cadwezin_minimise_answer cadwezin_minimise(const uint8_t *case_bytes, size_t case_length, uint64_t limit, uint64_t caller,
                                                   struct cadwezin_tallies *tallies, uint8_t *answer, size_t answer_length);
 
 /* One way of writing a case: the same bytes for all cases that are one but for the numbers of their nodes. Takes a case and an answer
- * buffer. Questions 2 to 8. Answers how many bytes are written, as many as the case has, at most 1,558, and writes them to the front of
+ * buffer. Questions 2 to 8. Answers how many bytes are written, as many as the case has, at most 1,846, and writes them to the front of
  * the answer buffer: the case with the nodes of every tree in preorder. Siblings of the summary go by label. Siblings of a pattern go by
- * their subtrees: each, with its own siblings in order first, is the list of its nodes in preorder, of each its depth, label, edge and
- * position; two lists are compared at their first difference, and one that the other begins with goes first. The set keeps its order.
+ * their subtrees: each, with its own siblings in order first, is the list of its nodes in preorder, of each its depth, label, edge,
+ * position and figure; two lists are compared at their first difference, and one that the other begins with goes first. The set keeps its
+ * order.
  * Two accepted cases are written alike exactly when renumbering nodes turns one into the other. What is written is accepted, and
  * written again it stays as it is; a verdict on it has the same kind where the limit is at least the number of placements. */
 struct cadwezin_count_answer cadwezin_normalise(const uint8_t *case_bytes, size_t case_length, uint8_t *answer, size_t answer_length);

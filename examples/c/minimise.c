@@ -1,6 +1,6 @@
 /* minimise: the first pattern of the case on standard input, shortened with limit 1,000,000, caller 0 and tallies 0. Prints how many
- * canonical documents were tried, a line for each node that is left (number, parent, label, edge, position), and the numbers of the
- * struck ones, in the order in which they went. Exit status: 0 shortened as far as it goes; 3 refused, with a line that says so; 4 the
+ * canonical documents were tried, a line for each node that is left (number, parent, label, edge, position, figure), and the numbers of
+ * the struck ones, in the order in which they went. Exit status: 0 shortened as far as it goes; 3 refused, with a line that says so; 4 the
  * case can't be read, 5 the answer can't be written, 7 wrong usage. */
 #include "cadwezin.h"
 #include <inttypes.h>
@@ -8,7 +8,7 @@
 #include <stdio.h>
 
 #define CALLER 0
-#define RECORD_FIELDS 4
+#define RECORD_FIELDS 5
 
 enum status { SHORTENED, REFUSED = 3, UNREADABLE, UNWRITABLE, MISUSED = 7 };
 

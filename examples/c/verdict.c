@@ -7,6 +7,7 @@
 #include <stdio.h>
 
 #define CALLER 0
+#define RECORD_BYTES 6
 
 enum status { INCLUDED, NOT_INCLUDED, STOPPED, REFUSED, UNREADABLE, UNWRITABLE, MISUSED = 7 };
 
@@ -22,13 +23,13 @@ static unsigned field(size_t at) {
 /* The document's section stands at the front, the result after its last record. */
 static void print_shown(void) {
   const unsigned nodes = field(0);
-  const size_t result = 2 + 4 * (size_t)nodes;
-  for (unsigned i = 0; i < nodes; i++) {
-    printf("node %u %u %u\n", i, field(2 + 4 * (size_t)i), field(4 + 4 * (size_t)i));
+  size_t at = 2;
+  for (unsigned i = 0; i < nodes; i++, at += RECORD_BYTES) {
+    printf("node %u %u %u %u\n", i, field(at), field(at + 2), field(at + 4));
   }
   printf("answer");
-  for (unsigned i = 0; i < field(result); i++) {
-    printf(" %u", field(result + 2 + 2 * (size_t)i));
+  for (unsigned i = 0; i < field(at); i++) {
+    printf(" %u", field(at + 2 + 2 * (size_t)i));
   }
   printf("\n");
 }

@@ -1,7 +1,7 @@
 //! `minimise`: the first pattern of the case on standard input, shortened with limit 1,000,000, caller 0
 //! and tallies 0. Prints how many canonical documents were tried, a line for each node that is left
-//! (number, parent, label, edge, position), and the numbers of the struck ones, in the order in which they
-//! went. Exit status: 0 shortened as far as it goes; 3 refused, with a line that says so; 4 the case can't
+//! (number, parent, label, edge, position, figure), and the numbers of the struck ones, in the order in which
+//! they went. Exit status: 0 shortened as far as it goes; 3 refused, with a line that says so; 4 the case can't
 //! be read, 5 the answer can't be written, 7 wrong usage.
 
 use cadwezin::{minimise, Shortened, Tallies, ANSWER_BYTES, LIMIT_MOST};
@@ -83,8 +83,8 @@ fn shortened_lines(shortened: &Shortened) -> String {
     let mut text = String::new();
     for (number, node) in shortened.left.iter().enumerate() {
         let (parent, edge) = (node.parent.0, u8::from(node.descendant));
-        let (label, position) = (node.label, node.position);
-        text += &format!("node {number} {parent} {label} {edge} {position}\n");
+        let (label, position, figure) = (node.label, node.position, node.figure);
+        text += &format!("node {number} {parent} {label} {edge} {position} {figure}\n");
     }
     text += "struck";
     for node in &shortened.struck {

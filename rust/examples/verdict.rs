@@ -111,7 +111,8 @@ fn answer(case: &[u8]) -> (u8, String) {
 fn shown_lines(shown: &Shown) -> String {
     let mut text = String::new();
     for (number, node) in shown.document.iter().enumerate() {
-        text += &format!("node {number} {} {}\n", node.parent.0, node.label);
+        let (parent, label, figure) = (node.parent.0, node.label, node.figure);
+        text += &format!("node {number} {parent} {label} {figure}\n");
     }
     text += "answer";
     for node in &shown.result {

@@ -95,7 +95,7 @@ impl Refusal {
         }
     }
 
-    /// The question's number, 1 to 16.
+    /// The question's number, 1 to 17.
     pub fn number(self) -> u64 {
         self.0
     }
@@ -117,8 +117,9 @@ impl Refusal {
             12 => "there is no such pattern or position",
             13 => "the list is not a placement of the pattern",
             14 => "the set has not 1 to 8 members",
-            15 => "the set has more than one member",
-            _ => "the caller is not 0 to 7",
+            15 => "the set has more than one member, or a pattern asks for a figure",
+            16 => "the caller is not 0 to 7",
+            _ => "a figure is above 2,000",
         }
     }
 }

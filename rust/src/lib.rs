@@ -1,19 +1,20 @@
 //! Tree pattern containment under a path summary, decided by a library whose every function is proved.
 //!
 //! A *case* is bytes that hold a summary, a first pattern and a set of one to eight patterns, its
-//! *members*, which count as one; a *document* and a *list* are bytes too. `include/cadwezin.h` has
-//! their format and the questions. Each function takes any bytes, any numbers and buffers of any
+//! *members*, which count as one; a *document* and a *list* are bytes too. A document's node has a
+//! *figure*, and a pattern's node the least one that it accepts. `include/cadwezin.h` has their format
+//! and the questions. Each function takes any bytes, any numbers and buffers of any
 //! length, and answers or refuses; a refusal alters nothing that was lent.
 //!
 //! ```
 //! use cadwezin::{verdict, Shown, Tallies, Verdict, ANSWER_BYTES, LIMIT_MOST};
 //!
 //! // Summary r(a(b)); first pattern r//*, and a set of one, r/*, each with position 1 at the star.
-//! let fields: [u16; 29] = [
+//! let fields: [u16; 33] = [
 //!     3, 0, 1, 0, 0, 2, 0, 1, 3, 0, //
-//!     2, 0, 1, 0, 0, 0, 0, 1, 1, //
+//!     2, 0, 1, 0, 0, 0, 0, 0, 1, 1, 0, //
 //!     1, //
-//!     2, 0, 1, 0, 0, 0, 0, 0, 1,
+//!     2, 0, 1, 0, 0, 0, 0, 0, 0, 1, 0,
 //! ];
 //! let case: Vec<u8> = fields.iter().flat_map(|field| field.to_le_bytes()).collect();
 //! let (mut tallies, mut answer) = (Tallies::default(), [0; ANSWER_BYTES]);
@@ -41,7 +42,7 @@ pub use nodes::{DocumentNode, NodeRecord, PatternNode, SummaryNode};
 pub use shown::{nodes_shown, LeftNode, Shortened, Shown, ShownNode};
 
 /// The least length of an answer buffer.
-pub const ANSWER_BYTES: usize = 4_096;
+pub const ANSWER_BYTES: usize = 8_192;
 /// The least length of a lent table.
 pub const TABLE_RECORDS: usize = 1_024;
 /// The greatest limit of a verdict.
@@ -54,9 +55,11 @@ pub const MINIMISE_VERDICTS: u64 = 120;
 pub const MEMBERS_MOST: u64 = 8;
 /// How many callers there are, from 0 on.
 pub const CALLERS: usize = 8;
+/// The greatest figure.
+pub const FIGURE_MOST: u16 = 2_000;
 
 /// Is the first pattern contained in the union of the set: in every document that conforms to the
-/// summary, is each result of the first a result of at least one member? Canonical documents are tried
+/// summary, with any figures, is each result of the first a result of at least one member? Canonical documents are tried
 /// in order, at most `limit` of them. The caller's tally grows by how many were tried; the other seven may
 /// hold any numbers, and change nothing in the answer. Where the answer is [`Verdict::NotContained`], a
 /// document and a result of the first pattern that is one of no member are written to the front of
@@ -77,7 +80,7 @@ pub fn verdict(
     })
 }
 
-/// Does the document conform to the case's summary? Questions 3 to 8, 10.
+/// Does the document conform to the case's summary, whatever its figures are? Questions 3 to 8, 10.
 pub fn fits(case: &[u8], document: &[u8]) -> Result<bool, Refusal> {
     let got = ffi::fits(case, document);
     Refusal::or(got.refused, || got.holds == 1)
@@ -130,16 +133,18 @@ pub fn layout(
     Refusal::or(got.refused, || got.count)
 }
 
-/// Moves a case in the old form over: there one second pattern stands in the place of the set. The same
-/// case with a set of one is written to the front of `answer`, and is the answer. [`downgrade`] gives
-/// the old bytes back. Question 2, then 3 to 8 about the old form's two patterns.
+/// Moves a case in the old form over: there one second pattern stands in the place of the set, and no
+/// pattern node has a figure. The same case with a set of one and figures of 0 is written to the front of
+/// `answer`, and is the answer. [`downgrade`] gives the old bytes back. Bytes may be a case in both forms:
+/// what is moved already is not told from an old case. Question 2, then 3 to 8 about the old form's two
+/// patterns.
 pub fn upgrade<'a>(case: &[u8], answer: &'a mut [u8]) -> Result<&'a [u8], Refusal> {
     let got = ffi::upgrade(case, answer);
     Refusal::or(got.refused, || &answer[..got.count as usize])
 }
 
-/// Moves a case back whose set has one member: in the old form it is written to the front of `answer`,
-/// and is the answer. [`upgrade`] gives the case back. Questions 2 to 8, 15.
+/// Moves a case back whose set has one member and whose figures are 0: in the old form it is written to
+/// the front of `answer`, and is the answer. [`upgrade`] gives the case back. Questions 2 to 8, 15.
 pub fn downgrade<'a>(case: &[u8], answer: &'a mut [u8]) -> Result<&'a [u8], Refusal> {
     let got = ffi::downgrade(case, answer);
     Refusal::or(got.refused, || &answer[..got.count as usize])

@@ -15,8 +15,8 @@ pub struct SummaryNode(pub usize);
 #[derive(Clone, Copy, Debug, Default, PartialEq, Eq, PartialOrd, Ord, Hash)]
 pub struct PatternNode(pub usize);
 
-/// A node of a laid-out document: its parent, the summary node on whose path it is, its label. The
-/// root's parent is node 0.
+/// A node of a laid-out document: its parent, the summary node on whose path it is, its label, its
+/// figure. The root's parent is node 0.
 #[repr(C)]
 #[derive(Clone, Copy, Debug, Default, PartialEq, Eq)]
 pub struct NodeRecord {
@@ -26,4 +26,6 @@ pub struct NodeRecord {
     pub at: SummaryNode,
     /// Its label.
     pub label: u16,
+    /// Its figure.
+    pub figure: u16,
 }

@@ -9,6 +9,8 @@ pub struct ShownNode {
     pub parent: DocumentNode,
     /// Its label.
     pub label: u16,
+    /// Its figure.
+    pub figure: u16,
 }
 
 /// What a verdict shows that answers "not contained": a document that conforms to the summary, and a
@@ -25,9 +27,10 @@ impl Shown {
     /// Reads it from the front of the answer buffer; `None` where the buffer ends within it.
     pub fn read(answer: &[u8]) -> Option<Shown> {
         let mut rest = answer;
-        let document = counted(&mut rest, |[parent, label]| ShownNode {
+        let document = counted(&mut rest, |[parent, label, figure]| ShownNode {
             parent: DocumentNode(parent.into()),
             label,
+            figure,
         })?;
         let result = nodes_shown(rest)?;
         Some(Shown { document, result })
@@ -45,6 +48,8 @@ pub struct LeftNode {
     pub descendant: bool,
     /// The position that it holds, or 0.
     pub position: u16,
+    /// The least figure that it accepts.
+    pub figure: u16,
 }
 
 /// What [`crate::minimise`] writes.
@@ -60,11 +65,14 @@ impl Shortened {
     /// Reads it from the front of the answer buffer; `None` where the buffer ends within it.
     pub fn read(answer: &[u8]) -> Option<Shortened> {
         let mut rest = answer;
-        let left = counted(&mut rest, |[parent, label, edge, position]| LeftNode {
-            parent: PatternNode(parent.into()),
-            label,
-            descendant: edge == 1,
-            position,
+        let left = counted(&mut rest, |[parent, label, edge, position, figure]| {
+            LeftNode {
+                parent: PatternNode(parent.into()),
+                label,
+                descendant: edge == 1,
+                position,
+                figure,
+            }
         })?;
         let struck = counted(&mut rest, |[node]| PatternNode(node.into()))?;
         Some(Shortened { left, struck })

@@ -1,11 +1,11 @@
 //! E1 to E10 of document 01 through the library, sets, the old form, callers, striking out, one way of
-//! writing a case, and each call's way to refuse.
+//! writing a case, figures, and each call's way to refuse.
 
 use cadwezin::{
     downgrade, fits, is_result, layout, minimise, nodes_at, nodes_shown, normalise, paths, upgrade,
     verdict, DocumentNode, LeftNode, Minimised, NodeRecord, Pattern, PatternNode, Refusal,
-    Shortened, Shown, ShownNode, SummaryNode, Tallies, Verdict, ANSWER_BYTES, CALLERS, LIMIT_MOST,
-    MEMBERS_MOST, MINIMISE_VERDICTS, TABLE_RECORDS, TALLY_MOST,
+    Shortened, Shown, ShownNode, SummaryNode, Tallies, Verdict, ANSWER_BYTES, CALLERS, FIGURE_MOST,
+    LIMIT_MOST, MEMBERS_MOST, MINIMISE_VERDICTS, TABLE_RECORDS, TALLY_MOST,
 };
 
 const E1: &[u8] = include_bytes!("../../tests/examples/e1.case");
@@ -94,13 +94,13 @@ fn judged(case: &[u8], limit: u64, written: &[u16]) -> Verdict {
 
 #[test]
 fn e1_to_e5() {
-    let shown = [5, 0, 1, 0, 2, 1, 3, 0, 2, 3, 4, 1, 0];
+    let shown = [5, 0, 1, 0, 0, 2, 0, 1, 3, 0, 0, 2, 0, 3, 4, 0, 1, 0];
     assert_eq!(
         judged(E1, LIMIT_MOST, &shown),
         Verdict::NotContained { tried: 1 }
     );
     assert_eq!(judged(E2, LIMIT_MOST, &[]), Verdict::Contained { tried: 1 });
-    let shown = [2, 0, 1, 0, 2, 1, 1];
+    let shown = [2, 0, 1, 0, 0, 2, 0, 1, 1];
     assert_eq!(
         judged(E3, LIMIT_MOST, &shown),
         Verdict::NotContained { tried: 1 }
@@ -111,7 +111,7 @@ fn e1_to_e5() {
 
 #[test]
 fn e6_and_e7_by_limit() {
-    let shown = [3, 0, 1, 0, 2, 1, 3, 1, 2];
+    let shown = [3, 0, 1, 0, 0, 2, 0, 1, 3, 0, 1, 2];
     assert_eq!(judged(E6, 1, &[]), Verdict::Stopped { tried: 1 });
     assert_eq!(judged(E6, 2, &shown), Verdict::NotContained { tried: 2 });
     assert_eq!(
@@ -127,7 +127,7 @@ fn e8_and_e9() {
         judged(E8_SAME, LIMIT_MOST, &[]),
         Verdict::Contained { tried: 1 }
     );
-    let shown = [1, 0, 1, 1, 0];
+    let shown = [1, 0, 1, 0, 1, 0];
     assert_eq!(
         judged(E8_OTHER, LIMIT_MOST, &shown),
         Verdict::NotContained { tried: 1 }
@@ -154,28 +154,24 @@ fn what_is_shown_reads_back() {
     let node = |parent, label| ShownNode {
         parent: DocumentNode(parent),
         label,
+        figure: 0,
     };
     assert_eq!(shown.document, [node(0, 1), node(0, 2), node(1, 3)]);
     assert_eq!(shown.result, [DocumentNode(2)]);
-    for cut in 0..18 {
+    // Three records and their count, and a count and one node.
+    for cut in 0..24 {
         assert_eq!(Shown::read(&answer[..cut]), None);
     }
     // The document shown tells the patterns apart.
-    let document = &answer[..14];
+    let (document, list) = (&answer[..20], &answer[22..24]);
     assert_eq!(fits(E6, document), Ok(true));
-    assert_eq!(
-        is_result(E6, Pattern::First, document, &answer[16..18]),
-        Ok(true)
-    );
-    assert_eq!(
-        is_result(E6, Pattern::Member(1), document, &answer[16..18]),
-        Ok(false)
-    );
+    assert_eq!(is_result(E6, Pattern::First, document, list), Ok(true));
+    assert_eq!(is_result(E6, Pattern::Member(1), document, list), Ok(false));
 }
 
 #[test]
 fn nodes_at_a_position() {
-    let document = bytes(&[3, 0, 1, 0, 2, 1, 3]);
+    let document = bytes(&[3, 0, 1, 0, 0, 2, 0, 1, 3, 0]);
     let mut answer = [FILLING; ANSWER_BYTES];
     assert_eq!(
         nodes_at(E6, Pattern::First, &document, 1, &mut answer),
@@ -196,28 +192,103 @@ fn a_layout_fills_the_front_of_the_table() {
         parent: DocumentNode(usize::MAX),
         at: SummaryNode(usize::MAX),
         label: u16::MAX,
+        figure: u16::MAX,
     };
-    let mut table = vec![blank; TABLE_RECORDS + 1];
-    assert_eq!(
-        layout(E6, Pattern::First, &bytes(&[0, 2]), &mut table),
-        Ok(3)
-    );
-    let node = |parent, at, label| NodeRecord {
-        parent: DocumentNode(parent),
-        at: SummaryNode(at),
-        label,
-    };
-    assert_eq!(table[..3], [node(0, 0, 1), node(0, 1, 2), node(1, 2, 3)]);
-    assert!(table[3..].iter().all(|record| *record == blank));
+    for figures in [[0, 0], [1, FIGURE_MOST], [7, 0]] {
+        let mut table = vec![blank; TABLE_RECORDS + 1];
+        let case = with_figures(figures, [0, 0]);
+        let count = layout(&case, Pattern::First, &bytes(&[0, 2]), &mut table);
+        assert_eq!(count, Ok(3));
+        let node = |parent, at, label, figure| NodeRecord {
+            parent: DocumentNode(parent),
+            at: SummaryNode(at),
+            label,
+            figure,
+        };
+        let [root, below] = figures;
+        let laid = [node(0, 0, 1, root), node(0, 1, 2, 0), node(1, 2, 3, below)];
+        assert_eq!(table[..3], laid);
+        assert!(table[3..].iter().all(|record| *record == blank));
+    }
+}
+
+/// E6 with these figures at the two nodes of the first pattern, and of the member.
+fn with_figures(first: [u16; 2], member: [u16; 2]) -> Vec<u8> {
+    let mut case = E6.to_vec();
+    // The last field of each record.
+    let places = [30, 40, 54, 64];
+    for (place, figure) in places.into_iter().zip([first, member].concat()) {
+        case[place..place + 2].copy_from_slice(&figure.to_le_bytes());
+    }
+    case
+}
+
+#[test]
+fn figures_decide() {
+    // The first canonical document passes where both figures are enough.
+    for (first, member, contained) in [
+        ([5, 6], [5, 6], true),
+        ([5, 6], [4, 0], true),
+        ([5, 6], [6, 6], false),
+        ([5, 6], [5, 7], false),
+        ([0, 255], [0, 256], false),
+        ([FIGURE_MOST; 2], [FIGURE_MOST; 2], true),
+    ] {
+        let case = with_figures(first, member);
+        let [root, below] = first;
+        let shown = [2, 0, 1, root, 0, 2, below, 1, 1];
+        if contained {
+            assert_eq!(judged(&case, 1, &[]), Verdict::Stopped { tried: 1 });
+        } else {
+            assert_eq!(judged(&case, 1, &shown), Verdict::NotContained { tried: 1 });
+        }
+        let document = bytes(&[2, 0, 1, root, 0, 2, below]);
+        let result = is_result(&case, Pattern::Member(1), &document, &bytes(&[1]));
+        assert_eq!(result, Ok(contained));
+        let nodes = nodes_at(
+            &case,
+            Pattern::Member(1),
+            &document,
+            1,
+            &mut [0; ANSWER_BYTES],
+        );
+        assert_eq!(nodes, Ok(u64::from(contained)));
+        assert_eq!(fits(&case, &document), Ok(true));
+        let paths = paths(&case, Pattern::Member(1)).expect("the case is accepted");
+        assert_eq!(paths.masks[..2], [1, 2]);
+        let mut answer = [FILLING; ANSWER_BYTES];
+        assert_eq!(refused(downgrade(&case, &mut answer)), 15);
+    }
+}
+
+#[test]
+fn a_figure_is_at_most_2000() {
+    let fine = with_figures([FIGURE_MOST; 2], [FIGURE_MOST; 2]);
+    let document = |figure| bytes(&[1, 0, 1, figure]);
+    assert_eq!(fits(&fine, &document(FIGURE_MOST)), Ok(true));
+    for figure in [FIGURE_MOST + 1, u16::MAX] {
+        for place in 0..4 {
+            let mut figures = [0; 4];
+            figures[place] = figure;
+            let [a, b, c, d] = figures;
+            let case = with_figures([a, b], [c, d]);
+            assert_eq!(refused(fits(&case, &document(0))), 17);
+            assert_eq!(refused(paths(&case, Pattern::First)), 17);
+        }
+        let high = document(figure);
+        assert_eq!(refused(fits(&fine, &high)), 17);
+        assert_eq!(refused(is_result(&fine, Pattern::First, &high, &[])), 17);
+    }
 }
 
 /// E6 with these members, each a record for the root and one for its node with position 1.
 fn with_set(members: &[[u16; 4]]) -> Vec<u8> {
-    let mut case = E6[..38].to_vec();
+    let mut case = E6[..42].to_vec();
     case.extend(bytes(&[members.len() as u16]));
     for member in members {
-        case.extend(bytes(&[2, 0, 1, 0, 0]));
+        case.extend(bytes(&[2, 0, 1, 0, 0, 0]));
         case.extend(bytes(member));
+        case.extend(bytes(&[0]));
     }
     case
 }
@@ -230,7 +301,7 @@ fn members_count_as_one() {
     for set in [&[child, below][..], &[below, child], &[below, child, below]] {
         assert_eq!(judged(&with_set(set), LIMIT_MOST, &[]), contained);
     }
-    let shown = [2, 0, 1, 0, 2, 1, 1];
+    let shown = [2, 0, 1, 0, 0, 2, 0, 1, 1];
     assert_eq!(
         judged(&with_set(&[below]), LIMIT_MOST, &shown),
         Verdict::NotContained { tried: 1 }
@@ -347,7 +418,7 @@ fn callers_are_0_to_7() {
     };
     let mut answer = [FILLING; ANSWER_BYTES];
     let mut unheld = E6.to_vec();
-    unheld[E6.len() - 2] = 0;
+    unheld[E6.len() - 4] = 0;
     let mut ask =
         |case: &[u8], caller| refused(verdict(case, 1, caller, &mut tallies, &mut answer));
     assert_eq!(ask(&unheld, 8), 8);
@@ -374,6 +445,7 @@ fn an_order_loses_what_the_summary_grants() {
         label,
         descendant,
         position,
+        figure: 0,
     };
     let shortened = Shortened {
         left: vec![
@@ -386,7 +458,7 @@ fn an_order_loses_what_the_summary_grants() {
     };
     assert_eq!(Shortened::read(&answer), Some(shortened));
     // Four records, their count, and a count and two numbers.
-    let written = 2 + 4 * 8 + 2 + 2 * 2;
+    let written = 2 + 4 * 10 + 2 + 2 * 2;
     assert!(answer[written..].iter().all(|&byte| byte == FILLING));
     for cut in 0..written {
         assert_eq!(Shortened::read(&answer[..cut]), None);
@@ -405,8 +477,8 @@ fn what_is_left_has_the_same_results() {
         })
     );
     // The summary has eight records, the first pattern six.
-    let (summary, old) = (&REGISTER[..2 + 8 * 6], &REGISTER[50..50 + 2 + 6 * 8]);
-    let left = &answer[..2 + 4 * 8];
+    let (summary, old) = (&REGISTER[..2 + 8 * 6], &REGISTER[50..50 + 2 + 6 * 10]);
+    let left = &answer[..2 + 4 * 10];
     for [first, member] in [[old, left], [left, old]] {
         let case = [summary, first, &[1, 0], member].concat();
         assert_eq!(
@@ -513,7 +585,7 @@ fn refusals_alter_nothing() {
     assert_eq!(strike(REGISTER, 1, 7, &mut answer), 9);
     assert_eq!(tallies, full);
     assert_eq!(refused(fits(E6, &[])), 10);
-    let document = bytes(&[1, 0, 1]);
+    let document = bytes(&[1, 0, 1, 0]);
     assert_eq!(refused(is_result(E6, Pattern::First, &document, &[])), 11);
     assert_eq!(
         refused(nodes_at(E6, Pattern::First, &document, 2, &mut answer)),
@@ -566,8 +638,11 @@ fn a_refusal_says_what_is_wrong() {
     let refusal = downgrade(&two, &mut answer).expect_err("a refusal");
     assert_eq!(
         refusal.to_string(),
-        "refused 15: the set has more than one member"
+        "refused 15: the set has more than one member, or a pattern asks for a figure"
     );
     let refusal = called(1, 8, ANYTHING).0.expect_err("a refusal");
     assert_eq!(refusal.to_string(), "refused 16: the caller is not 0 to 7");
+    let high = with_figures([0, 0], [0, FIGURE_MOST + 1]);
+    let refusal = fits(&high, &[]).expect_err("a refusal");
+    assert_eq!(refusal.to_string(), "refused 17: a figure is above 2,000");
 }

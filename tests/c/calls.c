@@ -1,6 +1,6 @@
 /* The ten calls from C, by include/cadwezin.h: E6 and E10 of document 01, a set of two, E6 out of the old form and back, callers and
- * their tallies, an order that is shortened, one case under three numberings, empty slices with a null pointer, and refusals, which
- * alter nothing. Prints how many answers were as they should be. */
+ * their tallies, an order that is shortened, one case under three numberings, figures that decide, empty slices with a null pointer, and
+ * refusals, which alter nothing. Prints how many answers were as they should be. */
 #include "cadwezin.h"
 #include <stdio.h>
 #include <stdlib.h>
@@ -11,20 +11,26 @@
 
 /* Summary r(a(b)); first pattern r//0, members r/0 and r//b, each with position 1 at the last node. The document is r(a(b)). */
 #define SUMMARY 3, 0, 0, 0, 1, 0, 0, 0, 0, 0, 2, 0, 0, 0, 1, 0, 3, 0, 0, 0
-#define FIRST 2, 0, 0, 0, 1, 0, 0, 0, 0, 0, 0, 0, 0, 0, 1, 0, 1, 0
-#define CHILD 2, 0, 0, 0, 1, 0, 0, 0, 0, 0, 0, 0, 0, 0, 0, 0, 1, 0
-#define BELOW 2, 0, 0, 0, 1, 0, 0, 0, 0, 0, 0, 0, 3, 0, 1, 0, 1, 0
+#define FIELD(number) (uint8_t)((number) & 255), (uint8_t)((number) >> 8)
+#define OLD_RECORD(parent, label, edge, position) parent, 0, label, 0, edge, 0, position, 0
+#define FIGURED(parent, label, edge, position, figure) OLD_RECORD(parent, label, edge, position), FIELD(figure)
+#define RECORD(parent, label, edge, position) FIGURED(parent, label, edge, position, 0)
+#define FIRST 2, 0, RECORD(0, 1, 0, 0), RECORD(0, 0, 1, 1)
+#define CHILD 2, 0, RECORD(0, 1, 0, 0), RECORD(0, 0, 0, 1)
+#define BELOW 2, 0, RECORD(0, 1, 0, 0), RECORD(0, 3, 1, 1)
+#define NODE(parent, label, figure) parent, 0, label, 0, FIELD(figure)
 static const uint8_t e6[] = {SUMMARY, FIRST, 1, 0, CHILD};
 static const uint8_t two[] = {SUMMARY, FIRST, 2, 0, CHILD, BELOW};
-static const uint8_t old[] = {SUMMARY, FIRST, CHILD};
+#define OLD_FIRST 2, 0, OLD_RECORD(0, 1, 0, 0), OLD_RECORD(0, 0, 1, 1)
+static const uint8_t old[] = {SUMMARY, OLD_FIRST, 2, 0, OLD_RECORD(0, 1, 0, 0), OLD_RECORD(0, 0, 0, 1)};
+static const uint8_t old_none[] = {SUMMARY, OLD_FIRST, 0, 0};
 static const uint8_t none[] = {SUMMARY, FIRST, 0, 0};
-static const uint8_t unheld[] = {SUMMARY, FIRST, 1, 0, 1, 0, 0, 0, 1, 0, 0, 0, 0, 0};
-static const uint8_t document[] = {3, 0, 0, 0, 1, 0, 0, 0, 2, 0, 1, 0, 3, 0};
+static const uint8_t unheld[] = {SUMMARY, FIRST, 1, 0, 1, 0, RECORD(0, 1, 0, 0)};
+static const uint8_t document[] = {3, 0, NODE(0, 1, 0), NODE(0, 2, 0), NODE(1, 3, 0)};
 static const uint8_t node_2[] = {2, 0};
 static const uint8_t placement[] = {0, 0, 2, 0};
 
 /* Summary r(a(b), c), where b, and then a, is granted; first pattern r(a(b), c) with position 1 at the root. What is left is r(c). */
-#define RECORD(parent, label, edge, position) parent, 0, label, 0, edge, 0, position, 0
 #define GRANTED 4, 0, 0, 0, 1, 0, 0, 0, 0, 0, 2, 0, 1, 0, 1, 0, 3, 0, 1, 0, 0, 0, 4, 0, 0, 0
 #define WORDY 4, 0, RECORD(0, 1, 0, 1), RECORD(0, 2, 0, 0), RECORD(1, 3, 0, 0), RECORD(0, 4, 0, 0)
 static const uint8_t order[] = {GRANTED, WORDY, 1, 0, 1, 0, RECORD(0, 1, 0, 1)};
@@ -70,9 +76,9 @@ static void fill(void) {
   tallies = wanted = mixed;
 }
 
-/* Field by field, since the bytes after the label are free. */
+/* Field by field, since the bytes after the figure are free. */
 static int same_record(const struct cadwezin_node_record *a, const struct cadwezin_node_record *b) {
-  return a->parent == b->parent && a->at == b->at && a->label == b->label;
+  return a->parent == b->parent && a->at == b->at && a->label == b->label && a->figure == b->figure;
 }
 
 /* Whether everything lent is as fill left it, from these bytes and records on, and the tallies are as wanted. */
@@ -107,9 +113,9 @@ static void judged(uint64_t limit, uint64_t kind, uint64_t tried, const uint8_t 
 }
 
 static void accepted(void) {
-  static const uint8_t shown[] = {3, 0, 0, 0, 1, 0, 0, 0, 2, 0, 1, 0, 3, 0, 1, 0, 2, 0};
+  static const uint8_t shown[] = {3, 0, NODE(0, 1, 0), NODE(0, 2, 0), NODE(1, 3, 0), 1, 0, 2, 0};
   static const uint8_t nodes[] = {2, 0, 1, 0, 2, 0};
-  static const struct cadwezin_node_record laid[] = {{0, 0, 1}, {0, 1, 2}, {1, 2, 3}};
+  static const struct cadwezin_node_record laid[] = {{0, 0, 1, 0}, {0, 1, 2, 0}, {1, 2, 3, 0}};
   judged(1, CADWEZIN_STOPPED, 1, NULL, 0);
   judged(CADWEZIN_LIMIT_MOST, CADWEZIN_NOT_CONTAINED, 2, shown, sizeof shown);
   fill();
@@ -157,6 +163,53 @@ static void sets(void) {
   hold(untouched(0, 0), "what the calls about sets leave alone");
 }
 
+/* Summary r(a(b)); first pattern r//b, the member r(a(b)), each with figures. b is the first pattern's own node, and a is not: it has 0. */
+static void figures(uint16_t own, uint16_t of_b, uint16_t of_a) {
+  const uint8_t first[] = {SUMMARY, 2, 0, FIGURED(0, 1, 0, 0, own), FIGURED(0, 3, 1, 1, own), 1, 0};
+  const uint8_t member[] = {3, 0, FIGURED(0, 1, 0, 0, own), FIGURED(0, 2, 0, 0, of_a), FIGURED(1, 3, 0, 1, of_b)};
+  const uint8_t shown[] = {3, 0, NODE(0, 1, own), NODE(0, 2, 0), NODE(1, 3, own), 1, 0, 2, 0};
+  const struct cadwezin_node_record laid[] = {{0, 0, 1, own}, {0, 1, 2, 0}, {1, 2, 3, own}};
+  const uint8_t tall[] = {3, 0, NODE(0, 1, own), NODE(0, 2, of_a), NODE(1, 3, of_b)};
+  const uint64_t refused = own > CADWEZIN_FIGURE_MOST || of_b > CADWEZIN_FIGURE_MOST || of_a > CADWEZIN_FIGURE_MOST ? 17 : 0;
+  const int contained = refused == 0 && own >= of_b && of_a == 0;
+  uint8_t bytes[sizeof first + sizeof member];
+  memcpy(bytes, first, sizeof first);
+  memcpy(bytes + sizeof first, member, sizeof member);
+  fill();
+  const struct cadwezin_verdict_answer got = verdict_on(bytes, sizeof bytes, 1, 0);
+  const uint64_t kind = refused != 0 ? 0 : contained ? CADWEZIN_CONTAINED : CADWEZIN_NOT_CONTAINED;
+  const size_t length = kind == CADWEZIN_NOT_CONTAINED ? sizeof shown : 0;
+  hold(got.refused == refused && got.kind == kind && got.tried == (refused == 0), "a verdict by figures");
+  hold(memcmp(answer, shown, length) == 0 && untouched(length, 0), "what a verdict by figures shows");
+  fill();
+  const struct cadwezin_test_answer result = cadwezin_result(bytes, sizeof bytes, 2, tall, sizeof tall, node_2, sizeof node_2);
+  hold(result.refused == refused && result.holds == (refused == 0), "a result whose figures are just enough");
+  const struct cadwezin_test_answer low = cadwezin_result(bytes, sizeof bytes, 2, document, sizeof document, node_2, sizeof node_2);
+  hold(low.refused == refused && low.holds == (own + of_a + of_b == 0), "a result whose figures are 0");
+  const struct cadwezin_test_answer fits = cadwezin_fits(e6, sizeof e6, tall, sizeof tall);
+  hold(fits.refused == refused && fits.holds == (refused == 0), "fits, whatever the figures are");
+  const struct cadwezin_count_answer count = cadwezin_layout(bytes, sizeof bytes, 1, placement, sizeof placement, table, COUNT(table));
+  hold(count.refused == refused && count.count == (refused == 0 ? COUNT(laid) : 0), "a layout with figures");
+  for (size_t i = 0; i < count.count; i++) {
+    hold(same_record(&table[i], &laid[i]), "a node laid out with its figure");
+  }
+  hold(untouched(0, count.count), "what a layout with figures leaves alone");
+  const struct cadwezin_count_answer back = cadwezin_downgrade(bytes, sizeof bytes, answer, sizeof answer);
+  const int zero = own + of_a + of_b == 0;
+  hold(back.refused == (refused != 0 ? refused : zero ? 0 : 15), "figures that would go back");
+}
+
+/* Equal or not, in both bytes, and at the bound. */
+static void all_figures(void) {
+  static const uint16_t some[] = {0, 1, 255, 256, 1999, 2000, 2001, UINT16_MAX};
+  for (size_t i = 0; i < COUNT(some); i++) {
+    for (size_t j = 0; j < COUNT(some); j++) {
+      figures(some[i], some[j], 0);
+      figures(some[i], some[i], some[j]);
+    }
+  }
+}
+
 /* One call of the three that write a case: what it answers, and what it writes or leaves alone. */
 static void written(struct cadwezin_count_answer got, uint64_t refused, const uint8_t *wanted, size_t length, const char *what) {
   hold(got.refused == refused && got.count == length, what);
@@ -179,7 +232,7 @@ static void moves(void) {
   written(cadwezin_downgrade(old, sizeof old, answer, sizeof answer), 3, NULL, 0, "an old case that would go back");
   written(cadwezin_downgrade(two, sizeof two, answer, sizeof answer), 15, NULL, 0, "a set of two");
   written(cadwezin_downgrade(none, sizeof none, answer, sizeof answer), 14, NULL, 0, "a set of none that would go back");
-  written(cadwezin_upgrade(none, sizeof none, answer, sizeof answer), 4, NULL, 0, "an old case with an empty pattern");
+  written(cadwezin_upgrade(old_none, sizeof old_none, answer, sizeof answer), 4, NULL, 0, "an old case with an empty pattern");
 }
 
 /* One case is written alike, whatever the numbers of its nodes are; E6 and the set of two stand in that way already. */
@@ -351,6 +404,7 @@ int main(void) {
   callers();
   strikes();
   normal_forms();
+  all_figures();
   empty();
   printf("calls: %u answers from C as they should be\n", held);
   return 0;

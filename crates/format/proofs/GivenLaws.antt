@@ -24,7 +24,7 @@ summary-as-tree {b} G =
     let same = tree-summary b in
     record {
       narrow = omega arith;
-      pair = omega arith;
+      three = omega arith;
       whole = G .whole;
       tree = subst (λ (T : Document). IsTree T) (sym same) (G .tree);
       few = subst (λ (T : Document). length T ≤ maxSummary) (sym same) (let l = length-asDocument (summaryIn b) in let f = G .few in omega arith);
@@ -35,7 +35,7 @@ document-as-tree {w} G =
     let same = tree-document w in
     record {
       narrow = omega arith;
-      pair = omega arith;
+      three = omega arith;
       whole = G .whole;
       tree = subst (λ (T : Document). IsTree T) (sym same) (bare-tree (documentOf w) (G .tree));
       few = subst (λ (T : Document). length T ≤ maxDocument) (sym same) (let l = bare-length (documentOf w) in let f = G .few in omega arith);

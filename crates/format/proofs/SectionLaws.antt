@@ -1,7 +1,7 @@
 -- Sections by their fields: how many records a section has, where each field of a record stands, and that it stands inside; the
 -- tables of a case and of a document, a set of patterns, and a tree that may be either, as sections. Assumes nothing.
 use Prim.Native.Nat.{ℕ, suc, _+_, _*_, _≤_, _<_}
-use mathlib.Core.Path.{_≡_, sym, ap, _∙_, subst}
+use mathlib.Core.Path.{_≡_, refl, sym, ap, _∙_, subst}
 use mathlib.Core.List.{List, [], map-map}
 use native.Mathlib.Omega.{arith}
 use native.Mathlib.Nat.{mul-suc, mul-le-mul-left, add-zero}
@@ -9,13 +9,13 @@ use native.Mathlib.Numerals.{add-one}
 use lib.ListN.{length, getD, List·getD-map}
 use Rattle.model.specs.Lists.{upFrom}
 use Rattle.model.specs.Limits.{summaryWidth, patternWidth, documentWidth}
-use Rattle.model.specs.Tree.{DocumentRecord, noDocumentRecord}
+use Rattle.model.specs.Tree.{DocumentRecord, noDocumentRecord, figureOf}
 use Rattle.model.specs.Summary.{SummaryRecord, noSummaryRecord, withoutStrong, asDocument}
 use Rattle.model.specs.Pattern.{PatternRecord, noPatternRecord}
 use Rattle.model.specs.Bytes.{field, section, recordsAt, summaryRecordAt, patternRecordAt, documentRecordAt, sectionEnd, memberAt, setOf, caseOf, documentOf, WholeSection, WholeSet}
 use Rattle.model.proofs.ListLaws.{length-map-upFrom}
 use Rattle.model.proofs.Bytes.{member-next}
-use Rattle.format.specs.Given.{summaryIn, patternAt, withoutFigure, bare, bareRecordAt, treeOf}
+use Rattle.format.specs.Given.{summaryIn, patternAt, withoutFigure, bare, bareRecordAt, treeOf, thirdIn}
 use Rattle.format.proofs.RangeLaws.{getD-map-below}
 
 -- a record of a whole section ends inside
@@ -138,3 +138,7 @@ pub document-field : (w : List ℕ) (get : DocumentRecord → ℕ) (i j : ℕ) �
     → field w (1 + documentWidth * i + j) ≡ get (getD (documentOf w) i noDocumentRecord)
 unfolding documentOf
 document-field w get i j e h = section-field documentRecordAt documentWidth w 0 noDocumentRecord get i j e h
+
+-- a document's figures stand in the third fields
+pub document-third : (w : List ℕ) (v : ℕ) → v < length (documentOf w) → thirdIn documentWidth w v ≡ figureOf (documentOf w) v
+document-third w v h = document-field w (λ r. r .figure) v 2 (λ a. refl) h

@@ -1,5 +1,5 @@
 -- Given data stay bytes: the tables that stand in them, and what a function that reads one asks of its bytes.
-use Prim.Native.Nat.{ℕ, _+_, _≤_, _<_}
+use Prim.Native.Nat.{ℕ, _+_, _*_, _≤_, _<_}
 use mathlib.Core.List.{List, map}
 use lib.ListN.{length}
 use Rattle.model.specs.Limits.{maxSummary, maxPattern, maxMembers, maxDocument, summaryWidth, patternWidth, documentWidth}
@@ -31,6 +31,10 @@ bareRecordAt b at = record { parent = field b at; label = field b (at + 1); figu
 unfoldable pub treeOf : ℕ → List ℕ → Document
 treeOf width t = section bareRecordAt width t 0
 
+-- what stands in the third field of its node v: a document's figure
+abbrev pub thirdIn : ℕ → List ℕ → ℕ → ℕ
+thirdIn width t v = field t (0 + 1 + width * v + 2)
+
 -- the section is whole and its table a tree of few enough nodes
 pub record SummaryGiven (b : List ℕ) : Type 0 where
   pub whole : WholeSection summaryWidth b 0
@@ -56,7 +60,7 @@ pub record DocumentGiven (w : List ℕ) : Type 0 where
 -- of a tree that may be either, with at most `most` nodes
 pub record TreeGiven (width : ℕ) (t : List ℕ) (most : ℕ) : Type 0 where
   pub narrow : width ≤ patternWidth
-  pub pair : 2 ≤ width
+  pub three : 3 ≤ width
   pub whole : WholeSection width t 0
   pub tree : IsTree (treeOf width t)
   pub few : length (treeOf width t) ≤ most

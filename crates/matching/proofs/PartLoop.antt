@@ -20,7 +20,7 @@ use Rattle.model.proofs.TreeLaws.{test-child, child-test, child-lt}
 use Rattle.model.proofs.Masks.{mask-none}
 use Rattle.bits.proofs.MaskLaws.{mask-agree, mask-or, any-cons}
 use Rattle.matching.specs.Matching.{fitsAt, offersAt, offered, partAt}
-use Rattle.matching.specs.Wanted.{deepIn, countIn, Wants, markPin, fitsBy}
+use Rattle.matching.specs.Wanted.{deepIn, countIn, Wants, blockPin, fitsBy}
 use Rattle.matching.specs.Tables.{partTable, AllZero, settleAt}
 use Rattle.matching.proofs.PartLaws.{offered-elim, offered-intro, part-fits}
 use Rattle.matching.proofs.TurnLaws.{offerUp-root, offerUp-parent, entries-front, set-here, set-else}
@@ -192,13 +192,13 @@ module _ {Q : Pattern} {W : Document} {pin : ℕ → ℕ → Bool} {t₀ t : Lis
             other w ne ∙ set-else t v fit w (λ q. omega arith) ∙ s .waiting w (omega arith) ∙ waits w ne
 
 -- the turn that the code takes
-pub settling-step : {Q : Pattern} {W : Document} {w t₀ t t′ : List ℕ} {i : ℕ} (v : ℕ) → Wants Q w → IsTree W → length W ≤ length t₀
-    → Settling Q W (markPin w) t₀ t i → i ≡ suc v → t′ ≡ settleAt W w v t → Settling Q W (markPin w) t₀ t′ v
+pub settling-step : {Q : Pattern} {W : Document} {w t₀ t t′ : List ℕ} {i : ℕ} (figure : ℕ → ℕ) (v : ℕ) → Wants Q w → IsTree W → length W ≤ length t₀
+    → Settling Q W (blockPin w figure) t₀ t i → i ≡ suc v → t′ ≡ settleAt W w (figure v) v t → Settling Q W (blockPin w figure) t₀ t′ v
 unfolding settleAt
-settling-step {Q} {W} {w} {t₀} {t} {t′} {i} v K T room s₀ e new = subst (λ (l : List ℕ). Settling Q W pin t₀ l v) (sym new) (go (eqb v 0) refl)
+settling-step {Q} {W} {w} {t₀} {t} {t′} {i} figure v K T room s₀ e new = subst (λ (l : List ℕ). Settling Q W pin t₀ l v) (sym new) (go (eqb v 0) refl)
   where
     pin : ℕ → ℕ → Bool
-    pin = markPin w
+    pin = blockPin w figure
 
     s : Settling Q W pin t₀ t (suc v)
     s = subst (λ (x : ℕ). Settling Q W pin t₀ t x) e s₀
@@ -207,13 +207,13 @@ settling-step {Q} {W} {w} {t₀} {t} {t′} {i} v K T room s₀ e new = subst (�
     acc = settling-offered T room s
 
     fit : ℕ
-    fit = maskBelow (fitsBy w (labelOf W v) (v + 1) (getD t v 0)) (countIn w)
+    fit = maskBelow (fitsBy w (labelOf W v) (figure v) (v + 1) (getD t v 0)) (countIn w)
 
     offer : ℕ
     offer = bitOr fit (bitAnd (deepIn w) (getD t v 0))
 
     fits : fit ≡ maskBelow (fitsAt Q W pin v (offered Q W pin v)) (length Q)
-    fits = ap (λ (x : ℕ). maskBelow (fitsBy w (labelOf W v) (v + 1) x) (countIn w)) acc ∙ fits-mask K W v (offered Q W pin v)
+    fits = ap (λ (x : ℕ). maskBelow (fitsBy w (labelOf W v) (figure v) (v + 1) x) (countIn w)) acc ∙ fits-mask K W v figure (offered Q W pin v)
 
     part : fit ≡ maskBelow (partAt Q W pin v) (length Q)
     part = fits ∙ mask-agree (fitsAt Q W pin v (offered Q W pin v)) (partAt Q W pin v) (length Q) (λ p l. sym (part-fits Q W pin v p))
@@ -221,7 +221,7 @@ settling-step {Q} {W} {w} {t₀} {t} {t′} {i} v K T room s₀ e new = subst (�
     offers : offer ≡ maskBelow (offersAt Q W pin v (offered Q W pin v)) (length Q)
     offers = (λ j. bitOr (fits j) (bitAnd (deepIn w) (acc j))) ∙ offers-mask K W v pin (offered Q W pin v)
 
-    go : (b : Bool) → eqb v 0 ≡ b → Settling Q W pin t₀ (settleAt W w v t) v
+    go : (b : Bool) → eqb v 0 ≡ b → Settling Q W pin t₀ (settleAt W w (figure v) v t) v
     go true z = rw (offerUp-root (parentOf W v) v offer (set t v fit) (eqb-true v 0 z), settleAt) (step-root T room s fit offer part offers (eqb-true v 0 z))
     go false z =
         let ne : (v ≡ 0) → ⊥ = eqb-false v 0 z in

@@ -15,7 +15,7 @@ use Rattle.model.specs.Pattern.{Pattern}
 use Rattle.model.specs.Bytes.{writtenAtFront}
 use Rattle.bits.proofs.MaskLaws.{mask-agree, mask-and, mask-single}
 use Rattle.matching.specs.Matching.{partAt, leaves, leftTo, standsAt}
-use Rattle.matching.specs.Wanted.{Wants, markPin}
+use Rattle.matching.specs.Wanted.{Wants, blockPin}
 use Rattle.matching.specs.Tables.{partTable, standTable, leftAt, leaveAt}
 use Rattle.matching.proofs.Stands.{left-root, left-step}
 use Rattle.matching.proofs.TurnLaws.{leftAt-root, leftAt-parent, entries-front, front-entry, front-after-entry, front-size, set-here, set-else, up-to}
@@ -66,17 +66,17 @@ module _ {Q : Pattern} {W : Document} {pin : ℕ → ℕ → Bool} {t₀ left₀
       }
 
 -- the turn that the code takes
-pub descending-step : {Q : Pattern} {W : Document} {w left₀ t₀ t left t′ left′ : List ℕ} {v : ℕ} (may : ℕ) (b : List ℕ) → Wants Q w → IsTree W
-    → length W ≤ length b → length W ≤ length left₀ → t₀ ≡ writtenAtFront (partTable Q W (markPin w)) b → Descending Q W (markPin w) t₀ left₀ t left v → v < length W
+pub descending-step : {Q : Pattern} {W : Document} {w left₀ t₀ t left t′ left′ : List ℕ} {v : ℕ} (figure : ℕ → ℕ) (may : ℕ) (b : List ℕ) → Wants Q w → IsTree W
+    → length W ≤ length b → length W ≤ length left₀ → t₀ ≡ writtenAtFront (partTable Q W (blockPin w figure)) b → Descending Q W (blockPin w figure) t₀ left₀ t left v → v < length W
     → may ≡ leftAt (parentOf W v) v left → t′ ≡ set t v (bitAnd may (getD t v 0)) → left′ ≡ set left v (leaveAt w may (bitAnd may (getD t v 0)))
-    → Descending Q W (markPin w) t₀ left₀ t′ left′ (v + 1)
+    → Descending Q W (blockPin w figure) t₀ left₀ t′ left′ (v + 1)
 unfolding partTable standsAt
-descending-step {Q} {W} {w} {left₀} {t₀} {t} {left} {t′} {left′} {v} may b K T room leftRoom front d inside m new leftNew =
+descending-step {Q} {W} {w} {left₀} {t₀} {t} {left} {t′} {left′} {v} figure may b K T room leftRoom front d inside m new leftNew =
     subst₂ (λ (k l : List ℕ). Descending Q W pin t₀ left₀ k l (v + 1)) (sym new) (sym leftNew)
     (descending-next d inside (omega (arith, front-size parts (length W) b room front)) leftRoom (bitAnd may (getD t v 0)) (leaveAt w may (bitAnd may (getD t v 0))) here leave)
   where
     pin : ℕ → ℕ → Bool
-    pin = markPin w
+    pin = blockPin w figure
 
     parts : ℕ → ℕ
     parts v = maskBelow (partAt Q W pin v) (length Q)

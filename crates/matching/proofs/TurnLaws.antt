@@ -1,7 +1,7 @@
 -- Laws of one turn of the passes over a tree, by cases on whether the node is the root, and of the tables that the turns store to.
 -- Assumes nothing.
 use Prim.Native.Nat.{ℕ, _+_, _≤_, _<_}
-use mathlib.Core.Path.{_≡_, refl, sym, ap, _∙_, subst}
+use mathlib.Core.Path.{_≡_, refl, sym, ap, ap₂, _∙_, subst}
 use mathlib.Core.Bool.{Bool, true, false}
 use mathlib.Core.List.{List, map}
 use native.Mathlib.Omega.{arith}
@@ -29,15 +29,15 @@ module _ (u v offer : ℕ) (t : List ℕ) where
   unfolding offerUp
   offerUp-parent e = rw (ne-eqb v 0 e, offerUp)
 
--- what the code stores, with the label and the mask that it reads
-pub settle-stored : (W : Document) (w : List ℕ) (v : ℕ) (t : List ℕ) {t′ : List ℕ} {fit deep label : ℕ}
-    → t′ ≡ offerUp (parentOf W v) v (bitOr fit (bitAnd deep (getD t v 0))) (set t v fit) → fit ≡ maskBelow (fitsBy w label (v + 1) (getD t v 0)) (countIn w)
-    → label ≡ labelOf W v → deep ≡ deepIn w → t′ ≡ settleAt W w v t
+-- what the code stores, with the label, the figure and the mask that it reads
+pub settle-stored : (W : Document) (w : List ℕ) (x v : ℕ) (t : List ℕ) {t′ : List ℕ} {fit deep label figure : ℕ}
+    → t′ ≡ offerUp (parentOf W v) v (bitOr fit (bitAnd deep (getD t v 0))) (set t v fit) → fit ≡ maskBelow (fitsBy w label figure (v + 1) (getD t v 0)) (countIn w)
+    → label ≡ labelOf W v → figure ≡ x → deep ≡ deepIn w → t′ ≡ settleAt W w x v t
 unfolding settleAt
-settle-stored W w v t {t′} {fit} {deep} e f l d = e ∙ (λ i. offerUp (parentOf W v) v (bitOr (same i) (bitAnd (d i) (getD t v 0))) (set t v (same i)))
+settle-stored W w x v t {t′} {fit} {deep} e f l g d = e ∙ (λ i. offerUp (parentOf W v) v (bitOr (same i) (bitAnd (d i) (getD t v 0))) (set t v (same i)))
   where
-    same : fit ≡ maskBelow (fitsBy w (labelOf W v) (v + 1) (getD t v 0)) (countIn w)
-    same = f ∙ ap (λ (x : ℕ). maskBelow (fitsBy w x (v + 1) (getD t v 0)) (countIn w)) l
+    same : fit ≡ maskBelow (fitsBy w (labelOf W v) x (v + 1) (getD t v 0)) (countIn w)
+    same = f ∙ ap₂ (λ (m n : ℕ). maskBelow (fitsBy w m n (v + 1) (getD t v 0)) (countIn w)) l g
 
 module _ (u v : ℕ) (left : List ℕ) where
   pub leftAt-root : v ≡ 0 → leftAt u v left ≡ 1

@@ -7,8 +7,8 @@ use mathlib.Core.List.{List}
 use lib.Dec.{eqb, ltb}
 use lib.ListN.{length, getD}
 use Rattle.model.specs.Lists.{upFrom, keep, anyOf, allOf}
-use Rattle.model.specs.Tree.{Document, parentOf, labelOf}
-use Rattle.model.specs.Pattern.{Pattern, patternParent, patternLabel, descends, position, labelFits}
+use Rattle.model.specs.Tree.{Document, parentOf, labelOf, figureOf}
+use Rattle.model.specs.Pattern.{Pattern, patternParent, patternLabel, descends, position, patternFigure, labelFits, figureFits}
 use Rattle.model.specs.Embeddings.{childTest}
 use Rattle.model.specs.Quick.{hangsFrom}
 
@@ -70,3 +70,7 @@ module _ (Q : Pattern) (W : Document) (pin : ℕ → ℕ → Bool) where
 -- a return node (document 01: a node with a position) stands at its own number in the list r
 unfoldable pub resultPin : Pattern → List ℕ → ℕ → ℕ → Bool
 resultPin Q r p v = eqb (position Q p) 0 || eqb v (getD r (position Q p - 1) 0)
+
+-- a node stands where its least figure fits
+unfoldable pub figurePin : Pattern → Document → ℕ → ℕ → Bool
+figurePin Q W p v = figureFits (patternFigure Q p) (figureOf W v)

@@ -10,9 +10,9 @@ use Rattle.model.specs.Lists.{upFrom, maskBelow}
 use Rattle.model.specs.Tree.{Document, parentOf, labelOf}
 use Rattle.model.specs.Pattern.{Pattern}
 use Rattle.model.specs.Bytes.{writtenAtFront}
-use Rattle.format.specs.Given.{treeOf, TreeGiven}
+use Rattle.format.specs.Given.{treeOf, thirdIn, TreeGiven}
 use Rattle.matching.specs.Matching.{partAt, standsAt}
-use Rattle.matching.specs.Wanted.{deepIn, countIn, Wants, markPin, fitsBy, hangsBy}
+use Rattle.matching.specs.Wanted.{deepIn, countIn, Wants, blockPin, fitsBy, hangsBy}
 
 module _ (Q : Pattern) (W : Document) (pin : ℕ → ℕ → Bool) where
   -- where the part of the pattern from a node down embeds
@@ -33,12 +33,12 @@ TreeLent width t = (most : ℕ) × TreeGiven width t most
 abbrev pub AllZero : List ℕ → Type 0
 AllZero t = (v : ℕ) → getD t v 0 ≡ 0
 
--- the table of the pattern whose block is w, over the tree in t, stands at the front, the rest untouched
+-- the table of the pattern whose block is w, over the tree in t, figures in the third fields, stands at the front, the rest untouched
 abbrev pub HoldsParts : ℕ → List ℕ → List ℕ → List ℕ → List ℕ → Type 0
-HoldsParts width t w before after = (Q : Pattern) → Wants Q w → after ≡ writtenAtFront (partTable Q (treeOf width t) (markPin w)) before
+HoldsParts width t w before after = (Q : Pattern) → Wants Q w → after ≡ writtenAtFront (partTable Q (treeOf width t) (blockPin w (thirdIn width t))) before
 
 abbrev pub HoldsStands : ℕ → List ℕ → List ℕ → List ℕ → List ℕ → Type 0
-HoldsStands width t w before after = (Q : Pattern) → Wants Q w → after ≡ writtenAtFront (standTable Q (treeOf width t) (markPin w)) before
+HoldsStands width t w before after = (Q : Pattern) → Wants Q w → after ≡ writtenAtFront (standTable Q (treeOf width t) (blockPin w (thirdIn width t))) before
 
 -- ---- one turn of the passes over the tree, with t the table as it was and u the parent of v
 
@@ -46,10 +46,10 @@ HoldsStands width t w before after = (Q : Pattern) → Wants Q w → after ≡ w
 unfoldable pub offerUp : ℕ → ℕ → ℕ → List ℕ → List ℕ
 offerUp u v offer t = elim (eqb v 0) [ true ↦ t | false ↦ set t u (bitOr (getD t u 0) offer) ]
 
--- from the last node to the first: node v, where `fit` may stand, takes the place of what it was offered
-unfoldable pub settleAt : Document → List ℕ → ℕ → List ℕ → List ℕ
-settleAt W w v t =
-    let fit : ℕ = maskBelow (fitsBy w (labelOf W v) (v + 1) (getD t v 0)) (countIn w) in
+-- from the last node to the first: node v, with this figure, where `fit` may stand, takes the place of what it was offered
+unfoldable pub settleAt : Document → List ℕ → ℕ → ℕ → List ℕ → List ℕ
+settleAt W w figure v t =
+    let fit : ℕ = maskBelow (fitsBy w (labelOf W v) figure (v + 1) (getD t v 0)) (countIn w) in
     offerUp (parentOf W v) v (bitOr fit (bitAnd (deepIn w) (getD t v 0))) (set t v fit)
 
 -- from the root down: what is left to node v by the nodes above

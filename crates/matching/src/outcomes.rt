@@ -3,6 +3,7 @@
 
 use crate::tables::parts;
 use crate::tables::stands;
+use crate::wanted::ask_figures;
 use crate::wanted::pin;
 use crate::wanted::wanted_of;
 use bits;
@@ -79,6 +80,7 @@ pub fn is_result(case: &[u8], at: usize, w: &[u8], list: &[u8]) -> bool
 {
     let mut block = wanted_of(case, at);
     pin(case, at, list, &mut block);
+    ask_figures(case, at, &mut block);
     let mut table = [0u16; 1024];
     parts(w, DOCUMENT_WIDTH, &block, &mut table);
     bits::has16(table[0], 0)
@@ -90,14 +92,15 @@ pub fn nodes_at(case: &[u8], at: usize, w: &[u8], position: usize, out: &mut [u1
     requires { ⌜ (1 ≤ position) × (position ≤ arity (patternAt (now case) at)) × (length (documentOf (now w)) ≤ length (now out)) ⌝ }
     ensures { λ r. ⌜ Written (nodesAt (patternAt (now (case .entry)) at) (documentOf (now (w .entry))) position) (now (out .entry)) (now (out .exit)) r ⌝ }
 {
-    let block = wanted_of(case, at);
+    let mut block = wanted_of(case, at);
+    ask_figures(case, at, &mut block);
     let mut table = [0u16; 1024];
     let mut left = [0u16; 1024];
     stands(w, DOCUMENT_WIDTH, &block, &mut table, &mut left);
     nodes_with(&table, document_count(w), node_at(case, at, position), out)
 }
 
-// The paths of each node of the pattern (p, at) in the case's summary, as masks.
+// The paths of each node of the pattern (p, at) in the case's summary, as masks. No figure is asked.
 pub fn path_masks(case: &[u8], p: &[u8], at: usize) -> [u64; 16]
     requires { ⌜ SummaryGiven (now case) × PatternGiven (now p) at ⌝ }
     ensures { λ r. ⌜ r ≡ map (pathMask (summaryIn (now (case .entry))) (patternAt (now (p .entry)) at)) (upFrom 0 16) ⌝ }

@@ -4,16 +4,18 @@ use crate::wanted::Wanted;
 use crate::wanted::wanted_count;
 use crate::wanted::wanted_kids;
 use crate::wanted::wanted_label;
+use crate::wanted::wanted_least;
 use crate::wanted::wanted_mark;
 use crate::wanted::wanted_parent;
 use bits;
 use format::field::wide;
+use format::labels::figure_fits;
 use format::labels::label_fits;
 use format::nodes::PatternNode;
 ghost use mathlib.Core.Path.{_≡_};
 ghost use Prim.Native.Nat.{_<_};
 ghost use Rattle.model.specs.Lists.{maskBelow};
-ghost use Rattle.matching.specs.Wanted.{countIn, Wanting, markFits, fitsBy, hangsBy};
+ghost use Rattle.matching.specs.Wanted.{countIn, Wanting, markFits, pinBy, fitsBy, hangsBy};
 
 // A pattern node's mark, 0 for any, fits the mark that is asked.
 fn mark_fits(own: u16, mark: usize) -> bool
@@ -22,29 +24,40 @@ fn mark_fits(own: u16, mark: usize) -> bool
     own == 0 || wide(own) == mark
 }
 
-// Pattern node p may stand at a tree node with this label and mark, where acc is offered from below.
-fn fits_here(wanted: &Wanted, label: u16, mark: usize, acc: u16, p: PatternNode) -> bool
+// Its mark and its least figure let pattern node p stand at a tree node with this figure and mark.
+fn pin_fits(wanted: &Wanted, figure: usize, mark: usize, p: PatternNode) -> bool
     requires { ⌜ p .0 < 16 ⌝ }
-    ensures { λ r. ⌜ r ≡ fitsBy (now (wanted .entry)) label mark acc (p .0) ⌝ }
+    ensures { λ r. ⌜ r ≡ pinBy (now (wanted .entry)) figure mark (p .0) ⌝ }
+{
+    if !mark_fits(wanted_mark(wanted, p), mark) {
+        return false;
+    }
+    figure_fits(wanted_least(wanted, p), figure)
+}
+
+// Pattern node p may stand at a tree node with this label, figure and mark, where acc is offered from below.
+fn fits_here(wanted: &Wanted, label: u16, figure: usize, mark: usize, acc: u16, p: PatternNode) -> bool
+    requires { ⌜ p .0 < 16 ⌝ }
+    ensures { λ r. ⌜ r ≡ fitsBy (now (wanted .entry)) label figure mark acc (p .0) ⌝ }
 {
     if !label_fits(wanted_label(wanted, p), label) {
         return false;
     }
-    if !mark_fits(wanted_mark(wanted, p), mark) {
+    if !pin_fits(wanted, figure, mark, p) {
         return false;
     }
     bits::subset16(wanted_kids(wanted, p), acc)
 }
 
 // The pattern nodes that may stand there.
-pub fn fitting(wanted: &Wanted, label: u16, mark: usize, acc: u16) -> u16
+pub fn fitting(wanted: &Wanted, label: u16, figure: usize, mark: usize, acc: u16) -> u16
     requires { ⌜ Wanting (now wanted) ⌝ }
-    ensures { λ r. ⌜ r ≡ maskBelow (fitsBy (now (wanted .entry)) label mark acc) (countIn (now (wanted .entry))) ⌝ }
+    ensures { λ r. ⌜ r ≡ maskBelow (fitsBy (now (wanted .entry)) label figure mark acc) (countIn (now (wanted .entry))) ⌝ }
 {
     let m = wanted_count(wanted);
     let mut r: u16 = 0;
     for p in 0..m {
-        r = bits::insert_if16(r, p, fits_here(wanted, label, mark, acc, PatternNode(p)));
+        r = bits::insert_if16(r, p, fits_here(wanted, label, figure, mark, acc, PatternNode(p)));
     }
     r
 }

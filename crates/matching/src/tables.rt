@@ -8,12 +8,13 @@ use crate::wanted::wanted_deep;
 use format::tree::tree_count;
 use format::tree::tree_label;
 use format::tree::tree_parent;
+use format::tree::tree_third;
 ghost use mathlib.Core.Path.{_≡_};
 ghost use Prim.Native.Nat.{_≤_, _<_};
 ghost use lib.Bits.{bitAnd};
 ghost use lib.ListN.{length, getD, set};
 ghost use Rattle.model.specs.Tree.{parentOf};
-ghost use Rattle.format.specs.Given.{treeOf};
+ghost use Rattle.format.specs.Given.{treeOf, thirdIn};
 ghost use Rattle.matching.specs.Wanted.{Wanting};
 ghost use Rattle.matching.specs.Tables.{TreeLent, AllZero, HoldsParts, HoldsStands, offerUp, settleAt, leftAt, leaveAt};
 
@@ -32,15 +33,17 @@ fn offer_up(t: &[u8], width: usize, v: usize, offer: u16, table: &mut [u16])
 // Node v takes the place of what its children, all of them settled, offered it, and offers in turn.
 fn settle(t: &[u8], width: usize, v: usize, wanted: &Wanted, table: &mut [u16])
     requires { ⌜ TreeLent width (now t) × (v < length (treeOf width (now t))) × (v < length (now table)) × Wanting (now wanted) ⌝ }
-    ensures { λ _. ⌜ now (table .exit) ≡ settleAt (treeOf width (now (t .entry))) (now (wanted .entry)) v (now (table .entry)) ⌝ }
+    ensures { λ _. ⌜ now (table .exit)
+        ≡ settleAt (treeOf width (now (t .entry))) (now (wanted .entry)) (thirdIn width (now (t .entry)) v) v (now (table .entry)) ⌝ }
 {
     let acc = table[v];
-    let fit = fitting(wanted, tree_label(t, width, v), v + 1, acc);
+    let fit = fitting(wanted, tree_label(t, width, v), tree_third(t, width, v), v + 1, acc);
     table[v] = fit;
     offer_up(t, width, v, fit | (wanted_deep(wanted) & acc), table);
 }
 
-// Where the part of the pattern from a node down embeds, each node where its mark lets it. The table is lent cleared.
+// Where the part of the pattern from a node down embeds, each node where its mark and its least figure let it. The table is lent
+// cleared.
 pub fn parts(t: &[u8], width: usize, wanted: &Wanted, table: &mut [u16])
     requires { ⌜ TreeLent width (now t) × Wanting (now wanted) ⌝ }
     requires { ⌜ (length (treeOf width (now t)) ≤ length (now table)) × AllZero (now table) ⌝ }
@@ -75,8 +78,8 @@ fn descend(v: usize, may: u16, wanted: &Wanted, table: &mut [u16], left: &mut [u
     left[v] = hanging(wanted, here) | (wanted_deep(wanted) & may);
 }
 
-// Where a node stands in a whole embedding, each node where its mark lets it. The table is lent cleared; left takes what each node
-// leaves to its children.
+// Where a node stands in a whole embedding, each node where its mark and its least figure let it. The table is lent cleared; left takes
+// what each node leaves to its children.
 pub fn stands(t: &[u8], width: usize, wanted: &Wanted, table: &mut [u16], left: &mut [u16])
     requires { ⌜ TreeLent width (now t) × Wanting (now wanted) × AllZero (now table) ⌝ }
     requires { ⌜ (length (treeOf width (now t)) ≤ length (now table)) × (length (treeOf width (now t)) ≤ length (now left)) ⌝ }

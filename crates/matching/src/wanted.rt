@@ -1,5 +1,6 @@
 // What the passes over a tree want of a pattern, worked out once. It stands in one block, each thing at its own offset: the mask of
-// the nodes that hang by a descendant edge, the count, and for each node its label, its mark, the mask of its children, its parent.
+// the nodes that hang by a descendant edge, the count, and for each node its label, its mark, the mask of its children, its parent, its
+// least figure.
 
 use crate::masks::deep_mask;
 use crate::masks::kid_masks;
@@ -7,6 +8,7 @@ use format::field::field;
 use format::field::wide;
 use format::nodes::PatternNode;
 use format::pattern::pattern_count;
+use format::pattern::pattern_figure;
 use format::pattern::pattern_label;
 use format::pattern::pattern_parent;
 use format::pattern::pattern_position;
@@ -17,9 +19,9 @@ ghost use Rattle.model.specs.Pattern.{arity};
 ghost use Rattle.model.specs.Bytes.{listOf};
 ghost use Rattle.model.specs.Facts.{PatternFacts};
 ghost use Rattle.format.specs.Given.{patternAt, PatternGiven};
-ghost use Rattle.matching.specs.Wanted.{deepIn, countIn, labelIn, markIn, kidsIn, parentIn, Wants, Unmarked, WantsPinned, markAt, SmallNumbers, withNode};
+ghost use Rattle.matching.specs.Wanted.{deepIn, countIn, labelIn, markIn, kidsIn, parentIn, leastIn, Wants, Unmarked, Unasked, WantsPinned, WantsFigured, markAt, SmallNumbers, withNode};
 
-pub type Wanted = [u16; 80];
+pub type Wanted = [u16; 96];
 
 const DEEP: usize = 0;
 
@@ -32,6 +34,8 @@ const MARKS: usize = 32;
 const KIDS: usize = 48;
 
 const PARENTS: usize = 64;
+
+const LEAST: usize = 80;
 
 // The nodes that hang by a descendant edge.
 pub fn wanted_deep(w: &Wanted) -> u16
@@ -79,6 +83,14 @@ pub fn wanted_parent(w: &Wanted, p: PatternNode) -> PatternNode
     PatternNode(wide(w[PARENTS + p.0]))
 }
 
+// Its least figure, or 0 where none is asked.
+pub fn wanted_least(w: &Wanted, p: PatternNode) -> usize
+    requires { ⌜ p .0 < 16 ⌝ }
+    ensures { λ r. ⌜ r ≡ leastIn (now (w .entry)) (p .0) ⌝ }
+{
+    wide(w[LEAST + p.0])
+}
+
 // What is wanted of node q is put in.
 fn put_node(b: &[u8], at: usize, kids: &[u16; 16], q: PatternNode, w: &mut Wanted)
     requires { ⌜ PatternGiven (now b) at ⌝ }
@@ -91,14 +103,14 @@ fn put_node(b: &[u8], at: usize, kids: &[u16; 16], q: PatternNode, w: &mut Wante
     w[PARENTS + i] = pattern_parent(b, at, q).0 as u16;
 }
 
-// What is wanted of the pattern, with no node marked.
+// What is wanted of the pattern, with no node marked and no figure asked.
 pub fn wanted_of(b: &[u8], at: usize) -> Wanted
     requires { ⌜ PatternGiven (now b) at ⌝ }
-    ensures { λ r. ⌜ Wants (patternAt (now (b .entry)) at) r × Unmarked r ⌝ }
+    ensures { λ r. ⌜ Wants (patternAt (now (b .entry)) at) r × Unmarked r × Unasked r ⌝ }
 {
     let m = pattern_count(b, at);
     let kids = kid_masks(b, at);
-    let mut w = [0u16; 80];
+    let mut w = [0u16; 96];
     w[DEEP] = deep_mask(b, at);
     w[COUNT] = m as u16;
     for q in 0..m {
@@ -127,5 +139,16 @@ pub fn pin(b: &[u8], at: usize, list: &[u8], w: &mut Wanted)
     let m = pattern_count(b, at);
     for q in 0..m {
         w[MARKS + q] = mark_at(pattern_position(b, at, PatternNode(q)), list);
+    }
+}
+
+// The nodes' least figures are asked.
+pub fn ask_figures(b: &[u8], at: usize, w: &mut Wanted)
+    requires { ⌜ PatternGiven (now b) at × Wants (patternAt (now b) at) (now w) ⌝ }
+    ensures { λ _. ⌜ WantsFigured (patternAt (now (b .entry)) at) (now (w .entry)) (now (w .exit)) ⌝ }
+{
+    let m = pattern_count(b, at);
+    for q in 0..m {
+        w[LEAST + q] = pattern_figure(b, at, PatternNode(q)) as u16;
     }
 }

@@ -1,8 +1,8 @@
--- `matching::outcomes::nodes_at` meets its contract: the nodes at a position are those where the node that holds it stands. Assumes nothing.
+-- `matching::outcomes::nodes_at` meets its contract: the nodes at a position are those where the node that holds it stands, figures
+-- asked. Assumes nothing.
 use native.Mathlib.Omega.{arith}
 use borrow.Author.Needs.{needs}
-use Rattle.model.specs.Limits.{maxDocument, documentWidth}
-use Rattle.format.proofs.SectionLaws.{tree-document}
+use Rattle.model.specs.Limits.{maxDocument}
 use Rattle.format.proofs.GivenLaws.{document-as-tree}
 use Rattle.matching.proofs.Answers.{nodes-read}
 use Rattle.matching.proofs.TurnLaws.{zeros-at}
@@ -11,12 +11,12 @@ use Rattle.matching.proofs.outcomes.nodes_at.Tie as tie
 
 stands-requires : tie.Need-stands-requires
 stands-requires c κs =
-    let d = document-as-tree (c .before .before .before .before .before .before .before .pre .0 .2) in
-    (((maxDocument, d), (_, c .before .before .before .wanted-of .ensures .0), zeros-at 1024), (d .few, d .few))
+    let d = document-as-tree (c .before .before .before .before .before .before .before .before .before .pre .0 .2) in
+    (((maxDocument, d), (_, c .before .before .before .ask-figures .ensures .wants), zeros-at 1024), (d .few, d .few))
 
 nodes-with-requires : tie.Need-nodes-with-requires
 nodes-with-requires c κs =
-    let s = c .before .before .before .before .before .before .before .before .before .before .before .before .before .before .pre in
+    let s = c .before .before .before .before .before .before .before .before .before .before .before .before .before .before .before .before .pre in
     let n = c .before .before .document-count .ensures .0 in (
       omega (arith, n, s .0 .2 .few),
       omega (arith, n, s .1 .2),
@@ -27,13 +27,14 @@ nodes-with-requires c κs =
 returns : tie.Need-returns
 returns c =
     let counted = c .before .before .before .before .before in
-    let made = counted .before .before .before .before .before .before .before .before in
+    let asked = counted .before .before .before .before .before .before .before .before in
+    let made = asked .before .before in
     let s = made .before .before .before .before in
-    nodes-read (made .wanted-of .ensures .0) documentWidth (s .args .w .now) _ (tree-document (s .args .w .now)) (s .args .out .now) (made .wanted-of .ensures .1)
-    (s .pre .0 .1) (s .pre .0 .2 .tree) (s .pre .1 .0) (s .pre .1 .1) (counted .before .before .before .before .stands .ensures) (c .before .before .before .before .node-at .ensures)
-    (counted .document-count .ensures .0) (c .before .before .nodes-with .ensures)
+    nodes-read (asked .ask-figures .ensures) (s .args .w .now) _ (s .pre .0 .1) (s .pre .0 .2 .tree) (s .args .out .now) (made .wanted-of .ensures .1) (s .pre .1 .0)
+    (s .pre .1 .1) (counted .before .before .before .before .stands .ensures) (c .before .before .before .before .node-at .ensures) (counted .document-count .ensures .0)
+    (c .before .before .nodes-with .ensures)
 
 pub nodes-at-spec : {M : Type 1} → statement M
 nodes-at-spec =
-    tie.close (tie.spec (λ c κs. search needs) (λ c. search needs) (λ c. search needs) stands-requires (λ c. search needs)
+    tie.close (tie.spec (λ c κs. search needs) (λ c κs. search needs) (λ c. search needs) (λ c. search needs) stands-requires (λ c. search needs)
     (λ c κs. search needs) (λ c κs. search needs) nodes-with-requires (λ c. search needs) returns)

@@ -48,7 +48,7 @@ loop-again c =
     let made = counted .before .before .before .before .before .before .before in
     let s = made .before .before .before in
     filled-step (c .before .before .before .loop .inv) (omega arith) (s .pre .1 .few)
-    (c .stand-mask .ensures ∙ path-read _ (made .wanted-of .ensures .0) summaryWidth (s .args .case .now) _ (made .wanted-of .ensures .1) (tree-summary (s .args .case .now))
+    (c .stand-mask .ensures ∙ path-read _ (made .wanted-of .ensures .0) summaryWidth (s .args .case .now) _ (made .wanted-of .ensures .1) (made .wanted-of .ensures .2) (tree-summary (s .args .case .now))
     (s .pre .0 .tree) (counted .before .before .before .stands .ensures) (counted .summary-count .ensures .0) (omega arith))
 
 returns : tie.Need-returns Inv-loop μ-loop

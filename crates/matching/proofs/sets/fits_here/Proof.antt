@@ -1,5 +1,5 @@
 -- `matching::sets::fits_here` meets its contract: the tests are asked in the definition's order. Assumes nothing.
--- what the two tests were asked of
+-- what the first test was asked of
 use Prim.Native.Nat.{ℕ}
 use mathlib.Core.Path.{_≡_, _∙_, sym, ap}
 use lib.Bits.{bitAnd}
@@ -7,15 +7,12 @@ use lib.Dec.{eqb}
 use borrow.Author.Needs.{needs}
 use borrow.Author.Tests.{not-true, not-false}
 use Rattle.model.specs.Pattern.{labelFits}
-use Rattle.matching.specs.Wanted.{labelIn, markIn, markFits, fitsBy}
+use Rattle.matching.specs.Wanted.{labelIn, fitsBy}
 use Rattle.matching.proofs.sets.fits_here.Statement.{statement}
 use Rattle.matching.proofs.sets.fits_here.Tie as tie
 
 label-told : (c : tie.After-label-fits) → labelFits (labelIn (c .before .before .args .wanted .now) (c .before .before .args .p .0)) (c .before .before .args .label) ≡ c .label-fits .result
 label-told c = sym (ap (λ (x : ℕ). labelFits x (c .before .before .args .label)) (c .before .wanted-label .ensures)) ∙ sym (c .label-fits .ensures)
-
-mark-told : (c : tie.After-mark-fits) → (let s = c .before .before .before .before .before .args in markFits (markIn (s .wanted .now) (s .p .0)) (s .mark) ≡ c .mark-fits .result)
-mark-told c = sym (ap (λ (x : ℕ). markFits x (c .before .before .before .before .before .args .mark)) (c .before .wanted-mark .ensures)) ∙ sym (c .mark-fits .ensures)
 
 returns : tie.Need-returns
 unfolding fitsBy
@@ -26,18 +23,18 @@ returns c =
 returns-2 : tie.Need-returns-2
 unfolding fitsBy
 returns-2 c =
-    let label = label-told (c .before .before .before .before) ∙ not-false _ (c .before .before .before .if1 .left) in
-    let mark = mark-told (c .before) ∙ not-true _ (c .if2 .taken) in
-    rw (label, mark, fitsBy)
+    let label = label-told (c .before .before .before) ∙ not-false _ (c .before .before .if1 .left) in
+    let pin = sym (c .before .pin-fits .ensures) ∙ not-true _ (c .if2 .taken) in
+    rw (label, pin, fitsBy)
 
 returns-3 : tie.Need-returns-3
 unfolding fitsBy
 returns-3 c =
-    let label = label-told (c .before .before .before .before .before .before) ∙ not-false _ (c .before .before .before .before .before .if1 .left) in
-    let mark = mark-told (c .before .before .before) ∙ not-false _ (c .before .before .if2 .left) in
-    rw (label, mark, fitsBy) (c .subset16 .ensures ∙ ap (λ (x : ℕ). eqb (bitAnd x (c .before .before .before .before .before .before .before .before .args .acc)) x) (c .before .wanted-kids .ensures))
+    let label = label-told (c .before .before .before .before .before) ∙ not-false _ (c .before .before .before .before .if1 .left) in
+    let pin = sym (c .before .before .before .pin-fits .ensures) ∙ not-false _ (c .before .before .if2 .left) in
+    rw (label, pin, fitsBy) (c .subset16 .ensures ∙ ap (λ (x : ℕ). eqb (bitAnd x (c .before .before .before .before .before .before .before .args .acc)) x) (c .before .wanted-kids .ensures))
 
 pub fits-here-spec : {M : Type 1} → statement M
 fits-here-spec =
-    tie.close (tie.spec (λ c κs. search needs) (λ c κs. search needs) returns (λ c κs. search needs) (λ c κs. search needs) returns-2
-    (λ c κs. search needs) (λ c κs. search needs) returns-3)
+    tie.close (tie.spec (λ c κs. search needs) (λ c κs. search needs) returns (λ c κs. search needs) returns-2 (λ c κs. search needs)
+    (λ c κs. search needs) returns-3)

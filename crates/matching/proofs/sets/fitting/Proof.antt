@@ -9,10 +9,10 @@ use Rattle.matching.proofs.sets.fitting.Statement.{statement}
 use Rattle.matching.proofs.sets.fitting.Tie as tie
 
 abbrev Inv-loop : tie.InvT-loop
-Inv-loop wanted label mark acc m r₀ p₀ r p = Inserting (fitsBy wanted label mark acc) (countIn wanted) r p
+Inv-loop wanted label figure mark acc m r₀ p₀ r p = Inserting (fitsBy wanted label figure mark acc) (countIn wanted) r p
 
 abbrev μ-loop : tie.MeasureT-loop
-μ-loop wanted label mark acc m r₀ p₀ r p = m - p
+μ-loop wanted label figure mark acc m r₀ p₀ r p = m - p
 
 fits-here-requires : tie.Need-fits-here-requires Inv-loop μ-loop
 fits-here-requires c κs = omega (arith, c .before .before .before .pre .1 .few, c .before .before .before .pre .1 .count)

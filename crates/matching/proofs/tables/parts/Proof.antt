@@ -4,14 +4,14 @@ use Prim.Native.Nat.{_-_}
 use native.Mathlib.Omega.{arith}
 use borrow.Author.Needs.{needs}
 use Rattle.model.specs.Pattern.{Pattern}
-use Rattle.format.specs.Given.{treeOf}
-use Rattle.matching.specs.Wanted.{Wants, markPin}
+use Rattle.format.specs.Given.{treeOf, thirdIn}
+use Rattle.matching.specs.Wanted.{Wants, blockPin}
 use Rattle.matching.proofs.PartLoop.{Settling, settling-start, settling-step, settling-end}
 use Rattle.matching.proofs.tables.parts.Statement.{statement}
 use Rattle.matching.proofs.tables.parts.Tie as tie
 
 abbrev Inv-loop : tie.InvT-loop
-Inv-loop t width wanted table₀ v₀ table v = (Q : Pattern) → Wants Q wanted → Settling Q (treeOf width t) (markPin wanted) table₀ table v
+Inv-loop t width wanted table₀ v₀ table v = (Q : Pattern) → Wants Q wanted → Settling Q (treeOf width t) (blockPin wanted (thirdIn width t)) table₀ table v
 
 abbrev μ-loop : tie.MeasureT-loop
 μ-loop t width wanted table₀ v₀ table v = v
@@ -29,7 +29,7 @@ loop-again : tie.Need-loop-again Inv-loop μ-loop
 loop-again c =
     let turn = c .before .before .before .before .before in
     let s = turn .before .before .before .before in
-    λ Q K. settling-step (turn .loop .v - 1) K (s .pre .0 .0 .1 .tree) (s .pre .1 .0) (turn .loop .inv Q K) (omega arith) (c .before .before .settle .ensures)
+    λ Q K. settling-step (thirdIn (s .args .width) (s .args .t .now)) (turn .loop .v - 1) K (s .pre .0 .0 .1 .tree) (s .pre .1 .0) (turn .loop .inv Q K) (omega arith) (c .before .before .settle .ensures)
 
 same-length : tie.Need-same-length Inv-loop μ-loop
 same-length c = let k = c .before .before .before .before .before .pre .0 .1 in c .before .loop .inv (k .0) (k .1) .size

@@ -5,14 +5,14 @@ use mathlib.Core.Path.{_∙_}
 use native.Mathlib.Omega.{arith}
 use borrow.Author.Needs.{needs}
 use Rattle.model.specs.Pattern.{Pattern}
-use Rattle.format.specs.Given.{treeOf}
-use Rattle.matching.specs.Wanted.{Wants, markPin}
+use Rattle.format.specs.Given.{treeOf, thirdIn}
+use Rattle.matching.specs.Wanted.{Wants, blockPin}
 use Rattle.matching.proofs.StandLoop.{Descending, descending-start, descending-step, descending-end}
 use Rattle.matching.proofs.tables.stands.Statement.{statement}
 use Rattle.matching.proofs.tables.stands.Tie as tie
 
 abbrev Inv-loop : tie.InvT-loop
-Inv-loop t width wanted table₀ left₀ n v₀ table left v = (Q : Pattern) → Wants Q wanted → Descending Q (treeOf width t) (markPin wanted) table₀ left₀ table left v
+Inv-loop t width wanted table₀ left₀ n v₀ table left v = (Q : Pattern) → Wants Q wanted → Descending Q (treeOf width t) (blockPin wanted (thirdIn width t)) table₀ left₀ table left v
 
 abbrev μ-loop : tie.MeasureT-loop
 μ-loop t width wanted table₀ left₀ n v₀ table left v = n - v
@@ -41,7 +41,7 @@ loop-again c =
     let asked = c .before .before .before .before .before .before .before in
     let counted = asked .before .before .before .before in
     let s = counted .before .before .before .before .before .before .before .before in
-    λ Q K. descending-step (asked .left-at .result) (s .args .table .now) K (s .pre .0 .0 .1 .tree) (s .pre .1 .0) (s .pre .1 .1)
+    λ Q K. descending-step (thirdIn (s .args .width) (s .args .t .now)) (asked .left-at .result) (s .args .table .now) K (s .pre .0 .0 .1 .tree) (s .pre .1 .0) (s .pre .1 .1)
     (counted .before .before .before .parts .ensures Q K) (asked .before .before .before .loop .inv Q K) (omega (arith, asked .before .before .loop-test .taken, counted .tree-count .ensures .0))
     (asked .left-at .ensures) (c .before .before .before .before .descend .ensures .0) (c .before .before .before .before .descend .ensures .1)
 
