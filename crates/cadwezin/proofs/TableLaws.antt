@@ -23,7 +23,7 @@ use Rattle.cadwezin.specs.Table.{recordsIn, layoutOf}
 
 -- a record, for numbers past a list's end
 abbrev pub blank : NodeRecord
-blank = nodeRecord (record { parent = 0; summaryNode = 0; label = 0 })
+blank = nodeRecord (record { parent = 0; summaryNode = 0; label = 0; figure = 0 })
 
 -- the table ys once i of the nodes xs are copied
 abbrev pub filled : List NodeRecord → List NodeRecord → ℕ → List NodeRecord

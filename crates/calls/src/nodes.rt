@@ -9,7 +9,7 @@ ghost use Rattle.model.specs.Demands.{NodesAnswered};
 ghost use Rattle.calls.specs.Answers.{nodesOf};
 
 // The nodes at a position in any result, written ascending after their count to the front of the answer buffer. Questions 2 to 8,
-// 10, 12.
+// 10, 17, 12.
 pub fn nodes_call(
     case: &[u8],
     number: u64,

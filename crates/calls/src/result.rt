@@ -8,7 +8,7 @@ ghost use Rattle.model.specs.Demands.{ResultAnswered};
 ghost use Rattle.calls.specs.Answers.{testOf};
 
 // 1 where the list is a result of the pattern in the document: its nodes, as one list, are those at positions 1 to k of some
-// embedding. Questions 3 to 8, 10, 12, 11.
+// embedding whose figures fit. Questions 3 to 8, 10, 17, 12, 11.
 pub fn result_call(case: &[u8], number: u64, document: &[u8], list: &[u8]) -> TestAnswer
     ensures { λ r. ⌜ ResultAnswered (now (case .entry)) number (now (document .entry)) (now (list .entry)) (testOf r) ⌝ }
 {

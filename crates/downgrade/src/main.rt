@@ -7,7 +7,7 @@ use streams::read_all;
 
 // Writes what is told of a case to the stream that it is told for.
 fn tell(case: &[u8]) {
-    let mut out = [0u8; 4096];
+    let mut out = [0u8; 8192];
     let told = downgrade_told(case, &mut out);
     let end = told.count;
     if !io::write_all(told.stream as i32, &out[..end]) {

@@ -32,7 +32,7 @@ fn tell(moved: Moved, out: &mut [u8]) -> Told
 }
 
 // Of an old case from standard input: the set of one that it is.
-pub fn upgrade_told(case: &[u8], out: &mut [u8; 4096]) -> Told
+pub fn upgrade_told(case: &[u8], out: &mut [u8; 8192]) -> Told
     ensures { λ r. ⌜ Filed (upgradeTold (now (case .entry))) (now (out .entry)) (now (out .exit)) r ⌝ }
 {
     let moved = upgrade_call(case, out);
@@ -40,7 +40,7 @@ pub fn upgrade_told(case: &[u8], out: &mut [u8; 4096]) -> Told
 }
 
 // Of a case from standard input: the old case that a set of one goes back to.
-pub fn downgrade_told(case: &[u8], out: &mut [u8; 4096]) -> Told
+pub fn downgrade_told(case: &[u8], out: &mut [u8; 8192]) -> Told
     ensures { λ r. ⌜ Filed (downgradeTold (now (case .entry))) (now (out .entry)) (now (out .exit)) r ⌝ }
 {
     let moved = downgrade_call(case, out);
@@ -48,7 +48,7 @@ pub fn downgrade_told(case: &[u8], out: &mut [u8; 4096]) -> Told
 }
 
 // Of a case from standard input: the same case in its one way of writing.
-pub fn normalise_told(case: &[u8], out: &mut [u8; 4096]) -> Told
+pub fn normalise_told(case: &[u8], out: &mut [u8; 8192]) -> Told
     ensures { λ r. ⌜ Filed (normaliseTold (now (case .entry))) (now (out .entry)) (now (out .exit)) r ⌝ }
 {
     let moved = normalise_call(case, out);

@@ -35,6 +35,24 @@ sets-append l i (x ∷ xs) ys =
     let e : suc i + length xs ≡ i + suc (length xs) = omega arith in
     sets-append (set l i x) (suc i) xs ys ∙ ap (λ (k : ℕ). sets (sets (set l i x) (suc i) xs) k ys) e
 
+-- stores keep a length
+pub stored-size : (out₀ : List ℕ) (a : ℕ) (vs : List ℕ) {out : List ℕ} → out ≡ sets out₀ a vs → length out ≡ length out₀
+stored-size out₀ a vs e = ap length e ∙ length-sets out₀ a vs
+
+-- fields that go on where the last ones ended
+pub fields-run : (out : List ℕ) (at : ℕ) (fs gs : List ℕ) {before after : List ℕ} {to : ℕ} → to ≡ at + length fs → before ≡ sets out (2 * at) (bytesOf fs)
+    → after ≡ sets before (2 * to) (bytesOf gs) → after ≡ sets out (2 * at) (bytesOf (fs ++ gs))
+fields-run out at fs gs {before} {after} {to} e b a =
+    let n : length (bytesOf fs) ≡ 2 * length fs = length-bytes fs in
+    let there : 2 * to ≡ 2 * at + length (bytesOf fs) = omega arith in
+    a ∙ ap₂ (λ (o : List ℕ) (j : ℕ). sets o j (bytesOf gs)) b there ∙ sym (sets-append out (2 * at) (bytesOf fs) (bytesOf gs))
+    ∙ ap (λ (l : List ℕ). sets out (2 * at) l) (sym (bytes-append fs gs))
+
+-- one field, as a run
+pub one-run : (out : List ℕ) (at v : ℕ) {after : List ℕ} → after ≡ sets out (2 * at) (fieldBytes v) → after ≡ sets out (2 * at) (bytesOf (v ∷ []))
+unfolding bytesOf flatMap fieldBytes
+one-run out at v e = e
+
 -- what stands before stores, and where they go
 sets-before : (l : List ℕ) (i : ℕ) (vs : List ℕ) (j : ℕ) → j < i → getD (sets l i vs) j 0 ≡ getD l j 0
 sets-before l i [] j h = refl
@@ -213,20 +231,15 @@ module _ {b : List ℕ} {from n to : ℕ} {b₀ : List ℕ} where
 
   pub copying-step : {out out′ : List ℕ} {i v : ℕ} → Copying b from n to b₀ out i → i < n → v ≡ field b (from + i)
       → out′ ≡ sets out (2 * (to + i)) (fieldBytes v) → Copying b from n to b₀ out′ (i + 1)
-  unfolding bytesOf flatMap fieldBytes
   copying-step {out} {out′} {i} {v} w h read e =
       let fs : List ℕ = fieldsAt b from i in
-      let f : length (bytesOf fs) ≡ 2 * length fs = length-bytes fs in
-      let g : length fs ≡ i = fields-count b from i in
-      let there : 2 * (to + i) ≡ 2 * to + length (bytesOf fs) = omega arith in
+      let there : to + i ≡ to + length fs = ap (λ (k : ℕ). to + k) (sym (fields-count b from i)) in
       record {
         turns = omega arith;
         size = ap length e ∙ length-sets out (2 * (to + i)) (fieldBytes v) ∙ w .size;
         bytes =
-            e ∙ ap₂ (λ (l : List ℕ) (k : ℕ). sets l k (fieldBytes v)) (w .bytes) there
-            ∙ sym (sets-append b₀ (2 * to) (bytesOf fs) (fieldBytes v))
-            ∙ ap (λ (x : ℕ). sets b₀ (2 * to) (bytesOf fs ++ fieldBytes x)) read
-            ∙ ap (λ (l : List ℕ). sets b₀ (2 * to) l) (sym (ap bytesOf (fields-last b from i) ∙ bytes-append fs (field b (from + i) ∷ [])));
+            fields-run b₀ to fs (v ∷ []) there (w .bytes) (one-run out (to + i) v e)
+            ∙ ap (λ (l : List ℕ). sets b₀ (2 * to) (bytesOf l)) (ap (λ (x : ℕ). fs ++ (x ∷ [])) read ∙ sym (fields-last b from i));
       }
 
   pub copying-end : {out : List ℕ} {i : ℕ} → Copying b from n to b₀ out i → n ≤ i → out ≡ sets b₀ (2 * to) (bytesOf (fieldsAt b from n))

@@ -1,19 +1,20 @@
 -- An accepted list is an embedding of the pattern that the call names, so what is read is what laying out asks for. Assumes nothing.
 use Prim.Native.Nat.{ℕ, _/_, _≤_, _<_}
 use mathlib.Core.Path.{_≡_, sym, ap, ap₂, _∙_, subst}
-use mathlib.Core.List.{List, map}
+use mathlib.Core.List.{List}
 use native.Mathlib.Omega.{arith}
 use lib.ListN.{length, getD, take}
 use Rattle.model.specs.Limits.{maxPattern}
 use Rattle.model.specs.Pattern.{Pattern, SummaryEmbedding}
 use Rattle.model.specs.Embeddings.{imageIn}
+use Rattle.model.specs.Facts.{FewFigures}
 use Rattle.model.specs.Bytes.{caseOf, listOf, writtenAtFront}
 use Rattle.model.specs.Canonical.{Spot, canonicalSpots}
 use Rattle.model.specs.Questions.{selected}
-use Rattle.model.specs.Calls.{laidRecord}
+use Rattle.model.specs.Calls.{laidRecords}
 use Rattle.model.proofs.Bytes.{front-length, front-written}
 use Rattle.model.proofs.CallFacts.{LayoutFacts}
-use Rattle.model.proofs.CaseFacts.{selected-facts}
+use Rattle.model.proofs.CaseFacts.{selected-facts, selected-figures}
 use Rattle.model.proofs.Embeddings.{embeddings-sound}
 use Rattle.format.specs.Given.{summaryIn, patternAt}
 use Rattle.format.proofs.GivenLaws.{given-summary}
@@ -60,6 +61,9 @@ module _ {b : List ℕ} {s : ℕ} {l : List ℕ} {k : ℕ} (f : LayoutFacts b s 
               (subst (λ (es : List ℕ). SummaryEmbedding (caseOf b .summary) (selected (caseOf b) s) (imageIn es)) (sym list-back) (embedded .1));
         }
 
+    pub list-figures : FewFigures (patternAt b at)
+    list-figures = subst FewFigures same (selected-figures (caseOf b) s (f .case .facts) (f .number))
+
     -- ---- what is then laid out
 
     spots : canonicalSpots (summaryIn b) (patternAt b at) (embeddingIn b at images) ≡ laidNodes b s l
@@ -69,8 +73,8 @@ module _ {b : List ℕ} {s : ℕ} {l : List ℕ} {k : ℕ} (f : LayoutFacts b s 
       pub laid-count : r .count ≡ length (laidNodes b s l)
       laid-count = w .counted ∙ ap (λ (T : List Spot). length T) spots
 
-      pub laid-read : ((i : ℕ) → getD b i 0 < 256) → laidIn bytes on (r .count) ≡ map (laidRecord (summaryIn b)) (laidNodes b s l)
+      pub laid-read : ((i : ℕ) → getD b i 0 < 256) → laidIn bytes on (r .count) ≡ laidRecords (summaryIn b) (selected (caseOf b) s) (listOf l)
       laid-read small =
           ap (laidIn bytes on) (w .counted)
-          ∙ records-laid (summaryIn b) (patternAt b at) (embeddingIn b at images) bytes on on₀ (back-document list-embedded small w) (w .nodes)
-          ∙ ap (map (laidRecord (summaryIn b))) spots
+          ∙ records-laid (summaryIn b) (patternAt b at) (embeddingIn b at images) bytes on on₀ (back-document list-embedded small list-figures w) (w .nodes)
+          ∙ ap₂ (laidRecords (summaryIn b)) (sym same) list-back

@@ -5,27 +5,27 @@ use mathlib.Core.Path.{_≡_, sym, ap, ap₂, _∙_, subst}
 use mathlib.Core.Bool.{Bool, true, false}
 use mathlib.Core.List.{List, [], _∷_, _++_, map, map-map, map-id}
 use native.Mathlib.Omega.{arith}
-use native.Mathlib.Nat.{zero-add}
 use lib.ListN.{length, getD, take, length-map, length-replicate}
 use borrow.Author.Tests.{eq-eqb, ne-eqb, le-leb}
 use Rattle.model.specs.Lists.{upFrom}
 use Rattle.model.specs.Limits.{minTable, maxCanonical}
-use Rattle.model.specs.Tree.{Document, parentOf, labelOf}
+use Rattle.model.specs.Tree.{Document, parentOf, labelOf, figureOf}
 use Rattle.model.specs.Summary.{Summary}
 use Rattle.model.specs.Pattern.{Pattern}
-use Rattle.model.specs.Canonical.{Spot, rootSpot, spotAt, canonicalSpots, canonical}
+use Rattle.model.specs.Canonical.{Spot, rootSpot, spotAt, canonicalSpots, canonical, ownNodes, ownFigure}
 use Rattle.model.specs.Bytes.{caseOf, documentOf, listOf, writtenAtFront}
 use Rattle.model.specs.Questions.{selected, tableLargeEnough, patternGiven, isSummaryEmbedding, ask, refusal, caseQuestions, layoutRefusal}
-use Rattle.model.specs.Calls.{LaidRecord, laidRecord, LayoutOutcome, layoutAccepted, layoutCall}
+use Rattle.model.specs.Calls.{LaidRecord, laidRecord, laidRecords, LayoutOutcome, layoutAccepted, layoutCall}
 use Rattle.model.proofs.ListLaws.{getD-map}
-use Rattle.model.proofs.Bytes.{map-range, front-written, front-none}
+use Rattle.model.proofs.Bytes.{front-written, front-none}
 use Rattle.model.proofs.Calls.{by-number, layout-refused, layout-accepted}
-use Rattle.model.proofs.Demands.{layout-answered}
-use Rattle.model.proofs.SpotLaws.{spot-parent, spot-label}
-use Rattle.model.proofs.Canonical.{canonical-small}
+use Rattle.model.proofs.Demands.{length-laid, layout-answered}
+use Rattle.model.proofs.SpotLaws.{spot-parent, spot-label, spot-figure}
+use Rattle.model.proofs.Canonical.{length-canonical, canonical-small}
 use Rattle.model.proofs.CallFacts.{accepted-layout}
 use Rattle.model.proofs.CaseFacts.{selected-facts}
 use Rattle.model.proofs.Embeddings.{embeddings-sound}
+use Rattle.format.proofs.RangeLaws.{map-below-ext}
 use Rattle.format.proofs.FrontLaws.{front-getD}
 use Rattle.refusals.proofs.AcceptedLaws.{selected-size}
 use Rattle.format.specs.declared.nodes.DocumentNode.{DocumentNode}
@@ -38,11 +38,11 @@ use Rattle.laying.specs.Records.{nodeRecord, recordOf, laidAt, laidIn, b
 
 -- what a number past the last record reads as
 abbrev noRecord : LaidRecord
-noRecord = record { parent = 0; summaryNode = 0; label = 0 }
+noRecord = record { parent = 0; summaryNode = 0; label = 0; figure = 0 }
 
-pub record-made : {p : DocumentNode} {a : SummaryNode} {l : ℕ} (w on : List ℕ) (i : ℕ) → p .0 ≡ parentOf (documentOf w) i → a .0 ≡ getD on i 0 → l ≡ labelOf (documentOf w) i
-    → _≡_ {A = NodeRecord} (record { parent = p; at = a; label = l }) (nodeRecord (laidAt w on i))
-record-made w on i p a l = λ k. record { parent = record { 0 = p k }; at = record { 0 = a k }; label = l k }
+pub record-made : {p : DocumentNode} {a : SummaryNode} {l f : ℕ} (w on : List ℕ) (i : ℕ) → p .0 ≡ parentOf (documentOf w) i → a .0 ≡ getD on i 0 → l ≡ labelOf (documentOf w) i
+    → f ≡ figureOf (documentOf w) i → _≡_ {A = NodeRecord} (record { parent = p; at = a; label = l; figure = f }) (nodeRecord (laidAt w on i))
+record-made w on i p a l f = λ k. record { parent = record { 0 = p k }; at = record { 0 = a k }; label = l k; figure = f k }
 
 pub length-blank : length blankNodes ≡ minTable
 unfolding blankNodes
@@ -54,26 +54,28 @@ at-front w on n = ap (λ (rs : List NodeRecord). writtenAtFront rs blankNodes) (
 
 -- of a canonical document and its nodes' summary nodes they are the model's
 pub records-laid : (S : Summary) (P : Pattern) (es w on on₀ : List ℕ) → documentOf w ≡ canonical S P es → on ≡ writtenAtFront (map (λ s. s .at) (canonicalSpots S P es)) on₀
-    → laidIn w on (length (canonicalSpots S P es)) ≡ map (laidRecord S) (canonicalSpots S P es)
-unfolding canonical
-records-laid S P es w on on₀ d o =
-    ap (λ (k : ℕ). laidIn w on k) (sym (length-map T (laidRecord S)))
-    ∙ map-range (laidAt w on) noRecord (map (laidRecord S) T) 0 (λ j k. each j (subst (λ (m : ℕ). j < m) (length-map T (laidRecord S)) k))
+    → laidIn w on (length (canonicalSpots S P es)) ≡ laidRecords S P es
+unfolding canonical laidRecords
+records-laid S P es w on on₀ d o = map-below-ext (laidAt w on) (laidRecord S F T) (length T) each
   where
     T : List Spot
     T = canonicalSpots S P es
+
+    F : ℕ → ℕ
+    F = ownFigure P (ownNodes S P es)
 
     on-node : (j : ℕ) → j < length T → getD on j 0 ≡ spotAt T j
     on-node j k =
         let n : length (map (λ (s : Spot). s .at) T) ≡ length T = length-map T (λ s. s .at) in
         ap (λ (x : List ℕ). getD x j 0) o ∙ front-getD (map (λ (s : Spot). s .at) T) on₀ j 0 (omega arith) ∙ getD-map (λ (s : Spot). s .at) T j rootSpot 0 k
 
-    each : (j : ℕ) → j < length T → laidAt w on (0 + j) ≡ getD (map (laidRecord S) T) j noRecord
+    each : (j : ℕ) → j < length T → laidAt w on j ≡ laidRecord S F T j
     each j k =
-        let p = ap (λ (W : Document). parentOf W j) d ∙ spot-parent S T j k in
-        let l = ap (λ (W : Document). labelOf W j) d ∙ spot-label S T j k in
+        let p = ap (λ (W : Document). parentOf W j) d ∙ spot-parent S F T j k in
+        let l = ap (λ (W : Document). labelOf W j) d ∙ spot-label S F T j k in
+        let f = ap (λ (W : Document). figureOf W j) d ∙ spot-figure S F T j k in
         let a = on-node j k in
-        ap (laidAt w on) (zero-add j) ∙ (λ i. record { parent = p i; summaryNode = a i; label = l i }) ∙ sym (getD-map (laidRecord S) T j rootSpot noRecord k)
+        λ i. record { parent = p i; summaryNode = a i; label = l i; figure = f i }
 
 -- ---- the layout
 
@@ -90,27 +92,26 @@ module _ (b : List ℕ) (s : ℕ) (l : List ℕ) where
 
   module _ (n : ℕ) where
     chosen : Bool → List LaidRecord
-    chosen x = elim x [ true ↦ map (laidRecord (caseOf b .summary)) (laidNodes b s l) | false ↦ [] ]
+    chosen x = elim x [ true ↦ laidRecords (caseOf b .summary) (selected (caseOf b) s) (listOf l) | false ↦ [] ]
 
     pub laid-nothing : (layoutRefusal b s l n ≡ 0 → ⊥) → laidFor b s l n ≡ []
     unfolding laidFor chosen
     laid-nothing z = ap chosen (ne-eqb (layoutRefusal b s l n) 0 z)
 
     module _ (e : layoutRefusal b s l n ≡ 0) where
-      pub laid-records : laidFor b s l n ≡ map (laidRecord (caseOf b .summary)) (laidNodes b s l)
+      pub laid-records : laidFor b s l n ≡ laidRecords (caseOf b .summary) (selected (caseOf b) s) (listOf l)
       unfolding laidFor chosen
       laid-records = ap chosen (eq-eqb (layoutRefusal b s l n) 0 e)
 
       pub laid-number : length (laidFor b s l n) ≡ length (laidNodes b s l)
-      laid-number = ap length laid-records ∙ length-map (laidNodes b s l) (laidRecord (caseOf b .summary))
+      laid-number = ap length laid-records ∙ length-laid (caseOf b .summary) (selected (caseOf b) s) (listOf l)
 
       -- at most 1,009 nodes
       pub nodes-few : length (laidNodes b s l) ≤ maxCanonical
-      unfolding canonical
       nodes-few =
           let f = accepted-layout b s l n e in
           let p = selected-facts (caseOf b) s (f .case .facts) (f .number) .pattern .tree in
-          subst (λ (k : ℕ). k ≤ maxCanonical) (length-map (laidNodes b s l) _)
+          subst (λ (k : ℕ). k ≤ maxCanonical) (length-canonical (caseOf b .summary) (selected (caseOf b) s) (listOf l))
           (canonical-small (caseOf b .summary) (selected (caseOf b) s) (listOf l) (f .case .facts .summary .tree) p (embeddings-sound p (f .case .facts .summary .tree) (f .embedding) .1)
           (f .case .facts .summarySize) (selected-size (f .case) s (f .number)))
 
@@ -157,7 +158,7 @@ module _ (b : List ℕ) (s : ℕ) (l : List ℕ) where
 
   -- the records read off the document are those laid out
   pub laid-accepted : {count : ℕ} {nodes : List NodeRecord} {rs : List LaidRecord} → layoutRefusal b s l minTable ≡ 0 → count ≡ length (laidNodes b s l)
-      → nodes ≡ atFront rs → rs ≡ map (laidRecord (caseOf b .summary)) (laidNodes b s l) → LaidBy b s l minTable (record { refused = 0; count = count; nodes = nodes })
+      → nodes ≡ atFront rs → rs ≡ laidRecords (caseOf b .summary) (selected (caseOf b) s) (listOf l) → LaidBy b s l minTable (record { refused = 0; count = count; nodes = nodes })
   laid-accepted e n f r =
       laid-by minTable (sym e) (n ∙ sym (laid-number minTable e)) (f ∙ ap (λ (rs : List LaidRecord). atFront rs) (r ∙ sym (laid-records minTable e)))
 

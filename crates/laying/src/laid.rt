@@ -1,6 +1,7 @@
 // The layout of the call "lay out a trial" by value: the nodes' records in an array, for a table of records that a caller lends.
 
 use canonical::lay_out;
+use format::document::document_figure;
 use format::document::document_label;
 use format::document::document_parent;
 use format::list::read_list;
@@ -18,12 +19,13 @@ ghost use Rattle.model.specs.Bytes.{documentOf, WholeSection};
 ghost use Rattle.model.specs.Questions.{layoutRefusal};
 ghost use Rattle.laying.specs.Records.{nodeRecord, laidAt, laidIn, blankNodes, atFront, LaidBy};
 
-// A record of the lent table: its parent, its summary node (document 01: outline node) and its label.
+// A record of the lent table: its parent, its summary node (document 01: outline node), its label and its figure.
 #[repr(C)]
 pub struct NodeRecord {
     pub parent: DocumentNode,
     pub at: SummaryNode,
     pub label: u16,
+    pub figure: u16,
 }
 
 // The refusal's number, or 0; how many nodes are laid out; and their records, at the front.
@@ -41,7 +43,13 @@ fn record_at(w: &[u8], on: &[u16], i: usize) -> NodeRecord
     let parent = document_parent(w, DocumentNode(i));
     let at = summary_of(on, DocumentNode(i));
     let label = document_label(w, DocumentNode(i));
-    NodeRecord { parent, at, label }
+    let figure = document_figure(w, DocumentNode(i));
+    NodeRecord {
+        parent,
+        at,
+        label,
+        figure,
+    }
 }
 
 // Nothing laid out.
@@ -52,6 +60,7 @@ fn blank_nodes() -> [NodeRecord; 1024]
         parent: DocumentNode(0),
         at: SummaryNode(0),
         label: 0,
+        figure: 0,
     };
     [blank; 1024]
 }
@@ -80,7 +89,7 @@ fn accepted_layout(case: &[u8], number: u64, list: &[u8]) -> Laid
     let strong = strong_table(case);
     let mut images = [0u16; 16];
     read_list(list, &mut images);
-    let mut document = [0u8; 4096];
+    let mut document = [0u8; 8192];
     let mut on = [0u16; 1024];
     let count = lay_out(case, &strong, at, &images, &mut document, &mut on).count;
     let nodes = records_of(&document, &on, count);

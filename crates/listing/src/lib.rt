@@ -36,10 +36,10 @@ fn answer_text(refused: u64, tried: u64, answer: &[u8], out: &mut [u8]) -> usize
 }
 
 // The text of a case from standard input, with limit 1,000,000, caller 0 and its tally 0, and how many bytes it has.
-pub fn order_text(case: &[u8], out: &mut [u8; 404]) -> usize
+pub fn order_text(case: &[u8], out: &mut [u8; 484]) -> usize
     ensures { λ r. ⌜ Printed (orderPrinted (now (case .entry))) (now (out .entry)) (now (out .exit)) r ⌝ }
 {
-    let mut answer = [0u8; 4096];
+    let mut answer = [0u8; 8192];
     let told = minimise_call(case, 1000000, 0, 0, &mut answer);
     answer_text(told.refused, told.tried, &answer, out)
 }

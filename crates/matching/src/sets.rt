@@ -36,7 +36,14 @@ fn pin_fits(wanted: &Wanted, figure: usize, mark: usize, p: PatternNode) -> bool
 }
 
 // Pattern node p may stand at a tree node with this label, figure and mark, where acc is offered from below.
-fn fits_here(wanted: &Wanted, label: u16, figure: usize, mark: usize, acc: u16, p: PatternNode) -> bool
+fn fits_here(
+    wanted: &Wanted,
+    label: u16,
+    figure: usize,
+    mark: usize,
+    acc: u16,
+    p: PatternNode,
+) -> bool
     requires { ⌜ p .0 < 16 ⌝ }
     ensures { λ r. ⌜ r ≡ fitsBy (now (wanted .entry)) label figure mark acc (p .0) ⌝ }
 {
@@ -57,7 +64,11 @@ pub fn fitting(wanted: &Wanted, label: u16, figure: usize, mark: usize, acc: u16
     let m = wanted_count(wanted);
     let mut r: u16 = 0;
     for p in 0..m {
-        r = bits::insert_if16(r, p, fits_here(wanted, label, figure, mark, acc, PatternNode(p)));
+        r = bits::insert_if16(
+            r,
+            p,
+            fits_here(wanted, label, figure, mark, acc, PatternNode(p)),
+        );
     }
     r
 }

@@ -37,7 +37,13 @@ fn settle(t: &[u8], width: usize, v: usize, wanted: &Wanted, table: &mut [u16])
         ≡ settleAt (treeOf width (now (t .entry))) (now (wanted .entry)) (thirdIn width (now (t .entry)) v) v (now (table .entry)) ⌝ }
 {
     let acc = table[v];
-    let fit = fitting(wanted, tree_label(t, width, v), tree_third(t, width, v), v + 1, acc);
+    let fit = fitting(
+        wanted,
+        tree_label(t, width, v),
+        tree_third(t, width, v),
+        v + 1,
+        acc,
+    );
     table[v] = fit;
     offer_up(t, width, v, fit | (wanted_deep(wanted) & acc), table);
 }

@@ -7,7 +7,7 @@ use streams::read_all;
 
 // Writes the text of a case.
 fn tell(case: &[u8]) {
-    let mut out = [0u8; 404];
+    let mut out = [0u8; 484];
     let end = order_text(case, &mut out);
     if !io::write_all(1, &out[..end]) {
         io::write_all(2, b"minimise: the answer can't be written\n");

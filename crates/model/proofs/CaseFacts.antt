@@ -243,11 +243,18 @@ first-bounds b y q h =
     let kept : patternKept (caseOf b .first) ≡ true = and-left _ _ (y .1 .1 .1 .1 .1 .0) in
     (edge-bound (caseOf b .first) kept q h, position-bound (caseOf b .first) kept q h)
 
--- a selection of an accepted case keeps the rules and is as large as it may be, whichever it is
-pub selected-facts : (c : Case) (s : ℕ) → CaseFacts c → patternGiven c s ≡ true → MemberFacts (c .first) (selected c s)
+-- what holds of the first selection and of every member holds of the one that a number gives
+selected-each : (Ok : Pattern → Type 0) (c : Case) (s : ℕ) → Ok (c .first) → ((Q : Pattern) → List·Memᴰ Q (c .members) → Ok Q) → patternGiven c s ≡ true → Ok (selected c s)
 unfolding patternGiven
-selected-facts c s f e = go (eqb s 1) refl (between-facts 1 (length (c .members) + 1) s e)
+selected-each Ok c s first members e = go (eqb s 1) refl (between-facts 1 (length (c .members) + 1) s e)
   where
-    go : (t : Bool) → eqb s 1 ≡ t → (1 ≤ s) × (s ≤ length (c .members) + 1) → MemberFacts (c .first) (elim t as (λ _. Pattern) [ true ↦ c .first | false ↦ getD (c .members) (s - 2) [] ])
-    go true k r = record { pattern = f .first; sameArity = refl; size = f .firstSize }
-    go false k r = let n : s ≢ 1 = eqb-false s 1 k in f .members (getD (c .members) (s - 2) []) (mem-at (c .members) (s - 2) [] (omega arith))
+    go : (t : Bool) → eqb s 1 ≡ t → (1 ≤ s) × (s ≤ length (c .members) + 1) → Ok (elim t as (λ _. Pattern) [ true ↦ c .first | false ↦ getD (c .members) (s - 2) [] ])
+    go true k r = first
+    go false k r = let n : s ≢ 1 = eqb-false s 1 k in members (getD (c .members) (s - 2) []) (mem-at (c .members) (s - 2) [] (omega arith))
+
+-- so a selection of an accepted case keeps the rules, is as large as it may be, and has small figures, whichever it is
+pub selected-facts : (c : Case) (s : ℕ) → CaseFacts c → patternGiven c s ≡ true → MemberFacts (c .first) (selected c s)
+selected-facts c s f e = selected-each (MemberFacts (c .first)) c s (record { pattern = f .first; sameArity = refl; size = f .firstSize }) (f .members) e
+
+pub selected-figures : (c : Case) (s : ℕ) → CaseFacts c → patternGiven c s ≡ true → FewFigures (selected c s)
+selected-figures c s f e = selected-each FewFigures c s (f .firstFigures) (f .memberFigures) e

@@ -107,7 +107,7 @@ paths-told b s e =
     (paths-accepted-told (f .case .facts .summary) (selected-facts (caseOf b) s (f .case .facts) (f .number) .pattern))
 
 -- as many records as the table has nodes
-length-laid : (S : Summary) (P : Pattern) (es : List ℕ) → length (laidRecords S P es) ≡ length (canonicalSpots S P es)
+pub length-laid : (S : Summary) (P : Pattern) (es : List ℕ) → length (laidRecords S P es) ≡ length (canonicalSpots S P es)
 unfolding laidRecords
 length-laid S P es = length-map-upFrom (laidRecord S (ownFigure P (ownNodes S P es)) (canonicalSpots S P es)) 0 (length (canonicalSpots S P es))
 

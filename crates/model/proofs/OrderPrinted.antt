@@ -65,7 +65,7 @@ module _ (b : List ℕ) {before : List ℕ} (size : length before ≡ minBuffer)
     accepted-small : length (orderPrinted b) ≤ maxOrderText
     accepted-small = subst (λ (x : List ℕ). length x ≤ maxOrderText) (sym by-struck) (order-fits (o .answer .tried) (told .limited) order-orderable)
 
--- the text of any bytes has at most 404 bytes
+-- the text of any bytes has at most 484 bytes
 pub order-small : (b : List ℕ) → AreBytes b → length (orderPrinted b) ≤ maxOrderText
 order-small b small =
     by-number (minimiseRefusal b maxLimit programCaller 0 (length blank))

@@ -1,5 +1,5 @@
 -- What is printed: a number's decimal text is read back as that number, has digits only and no needless zero; the verdict's whole text has
--- at most 21,263 bytes and a printed order at most 404, since numbers and labels have few digits and a trial volume and a selection few
+-- at most 26,308 bytes and a printed order at most 484, since numbers and labels have few digits and a trial volume and a selection few
 -- nodes. Assumes nothing.
 use Prim.Native.Nat.{ℕ, zero, suc, _+_, _-_, _*_, _/_, _%_, _^_, _≤_, _<_}
 use mathlib.Core.Path.{_≡_, refl, sym, ap, _∙_, subst}

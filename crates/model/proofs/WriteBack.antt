@@ -168,14 +168,14 @@ pattern-rewritable b at =
     let n = next-fields at in
     record { ends = refl; fields = λ i. field b at ∷ field b (n .0 i) ∷ field b (n .1 i) ∷ field b (n .2 i) ∷ field b (n .3 i) ∷ [] }
 
-old-rewritable : Rewritable oldRecordAt oldRecordFields oldWidth
+pub old-rewritable : Rewritable oldRecordAt oldRecordFields oldWidth
 unfolding upFrom
 old-rewritable b at =
     let n = next-fields at in
     record { ends = refl; fields = λ i. field b at ∷ field b (n .0 i) ∷ field b (n .1 i) ∷ field b (n .2 i) ∷ [] }
 
 module _ (b : List ℕ) where
-  summary-again : Spans b 0 (sectionFields summaryFields (section summaryRecordAt summaryWidth b 0)) (firstAt b)
+  pub summary-again : Spans b 0 (sectionFields summaryFields (section summaryRecordAt summaryWidth b 0)) (firstAt b)
   summary-again = section-again summaryRecordAt summaryFields summaryWidth summary-rewritable b 0
 
   pub pattern-again : (at : ℕ) → Spans b at (sectionFields patternFields (section patternRecordAt patternWidth b at)) (sectionEnd patternWidth b at)

@@ -51,7 +51,7 @@ module _ (b : List ℕ) (small : AreBytes b) where
     unfolding oldQuestions
     upgrade-fits z =
         let f = accepted-upgrade b (length buffer) (sym e ∙ z) in
-        let few : length (upgraded b) ≤ 648 = upgraded-small b small (f .asked .0) (f .asked .1 .0) in
+        let few : length (upgraded b) ≤ 712 = upgraded-small b small (f .asked .0) (f .asked .1 .0) in
         (f .asked .0, omega (arith, f .buffer))
 
     pub upgrade-yes : n ≡ 0 → {count : ℕ} {after : List ℕ} → Out (upgraded b) buffer after count

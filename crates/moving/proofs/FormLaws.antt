@@ -1,122 +1,160 @@
--- The two forms written one from the other: what is copied, with the set's count between or without it, are the fields of the other
--- form, so the bytes are its bytes; and how many they are. Assumes nothing.
-use Prim.Native.Nat.{ℕ, _+_, _-_, _*_, _/_, _≤_, _<_}
+-- The two forms written one from the other: what is written are the fields of the other form, so the bytes are its bytes; how many they
+-- are, and that they have room. Assumes nothing.
+use Prim.Native.Nat.{ℕ, _+_, _*_, _≤_, _<_}
 use mathlib.Core.Path.{_≡_, sym, ap, ap₂, _∙_, subst}
 use mathlib.Core.Bool.{true}
 use mathlib.Core.List.{List, [], _∷_, _++_, append-assoc}
 use native.Mathlib.Omega.{arith}
-use lib.ListN.{length, length-append}
+use native.Mathlib.Nat.{zero-add}
+use lib.ListN.{length, getD, length-append}
 use lib.Seq.{sets}
-use Rattle.model.specs.Bytes.{fieldBytes, bytesOf, fieldsAt, setAt, caseEnd, caseOf, caseFields, encodeCase, isWholeCase}
-use Rattle.model.specs.OldForm.{secondAt, oldEnd, oldCaseOf, oldFields, encodeOldCase, oneOf, oldOf, oldWhole}
+use Rattle.model.specs.Limits.{summaryWidth, patternWidth}
+use Rattle.model.specs.Pattern.{Pattern}
+use Rattle.model.specs.Bytes.{field, fieldBytes, bytesOf, fieldsAt, section, summaryRecordAt, summaryFields, sectionFields, firstAt, setAt, setOf, memberAt, caseOf, caseFields, encodeCase, isWholeCase, WholeSection}
+use Rattle.model.specs.OldForm.{oldWidth, oldRecordAt, oldRecordFields, newPattern, oldPattern, secondAt, oldEnd, oldCaseOf, oldFields, encodeOldCase, oneOf, oldOf, oldWhole}
 use Rattle.model.specs.Moving.{goesBack, upgraded, downgraded}
-use Rattle.model.proofs.Bytes.{length-bytes, whole-case, whole-set-ends, set-starts}
-use Rattle.model.proofs.WriteBack.{old-whole-facts, upgraded-fields, downgraded-fields}
-use Rattle.format.proofs.WriteLaws.{Written, Out, written-put, written-out, fields-count, copied-front, copied-after}
+use Rattle.model.proofs.Bytes.{length-bytes, whole-case, member-first}
+use Rattle.model.proofs.WriteBack.{summary-again, old-whole-facts, one-fields}
+use Rattle.model.proofs.Moving.{goes-back}
+use Rattle.format.specs.Given.{patternAt}
+use Rattle.format.proofs.SectionLaws.{set-member, member-section}
+use Rattle.format.proofs.WriteLaws.{Written, Out, written-put, written-run, written-out, copied-front}
+use Rattle.moving.specs.Forms.{widened, narrowed}
+use Rattle.moving.proofs.RowLaws.{widened-length, narrowed-length}
+
+-- the summary stands the same in both forms
+summary-fields : (b : List ℕ) → sectionFields summaryFields (section summaryRecordAt summaryWidth b 0) ≡ fieldsAt b 0 (firstAt b)
+summary-fields b =
+    let s = summary-again b in
+    s .fields ∙ ap (fieldsAt b 0) (sym (zero-add (length (sectionFields summaryFields (section summaryRecordAt summaryWidth b 0)))) ∙ s .ends)
+
+summary-length : (b : List ℕ) → length (fieldsAt b 0 (firstAt b)) ≡ firstAt b
+summary-length b =
+    let s = summary-again b in
+    ap length (sym (summary-fields b)) ∙ sym (zero-add (length (sectionFields summaryFields (section summaryRecordAt summaryWidth b 0)))) ∙ s .ends
 
 -- ---- old to new
 
--- the second pattern's count is inside, no half field is left, and there is room for one field more
-pub record RoomForNew (b : List ℕ) (second bytes : ℕ) : Type 0 where
-  pub inside : second < length b / 2
-  pub even : length b ≡ 2 * (length b / 2)
-  pub room : 2 * (length b / 2 + 1) ≤ bytes
+-- the sections are whole, and there is room for each
+pub record RoomForNew (b : List ℕ) (first second bytes : ℕ) : Type 0 where
+  pub summary : 2 * first ≤ length b
+  pub one : WholeSection oldWidth b first
+  pub two : WholeSection oldWidth b second
+  pub room : 2 * (first + length (widened b first) + 1 + length (widened b second)) ≤ bytes
+  pub few : first + length (widened b first) + 1 + length (widened b second) ≤ 65_536
 
-module _ (b : List ℕ) (whole : oldWhole b ≡ true) {second : ℕ} (at : second ≡ secondAt b) where
-  abbrev fields : ℕ
-  fields = length b / 2
-
-  at-end : fields ≡ oldEnd b
-  at-end = let f = old-whole-facts b whole .1 in omega arith
-
-  second-inside : second < fields
-  second-inside = let f = old-whole-facts b whole .1 in omega arith
-
-  new-fields : (fieldsAt b 0 second ++ (1 ∷ [])) ++ fieldsAt b second (fields - second) ≡ caseFields (oneOf (oldCaseOf b))
+module _ (b : List ℕ) (whole : oldWhole b ≡ true) {first second : ℕ} (at : first ≡ firstAt b) (next : second ≡ secondAt b) where
+  new-fields : caseFields (oneOf (oldCaseOf b)) ≡ ((fieldsAt b 0 first ++ widened b first) ++ (1 ∷ [])) ++ widened b second
+  unfolding caseFields oldCaseOf
   new-fields =
-      append-assoc (fieldsAt b 0 second) (1 ∷ []) (fieldsAt b second (fields - second))
-      ∙ ap₂ (λ (k n : ℕ). fieldsAt b 0 k ++ (1 ∷ fieldsAt b k (n - k))) at at-end ∙ sym (upgraded-fields b)
+      let front : List ℕ = fieldsAt b 0 first in
+      ap₂ (λ (s q : List ℕ). s ++ (widened b (firstAt b) ++ q)) (summary-fields b) (one-fields (newPattern (section oldRecordAt oldWidth b (secondAt b))))
+      ∙ ap₂ (λ (x y : ℕ). fieldsAt b 0 x ++ (widened b x ++ (1 ∷ widened b y))) (sym at) (sym next)
+      ∙ sym (append-assoc front (widened b first) (1 ∷ widened b second)) ∙ sym (append-assoc (front ++ widened b first) (1 ∷ []) (widened b second))
 
-  -- one field more
-  new-size : length (upgraded b) ≡ 2 * (fields + 1)
+  new-size : length (upgraded b) ≡ 2 * (first + length (widened b first) + 1 + length (widened b second))
   unfolding upgraded encodeCase
   new-size =
-      let front : List ℕ = fieldsAt b 0 second in
-      let back : List ℕ = fieldsAt b second (fields - second) in
-      let f : length front ≡ second = fields-count b 0 second in
-      let g : length back ≡ fields - second = fields-count b second (fields - second) in
-      let h : length (front ++ (1 ∷ [])) ≡ length front + 1 = length-append front (1 ∷ []) in
-      let i : length ((front ++ (1 ∷ [])) ++ back) ≡ length (front ++ (1 ∷ [])) + length back = length-append (front ++ (1 ∷ [])) back in
-      let inside : second < fields = second-inside in
-      length-bytes (caseFields (oneOf (oldCaseOf b))) ∙ ap (λ (fs : List ℕ). 2 * length fs) (sym new-fields) ∙ omega arith
+      let front : List ℕ = fieldsAt b 0 first in
+      let f : length front ≡ first = ap (λ (k : ℕ). length (fieldsAt b 0 k)) at ∙ summary-length b ∙ sym at in
+      let g = length-append front (widened b first) in
+      let h = length-append (front ++ widened b first) (1 ∷ []) in
+      let i = length-append ((front ++ widened b first) ++ (1 ∷ [])) (widened b second) in
+      length-bytes (caseFields (oneOf (oldCaseOf b))) ∙ ap (λ (fs : List ℕ). 2 * length fs) new-fields ∙ omega arith
 
-  pub new-room : (bytes : ℕ) → length (upgraded b) ≤ bytes → RoomForNew b second bytes
+  pub new-room : (bytes : ℕ) → length (upgraded b) ≤ bytes → RoomForNew b first second bytes
   new-room bytes h =
-      let size : length (upgraded b) ≡ 2 * (fields + 1) = new-size in
-      record { inside = second-inside; even = (let f = old-whole-facts b whole .1 in omega arith); room = omega arith }
+      let size = new-size in
+      let f = old-whole-facts b whole .1 in
+      let small = old-whole-facts b whole .0 in
+      let p = widened-length b first in
+      let q = widened-length b second in
+      let x : field b first ≡ field b (firstAt b) = ap (field b) at in
+      let y : field b second ≡ field b (secondAt b) = ap (field b) next in
+      record {
+        summary = omega arith;
+        one = subst (WholeSection oldWidth b) (sym at) (record { count = omega arith; records = omega arith });
+        two = subst (WholeSection oldWidth b) (sym next) (record { count = omega arith; records = omega arith });
+        room = omega arith;
+        few = omega arith;
+      }
 
-  pub new-written : (b₀ : List ℕ) {b₁ b₂ b₃ : List ℕ} → length (upgraded b) ≤ length b₀ → b₁ ≡ sets b₀ 0 (bytesOf (fieldsAt b 0 second)) → b₂ ≡ sets b₁ (2 * second) (fieldBytes 1)
-      → b₃ ≡ sets b₂ (2 * (second + 1)) (bytesOf (fieldsAt b second (length b / 2 - second))) → Out (upgraded b) b₀ b₃ (2 * (length b / 2 + 1))
+  pub new-written : (b₀ : List ℕ) {b₁ b₂ b₃ b₄ : List ℕ} {set end : ℕ} → length (upgraded b) ≤ length b₀ → b₁ ≡ sets b₀ 0 (bytesOf (fieldsAt b 0 first))
+      → set ≡ first + length (widened b first) → b₂ ≡ sets b₁ (2 * first) (bytesOf (widened b first)) → b₃ ≡ sets b₂ (2 * set) (fieldBytes 1)
+      → end ≡ set + 1 + length (widened b second) → b₄ ≡ sets b₃ (2 * (set + 1)) (bytesOf (widened b second)) → Out (upgraded b) b₀ b₄ (2 * end)
   unfolding upgraded encodeCase
-  new-written b₀ {b₁} {b₂} {b₃} room e f g =
-      let size : length (upgraded b) ≡ 2 * (fields + 1) = new-size in
-      let inside : second < fields = second-inside in
-      let w : Written ((fieldsAt b 0 second ++ (1 ∷ [])) ++ fieldsAt b second (fields - second)) b₀ b₃ (second + 1 + (fields - second)) =
-      copied-after b second (fields - second) (written-put 1 (copied-front b 0 second (omega arith) e) (omega arith) f) (omega arith) g in
-      let all : second + 1 + (fields - second) ≡ fields + 1 = omega arith in
-      subst (λ (n : ℕ). Out (upgraded b) b₀ b₃ (2 * n)) all (written-out w (upgraded b) (ap bytesOf new-fields))
+  new-written b₀ {b₁} {b₂} {b₃} {b₄} {set} {end} room e s f g t h =
+      let size = new-size in
+      let one : Written (fieldsAt b 0 first ++ widened b first) b₀ b₂ set =
+      subst (Written (fieldsAt b 0 first ++ widened b first) b₀ b₂) (sym s) (written-run (widened b first) (copied-front b 0 first (omega arith) e) (omega arith) f) in
+      let two : Written (((fieldsAt b 0 first ++ widened b first) ++ (1 ∷ [])) ++ widened b second) b₀ b₄ end =
+      subst (Written (((fieldsAt b 0 first ++ widened b first) ++ (1 ∷ [])) ++ widened b second) b₀ b₄) (sym t)
+      (written-run (widened b second) (written-put 1 one (omega arith) g) (omega arith) h) in
+      written-out two (upgraded b) (ap bytesOf (sym new-fields))
 
 -- ---- new to old
 
--- the set's count is inside, no half field is left, and there is room for one field less
-pub record RoomForOld (b : List ℕ) (set bytes : ℕ) : Type 0 where
-  pub inside : set + 1 ≤ length b / 2
-  pub even : length b ≡ 2 * (length b / 2)
-  pub room : 2 * (length b / 2 - 1) ≤ bytes
+pub record RoomForOld (b : List ℕ) (first after bytes : ℕ) : Type 0 where
+  pub summary : 2 * first ≤ length b
+  pub one : WholeSection patternWidth b first
+  pub two : WholeSection patternWidth b after
+  pub room : 2 * (first + length (narrowed b first) + length (narrowed b after)) ≤ bytes
+  pub few : first + length (narrowed b first) + length (narrowed b after) ≤ 65_536
 
-module _ (b : List ℕ) (whole : isWholeCase b ≡ true) (one : goesBack (caseOf b) ≡ true) {set : ℕ} (at : set ≡ setAt b) where
-  abbrev given : ℕ
-  given = length b / 2
+module _ (b : List ℕ) (whole : isWholeCase b ≡ true) (back : goesBack (caseOf b) ≡ true) {first set : ℕ} (at : first ≡ firstAt b) (on : set ≡ setAt b) where
+  -- the set's only member stands after its count
+  some : 0 < length (setOf b (setAt b))
+  unfolding caseOf
+  some = let o = goes-back (caseOf b) back .one in omega arith
 
-  case-at-end : length b ≡ 2 * caseEnd b
-  case-at-end =
-      let w = whole-case b .0 whole in
-      let e = whole-set-ends b (setAt b) (w .members) in
-      let n = w .nothingAfter in
-      omega arith
+  place : set + 1 ≡ memberAt b (setAt b) 0
+  place = ap (λ (k : ℕ). k + 1) on ∙ sym (member-first b (setAt b))
 
-  set-inside : set + 1 ≤ given
-  set-inside = let f = case-at-end in let s = set-starts b (setAt b) in omega arith
+  second-pattern : getD (caseOf b .members) 0 [] ≡ patternAt b (set + 1)
+  unfolding caseOf
+  second-pattern = set-member b (setAt b) 0 some ∙ ap (patternAt b) (sym place)
 
-  old-fields : fieldsAt b 0 set ++ fieldsAt b (set + 1) (given - (set + 1)) ≡ oldFields (oldOf (caseOf b))
+  old-fields : oldFields (oldOf (caseOf b)) ≡ (fieldsAt b 0 first ++ narrowed b first) ++ narrowed b (set + 1)
+  unfolding oldFields caseOf
   old-fields =
-      let end : given ≡ caseEnd b = let f = case-at-end in omega arith in
-      ap₂ (λ (k n : ℕ). fieldsAt b 0 k ++ fieldsAt b (k + 1) (n - (k + 1))) at end ∙ sym (downgraded-fields b one)
+      ap₂ (λ (s : List ℕ) (Q : Pattern). s ++ (narrowed b (firstAt b) ++ sectionFields oldRecordFields (oldPattern Q))) (summary-fields b) second-pattern
+      ∙ ap (λ (k : ℕ). fieldsAt b 0 k ++ (narrowed b k ++ narrowed b (set + 1))) (sym at)
+      ∙ sym (append-assoc (fieldsAt b 0 first) (narrowed b first) (narrowed b (set + 1)))
 
-  -- one field less
-  old-size : length (downgraded b) ≡ 2 * (given - 1)
+  old-size : length (downgraded b) ≡ 2 * (first + length (narrowed b first) + length (narrowed b (set + 1)))
   unfolding downgraded encodeOldCase
   old-size =
-      let front : List ℕ = fieldsAt b 0 set in
-      let back : List ℕ = fieldsAt b (set + 1) (given - (set + 1)) in
-      let f : length front ≡ set = fields-count b 0 set in
-      let g : length back ≡ given - (set + 1) = fields-count b (set + 1) (given - (set + 1)) in
-      let h : length (front ++ back) ≡ length front + length back = length-append front back in
-      let inside : set + 1 ≤ given = set-inside in
-      length-bytes (oldFields (oldOf (caseOf b))) ∙ ap (λ (fs : List ℕ). 2 * length fs) (sym old-fields) ∙ omega arith
+      let front : List ℕ = fieldsAt b 0 first in
+      let f : length front ≡ first = ap (λ (k : ℕ). length (fieldsAt b 0 k)) at ∙ summary-length b ∙ sym at in
+      let g = length-append front (narrowed b first) in
+      let h = length-append (front ++ narrowed b first) (narrowed b (set + 1)) in
+      length-bytes (oldFields (oldOf (caseOf b))) ∙ ap (λ (fs : List ℕ). 2 * length fs) old-fields ∙ omega arith
 
-  pub old-room : (bytes : ℕ) → length (downgraded b) ≤ bytes → RoomForOld b set bytes
+  pub old-room : (bytes : ℕ) → length (downgraded b) ≤ bytes → RoomForOld b first (set + 1) bytes
   old-room bytes h =
-      let size : length (downgraded b) ≡ 2 * (given - 1) = old-size in
-      record { inside = set-inside; even = (let f = case-at-end in omega arith); room = omega arith }
+      let size = old-size in
+      let w = whole-case b .0 whole in
+      let one : WholeSection patternWidth b first = subst (WholeSection patternWidth b) (sym at) (w .first) in
+      let two : WholeSection patternWidth b (set + 1) = member-section b (setAt b) 0 (w .members) some place in
+      let small = w .size in
+      let p = narrowed-length b first in
+      let q = narrowed-length b (set + 1) in
+      record {
+        summary = omega (arith, one .count);
+        one = one;
+        two = two;
+        room = omega arith;
+        few = omega (arith, one .records, two .records);
+      }
 
-  pub old-written : (b₀ : List ℕ) {b₁ b₂ : List ℕ} → length (downgraded b) ≤ length b₀ → b₁ ≡ sets b₀ 0 (bytesOf (fieldsAt b 0 set))
-      → b₂ ≡ sets b₁ (2 * set) (bytesOf (fieldsAt b (set + 1) (length b / 2 - (set + 1)))) → Out (downgraded b) b₀ b₂ (2 * (length b / 2 - 1))
+  pub old-written : (b₀ : List ℕ) {b₁ b₂ b₃ : List ℕ} {second end : ℕ} → length (downgraded b) ≤ length b₀ → b₁ ≡ sets b₀ 0 (bytesOf (fieldsAt b 0 first))
+      → second ≡ first + length (narrowed b first) → b₂ ≡ sets b₁ (2 * first) (bytesOf (narrowed b first))
+      → end ≡ second + length (narrowed b (set + 1)) → b₃ ≡ sets b₂ (2 * second) (bytesOf (narrowed b (set + 1))) → Out (downgraded b) b₀ b₃ (2 * end)
   unfolding downgraded encodeOldCase
-  old-written b₀ {b₁} {b₂} room e f =
-      let size : length (downgraded b) ≡ 2 * (given - 1) = old-size in
-      let inside : set + 1 ≤ given = set-inside in
-      let w : Written (fieldsAt b 0 set ++ fieldsAt b (set + 1) (given - (set + 1))) b₀ b₂ (set + (given - (set + 1))) =
-      copied-after b (set + 1) (given - (set + 1)) (copied-front b 0 set (omega arith) e) (omega arith) f in
-      let all : set + (given - (set + 1)) ≡ given - 1 = omega arith in
-      subst (λ (n : ℕ). Out (downgraded b) b₀ b₂ (2 * n)) all (written-out w (downgraded b) (ap bytesOf old-fields))
+  old-written b₀ {b₁} {b₂} {b₃} {second} {end} room e s f t g =
+      let size = old-size in
+      let one : Written (fieldsAt b 0 first ++ narrowed b first) b₀ b₂ second =
+      subst (Written (fieldsAt b 0 first ++ narrowed b first) b₀ b₂) (sym s) (written-run (narrowed b first) (copied-front b 0 first (omega arith) e) (omega arith) f) in
+      let two : Written ((fieldsAt b 0 first ++ narrowed b first) ++ narrowed b (set + 1)) b₀ b₃ end =
+      subst (Written ((fieldsAt b 0 first ++ narrowed b first) ++ narrowed b (set + 1)) b₀ b₃) (sym t) (written-run (narrowed b (set + 1)) one (omega arith) g) in
+      written-out two (downgraded b) (ap bytesOf (sym old-fields))

@@ -1,3 +1,5 @@
 pub mod OldLaws
+pub mod RowLaws
 pub mod FormLaws
+pub mod BackLaws
 pub mod CallLaws

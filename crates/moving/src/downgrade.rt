@@ -6,7 +6,8 @@ use crate::answers::Moved;
 use crate::refusals::downgrade_refusal;
 use crate::write::write_old;
 
-// The old case that a set of one goes back to, written to the front of the answer buffer. Questions 2 to 8 with 14 right after 4, then 15.
+// The old case that a set of one goes back to, written to the front of the answer buffer. Questions 2 to 8 with 14 right after 4 and
+// 17 right after 7, then 15.
 pub fn downgrade_call(case: &[u8], answer: &mut [u8]) -> Moved
     ensures { λ r. ⌜ DowngradeAnswered (now (case .entry)) (now (answer .entry)) (movedOf r (now (answer .exit))) ⌝ }
 {

@@ -1,7 +1,8 @@
 -- Document 01's lines as texts put one after another; a document's node lines are those of its section's records. Assumes nothing.
-use Prim.Native.Nat.{ℕ, _+_}
-use mathlib.Core.Path.{_≡_, ap}
+use Prim.Native.Nat.{ℕ, suc, _+_}
+use mathlib.Core.Path.{_≡_, ap, ap₂}
 use mathlib.Core.List.{List, [], _∷_, _++_}
+use native.Mathlib.Omega.{arith}
 use native.Mathlib.Numerals.{add-one}
 use Rattle.model.specs.Lists.{upFrom}
 use Rattle.model.specs.Limits.{documentWidth}
@@ -19,7 +20,7 @@ first-parts w n = both (line w []) (line (ascii "tried") (n ∷ []))
 -- a record's fields are those that it is read from
 document-fields : (b : List ℕ) (at : ℕ) → documentFields (documentRecordAt b at) ≡ fieldsAt b at documentWidth
 unfolding upFrom
-document-fields b at = ap (λ (k : ℕ). field b at ∷ field b k ∷ []) (add-one at)
+document-fields b at = ap₂ (λ (k l : ℕ). field b at ∷ field b k ∷ field b l ∷ []) (add-one at) (let e : at + 2 ≡ suc (suc at) = omega arith in e)
 
 pub document-lines : (w : List ℕ) → nodeLines (documentOf w) ≡ recordLines documentWidth w
 unfolding nodeLines nodeLine documentOf

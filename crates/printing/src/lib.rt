@@ -5,6 +5,8 @@ mod lines;
 use deciding::Answer;
 use deciding::verdict_call;
 use format::field::field;
+use format::limits::DOCUMENT_WIDTH;
+use format::sections::section_end;
 use text::line::line;
 ghost use Rattle.model.specs.Text.{printed};
 ghost use Rattle.text.specs.Put.{Room, Put, Printed};
@@ -15,7 +17,7 @@ fn shown_text(tried: u64, answer: &[u8], out: &mut [u8]) -> usize
     requires { ⌜ ShownWhole (now answer) × Room (textOf tried (now answer)) 0 (now out) ⌝ }
     ensures { λ r. ⌜ Put (textOf tried (now (answer .entry))) 0 (now (out .entry)) (now (out .exit)) r ⌝ }
 {
-    let end = 1 + 2 * field(answer, 0);
+    let end = section_end(answer, 0, DOCUMENT_WIDTH);
     let from = 2 * (end + 1);
     let to = from + 2 * field(answer, end);
     let last = 2 * end;
@@ -36,10 +38,10 @@ fn answer_text(told: Answer, answer: &[u8], out: &mut [u8]) -> usize
 }
 
 // The text of a case from standard input, with limit 1,000,000, caller 0 and its tally 0, and how many bytes it has.
-pub fn verdict_text(case: &[u8], out: &mut [u8; 21263]) -> usize
+pub fn verdict_text(case: &[u8], out: &mut [u8; 26308]) -> usize
     ensures { λ r. ⌜ Printed (printed (now (case .entry))) (now (out .entry)) (now (out .exit)) r ⌝ }
 {
-    let mut answer = [0u8; 4096];
+    let mut answer = [0u8; 8192];
     let told = verdict_call(case, 1000000, 0, 0, &mut answer);
     answer_text(told, &answer, out)
 }

@@ -65,7 +65,3 @@ left-inside P q i h k = subst (λ (n : ℕ). raised q i < n) (length-without P q
 
 pub left-record : (P : Pattern) (q i : ℕ) {j : ℕ} → q < length P → i < length (without P q) → j ≡ raised q i → getD (without P q) i noPatternRecord ≡ relinked q (getD P j noPatternRecord)
 left-record P q i h k e = record-without P q h i k ∙ ap (λ (n : ℕ). relinked q (getD P n noPatternRecord)) (sym e)
-
--- stores keep a length
-pub stored-size : (out₀ : List ℕ) (a : ℕ) (vs : List ℕ) {out : List ℕ} → out ≡ sets out₀ a vs → length out ≡ length out₀
-stored-size out₀ a vs e = ap length e ∙ length-sets out₀ a vs

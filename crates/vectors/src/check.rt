@@ -23,12 +23,12 @@ fn field_of(b: &[u8], i: usize) -> usize
 // The field that holds the count of the next section, where there is more to pass over; else that of the present one.
 fn passed(case: &[u8], at: usize, more: bool) -> usize
     requires { ⌜ at < 4000000 ⌝ }
-    ensures { λ r. ⌜ r ≤ at + 262141 ⌝ }
+    ensures { λ r. ⌜ r ≤ at + 327676 ⌝ }
 {
     if !more {
         return at;
     }
-    at + 1 + 4 * field_of(case, at)
+    at + 1 + 5 * field_of(case, at)
 }
 
 // The field that holds the count of the pattern that a number gives: the first, or one of eight members.
@@ -93,7 +93,7 @@ fn own_nodes(case: &[u8], number: u64, list: &[u8], at: &[u16], own: &mut [u16])
     let mut k = 0;
     for q in 0..m {
         v = own_node(at, q, field_of(list, q), v);
-        let p = field_of(case, start + 4 * q + 4);
+        let p = field_of(case, start + 5 * q + 4);
         hold(own, p, v);
         k = larger(k, p);
     }
@@ -111,21 +111,22 @@ fn both_hold(case: &[u8], number: u64, document: &[u8], list: &[u8]) -> bool {
 }
 
 // The section of n nodes goes to the front of document.
-fn write_nodes(parent: &[u16], label: &[u16], n: usize, document: &mut [u8])
-    requires { ⌜ (n ≤ length (now parent)) × (n ≤ length (now label)) × (n ≤ 1024) × (2 + 4 * n ≤ length (now document)) ⌝ }
+fn write_nodes(parent: &[u16], label: &[u16], figure: &[u16], n: usize, document: &mut [u8])
+    requires { ⌜ (n ≤ length (now parent)) × (n ≤ length (now label)) × (n ≤ length (now figure)) × (n ≤ 1024) × (2 + 6 * n ≤ length (now document)) ⌝ }
 {
     put_field(document, 0, n as u16);
     for i in 0..n {
-        put_field(document, 1 + 2 * i, parent[i]);
-        put_field(document, 2 + 2 * i, label[i]);
+        put_field(document, 1 + 3 * i, parent[i]);
+        put_field(document, 2 + 3 * i, label[i]);
+        put_field(document, 3 + 3 * i, figure[i]);
     }
 }
 
 // The same of the section of n nodes at the front of document, and the list of k after the count of result.
 fn parts_hold(case: &[u8], number: u64, document: &[u8], n: usize, result: &[u8], k: usize) -> bool
-    requires { ⌜ (2 + 4 * n ≤ length (now document)) × (2 + 2 * k ≤ length (now result)) ⌝ }
+    requires { ⌜ (2 + 6 * n ≤ length (now document)) × (2 + 2 * k ≤ length (now result)) ⌝ }
 {
-    let end = 2 + 4 * n;
+    let end = 2 + 6 * n;
     let to = 2 + 2 * k;
     both_hold(case, number, &document[..end], &result[2..to])
 }
@@ -138,6 +139,7 @@ fn laid_holds(
     parent: &[u16],
     at: &[u16],
     label: &[u16],
+    figure: &[u16],
     n: usize,
 ) -> bool {
     if 1024 < n {
@@ -149,13 +151,16 @@ fn laid_holds(
     if label.len() < n {
         return false;
     }
+    if figure.len() < n {
+        return false;
+    }
     let mut own = [0u16; 8];
     let k = own_nodes(case, number, list, at, &mut own);
     if 8 < k {
         return false;
     }
-    let mut document = [0u8; 4098];
-    write_nodes(parent, label, n, &mut document);
+    let mut document = [0u8; 6146];
+    write_nodes(parent, label, figure, n, &mut document);
     let mut result = [0u8; 18];
     write_counted(&own, k, &mut result);
     parts_hold(case, number, &document, n, &result, k)
@@ -169,10 +174,11 @@ pub fn layout_kept(
     parent: &[u16],
     at: &[u16],
     label: &[u16],
+    figure: &[u16],
     n: usize,
 ) -> bool {
     if n == 0 {
         return true;
     }
-    laid_holds(case, number, list, parent, at, label, n)
+    laid_holds(case, number, list, parent, at, label, figure, n)
 }

@@ -146,6 +146,7 @@ fn fill_table(
     parent: &mut [u16],
     at: &mut [u16],
     label: &mut [u16],
+    figure: &mut [u16],
 ) {
     if 1024 < count {
         return;
@@ -155,6 +156,7 @@ fn fill_table(
         put(parent, i, node.parent.0);
         put(at, i, node.at.0);
         put(label, i, format::field::wide(node.label));
+        put(figure, i, format::field::wide(node.figure));
     }
 }
 
@@ -167,18 +169,22 @@ fn run_layout(
     parent: &mut [u16],
     at: &mut [u16],
     label: &mut [u16],
+    figure: &mut [u16],
 ) {
     let r = laid_out(case, h.number, list, parent.len());
     let nodes = r.nodes;
-    fill_table(nodes, r.count, parent, at, label);
+    fill_table(nodes, r.count, parent, at, label, figure);
     print::word(b"layout");
-    let kept = check::layout_kept(case, h.number, list, parent, at, label, r.count);
+    let kept = check::layout_kept(case, h.number, list, parent, at, label, figure, r.count);
     print::word_unless(kept, b" unchecked");
     print::word(b" refused");
     print::number(r.refused);
     print::word(b" count");
     print::number(wide64(r.count));
-    print::lent(wide64(parent.len()), print::hash_table(parent, at, label));
+    print::lent(
+        wide64(parent.len()),
+        print::hash_table(parent, at, label, figure),
+    );
 }
 
 // A call that is lent an answer buffer.
@@ -218,11 +224,12 @@ fn with_answer(h: Head, case: &[u8], document: &[u8]) {
     with_buffer(h, case, document, &mut answer);
 }
 
-// A table whose fields are filled with the same pattern is lent, in three columns; it is cut likewise.
+// A table whose fields are filled with the same pattern is lent, in four columns; it is cut likewise.
 fn with_table(h: Head, case: &[u8], list: &[u8]) {
     let mut parent = [43690u16; 8192];
     let mut at = [43690u16; 8192];
     let mut label = [43690u16; 8192];
+    let mut figure = [43690u16; 8192];
     let n = size(h.length);
     if n <= 8192 {
         run_layout(
@@ -232,10 +239,11 @@ fn with_table(h: Head, case: &[u8], list: &[u8]) {
             &mut parent[..n],
             &mut at[..n],
             &mut label[..n],
+            &mut figure[..n],
         );
         return;
     }
-    run_layout(h, case, list, &mut parent, &mut at, &mut label);
+    run_layout(h, case, list, &mut parent, &mut at, &mut label, &mut figure);
 }
 
 // The line of one vector.

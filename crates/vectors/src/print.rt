@@ -73,12 +73,13 @@ fn element(column: &[u16], i: usize) -> u64 {
 }
 
 // The hash of a table in columns, record by record.
-pub fn hash_table(parent: &[u16], at: &[u16], label: &[u16]) -> u64 {
+pub fn hash_table(parent: &[u16], at: &[u16], label: &[u16], figure: &[u16]) -> u64 {
     let mut h = HASH_OF_NOTHING;
     for i in 0..parent.len() {
         h = hash_field(h, element(parent, i));
         h = hash_field(h, element(at, i));
         h = hash_field(h, element(label, i));
+        h = hash_field(h, element(figure, i));
     }
     h
 }

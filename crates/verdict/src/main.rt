@@ -6,7 +6,7 @@ use streams::read_all;
 
 // Writes the text of a case.
 fn tell(case: &[u8]) {
-    let mut out = [0u8; 21263];
+    let mut out = [0u8; 26308];
     let end = verdict_text(case, &mut out);
     if !io::write_all(1, &out[..end]) {
         io::write_all(2, b"verdict: the answer can't be written\n");

@@ -7,11 +7,11 @@ use Rattle.vectors.proofs.fill_table.Statement.{statement}
 use Rattle.vectors.proofs.fill_table.Tie as tie
 
 abbrev Inv-loop : tie.InvT-loop
-Inv-loop count parent₀ at₀ label₀ nodes i₀ parent at label i =
-    (i ≤ count) × (length parent ≡ length parent₀) × (length at ≡ length at₀) × (length label ≡ length label₀)
+Inv-loop count parent₀ at₀ label₀ figure₀ nodes i₀ parent at label figure i =
+    (i ≤ count) × (length parent ≡ length parent₀) × (length at ≡ length at₀) × (length label ≡ length label₀) × (length figure ≡ length figure₀)
 
 abbrev μ-loop : tie.MeasureT-loop
-μ-loop count parent₀ at₀ label₀ nodes i₀ parent at label i = count - i
+μ-loop count parent₀ at₀ label₀ figure₀ nodes i₀ parent at label figure i = count - i
 
 pub fill-table-spec : {M : Type 1} → statement M
 fill-table-spec =

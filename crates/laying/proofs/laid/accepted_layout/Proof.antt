@@ -5,15 +5,17 @@ use native.Mathlib.Omega.{arith}
 use denote.Ref.{now}
 use lib.ListN.{getD, replicate}
 use borrow.Author.Needs.{needs}
+use Rattle.model.specs.Facts.{FewFigures}
 use Rattle.model.proofs.CallFacts.{LayoutFacts, accepted-layout}
 use Rattle.model.specs.Limits.{minTable}
+use Rattle.format.specs.Given.{patternAt}
 use Rattle.format.proofs.GivenLaws.{given-summary}
 use Rattle.refusals.proofs.AcceptedLaws.{accepted-whole}
 use Rattle.canonical.specs.Given.{Embedded}
 use Rattle.canonical.proofs.LayoutLaws.{spots-few}
 use Rattle.canonical.proofs.ReadBackLaws.{back-whole, back-count}
 use Rattle.laying.proofs.RecordLaws.{laid-accepted}
-use Rattle.laying.proofs.ListLaws.{list-fits, list-embedded, laid-count, laid-read}
+use Rattle.laying.proofs.ListLaws.{list-fits, list-embedded, list-figures, laid-count, laid-read}
 use Rattle.laying.proofs.laid.accepted_layout.Statement.{statement}
 use Rattle.laying.proofs.laid.accepted_layout.Tie as tie
 
@@ -26,6 +28,9 @@ facts s = accepted-layout _ _ _ _ (s .pre)
 
 embedded : (c : tie.After-read-list) → Embedded (now (start c .args .case)) (c .before .before .before .numbered-at .result) (c .read-list .last .1 .0)
 embedded c = list-embedded (facts (start c)) (replicate 16 0) (c .before .before .before .numbered-at .ensures) (omega arith) (c .read-list .ensures .1)
+
+low : (c : tie.After-read-list) → FewFigures (patternAt (now (start c .args .case)) (c .before .before .before .numbered-at .result))
+low c = list-figures (facts (start c)) (replicate 16 0) (c .before .before .before .numbered-at .ensures) (omega arith) (c .read-list .ensures .1)
 
 -- bytes are below 256
 small : (c : tie.After-read-list) (i : ℕ) → getD (now (start c .args .case)) i 0 < 256
@@ -54,8 +59,8 @@ records-of-requires c κs =
     let o = c .before .before .before .before in
     let e = embedded (read o) in
     let w = o .lay-out .ensures in (
-      back-whole e (small (read o)) w (omega arith),
-      omega (arith, back-count e (small (read o)) w),
+      back-whole e (small (read o)) (low (read o)) w (omega arith),
+      omega (arith, back-count e (small (read o)) (low (read o)) w),
       omega (arith, w .counted, spots-few e, o .lay-out .kept .1 .1 .1 .1 .1 .0),
       omega (arith, w .counted, spots-few e),
     )

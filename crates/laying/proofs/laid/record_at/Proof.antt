@@ -7,9 +7,10 @@ use Rattle.laying.proofs.laid.record_at.Tie as tie
 
 returns : tie.Need-returns
 returns c =
-    let a = c .before .before .before .before .before .args in
-    record-made (now (a .w)) (now (a .on)) (a .i) (c .before .before .document-parent .ensures) (c .before .summary-of .ensures) (c .document-label .ensures)
+    let l = c .before in
+    let a = l .before .before .before .before .before .args in
+    record-made (now (a .w)) (now (a .on)) (a .i) (l .before .before .document-parent .ensures) (l .before .summary-of .ensures) (l .document-label .ensures) (c .document-figure .ensures)
 
 pub record-at-spec : {M : Type 1} → statement M
 record-at-spec =
-    tie.close (tie.spec (λ c κs. search needs) (λ c κs. search needs) (λ c κs. search needs) returns)
+    tie.close (tie.spec (λ c κs. search needs) (λ c κs. search needs) (λ c κs. search needs) (λ c κs. search needs) returns)

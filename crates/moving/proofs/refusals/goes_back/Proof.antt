@@ -1,19 +1,23 @@
--- `moving::refusals::goes_back` meets its contract: the count that is tested is the set's. Assumes nothing.
-use mathlib.Core.Path.{sym, ap, _∙_}
-use mathlib.Core.List.{List}
-use lib.Dec.{eqb}
-use lib.ListN.{length}
-use Rattle.model.specs.Moving.{goesBack}
-use Rattle.model.specs.Pattern.{Pattern}
-use Rattle.questions.proofs.SectionLaws.{sections, set-members}
+-- `moving::refusals::goes_back` meets its contract: the set's count is tested first, and a set of one has its member right after. Assumes nothing.
+use borrow.Author.Needs.{needs}
+use Rattle.questions.proofs.TestLaws.{joined}
+use Rattle.questions.proofs.SectionLaws.{sections, whole-set-count}
+use Rattle.moving.proofs.BackLaws.{back-other, member-whole, back-asked}
 use Rattle.moving.proofs.refusals.goes_back.Statement.{statement}
 use Rattle.moving.proofs.refusals.goes_back.Tie as tie
 
-returns : tie.Need-returns
-unfolding goesBack
-returns c =
-    ap (λ n. eqb n 1) (c .set-count .ensures .0)
-    ∙ ap (λ (Qs : List Pattern). eqb (length Qs) 1) (sym (set-members _ _ (c .before .set-at .ensures)))
+add-figureless : tie.Need-add-figureless
+add-figureless c =
+    let at = c .before .before .before .before in
+    let w = whole-set-count _ _ (at .before .before .before .pre) (at .set-at .ensures) in
+    search needs
 
 pub goes-back-spec : {M : Type 1} → statement M
-goes-back-spec = tie.close (tie.spec (λ c κs. search sections) (λ c κs. search sections) returns)
+goes-back-spec =
+    tie.close
+    (tie.spec
+    (λ c κs. search sections) (λ c κs. search sections) (λ c κs. search sections)
+    (λ c. search (sections, back-other))
+    (λ c κs. search sections) (λ c. search (joined, back-asked))
+    add-figureless
+    (λ c κs. search (sections, member-whole)) (λ c. search (joined, back-asked)))

@@ -56,7 +56,7 @@ slice-aggregate-case-refusal c =
 returns-4 : tie.Need-returns-4
 returns-4 c =
     let d = c .before .before .before .before .before .before .before in
-    asked-as-new _ (small d) (whole d) (counts (c .before .before .before .before .before)) _ (large d) (replicate 648 0)
+    asked-as-new _ (small d) (whole d) (counts (c .before .before .before .before .before)) _ (large d) (replicate 712 0)
     (c .before .before .before .write-new .ensures) (c .case-refusal .ensures)
 
 pub upgrade-refusal-spec : {M : Type 1} → statement M

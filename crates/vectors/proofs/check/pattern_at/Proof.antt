@@ -6,7 +6,7 @@ use Rattle.vectors.proofs.check.pattern_at.Statement.{statement}
 use Rattle.vectors.proofs.check.pattern_at.Tie as tie
 
 abbrev Inv-loop : tie.InvT-loop
-Inv-loop case number first at₀ i₀ at i = (i ≤ 7) × (at ≤ 460000 + 262141 * i)
+Inv-loop case number first at₀ i₀ at i = (i ≤ 7) × (at ≤ 530000 + 327676 * i)
 
 abbrev μ-loop : tie.MeasureT-loop
 μ-loop case number first at₀ i₀ at i = 7 - i

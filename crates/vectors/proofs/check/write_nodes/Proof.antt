@@ -1,4 +1,4 @@
--- `vectors::check::write_nodes` is safe and ends: each record's two fields lie within the document. Assumes nothing.
+-- `vectors::check::write_nodes` is safe and ends: each record's three fields lie within the document. Assumes nothing.
 use Prim.Native.Nat.{_≤_, _-_}
 use mathlib.Core.Path.{_≡_}
 use lib.ListN.{length}
@@ -7,10 +7,10 @@ use Rattle.vectors.proofs.check.write_nodes.Statement.{statement}
 use Rattle.vectors.proofs.check.write_nodes.Tie as tie
 
 abbrev Inv-loop : tie.InvT-loop
-Inv-loop parent label n document₀ i₀ document i = (i ≤ n) × (length document ≡ length document₀)
+Inv-loop parent label figure n document₀ i₀ document i = (i ≤ n) × (length document ≡ length document₀)
 
 abbrev μ-loop : tie.MeasureT-loop
-μ-loop parent label n document₀ i₀ document i = n - i
+μ-loop parent label figure n document₀ i₀ document i = n - i
 
 pub write-nodes-spec : {M : Type 1} → statement M
 write-nodes-spec =

@@ -7,10 +7,10 @@ use Rattle.vectors.proofs.print.hash_table.Statement.{statement}
 use Rattle.vectors.proofs.print.hash_table.Tie as tie
 
 abbrev Inv-loop : tie.InvT-loop
-Inv-loop parent at label h₀ i₀ i-end h i = (i ≤ i-end) × (i-end ≡ length parent)
+Inv-loop parent at label figure h₀ i₀ i-end h i = (i ≤ i-end) × (i-end ≡ length parent)
 
 abbrev μ-loop : tie.MeasureT-loop
-μ-loop parent at label h₀ i₀ i-end h i = i-end - i
+μ-loop parent at label figure h₀ i₀ i-end h i = i-end - i
 
 pub hash-table-spec : {M : Type 1} → statement M
 hash-table-spec =
