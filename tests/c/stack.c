@@ -40,6 +40,10 @@ static struct cadwezin_tallies tallies;
 static ucontext_t outside, inside;
 static unsigned held;
 
+/* The figure of all nodes that are put, and whether pattern records are put in the old form, which has none. */
+static unsigned figure;
+static int old_form;
+
 /* Runs on the painted stack, so it keeps everything that it can in static memory. */
 static void make_call(void) {
   const uint8_t *given = asked.given.at, *document = asked.document.at, *list = asked.list.at;
@@ -112,6 +116,9 @@ static void put_node(unsigned parent, unsigned label, unsigned flag, unsigned po
   put(&asked.given, label);
   put(&asked.given, flag);
   put(&asked.given, position);
+  if (!old_form) {
+    put(&asked.given, figure);
+  }
 }
 
 /* A summary of 64 nodes in a line, with labels 1 to 64. */
@@ -150,6 +157,7 @@ static void put_document(unsigned deep) {
     const unsigned above = v == 0 ? 0 : (v - 1) % deep;
     put(&asked.document, above == 0 ? 0 : v - 1);
     put(&asked.document, v == 0 ? 1 : 2 + above % 63);
+    put(&asked.document, figure);
   }
 }
 
@@ -255,8 +263,9 @@ static void stepped(void) {
     asked.number = 1 + CADWEZIN_MEMBERS_MOST;
     expect(PATHS, 0, chained ? 49 : 63, "of the last node");
   }
+  /* A strong child has the figure 0. */
   put_alternatives();
-  expect(VERDICT, 0, CADWEZIN_STOPPED, "skipping by turns");
+  expect(VERDICT, 0, figure == 0 ? CADWEZIN_STOPPED : CADWEZIN_NOT_CONTAINED, "skipping by turns");
   put_deep();
   expect(VERDICT, 0, CADWEZIN_NOT_CONTAINED, "asking in vain");
 }
@@ -318,8 +327,11 @@ static void documents(void) {
   }
 }
 
-/* What the call takes in the place of the set: the old form has a second pattern alone, and one member goes back to it. */
-static void put_set_for(enum call call) {
+/* The largest case that the call takes: the old form has a second pattern alone, and one member goes back to it. */
+static void put_largest_for(enum call call) {
+  old_form = call == UPGRADE;
+  put_line(0);
+  put_pattern(0, 0);
   if (call == UPGRADE) {
     put_pattern(0, 0);
   } else {
@@ -329,13 +341,11 @@ static void put_set_for(enum call call) {
 
 /* The largest case there is, out of the old form and back. */
 static void moved(void) {
-  static const uint64_t old_length = 2 + 64 * 6 + 2 * (2 + 16 * 8);
+  static const uint64_t old_length = 2 + 64 * 6 + 2 * (2 + 16 * 8), length = 2 + 64 * 6 + 2 + 2 * (2 + 16 * 10);
   ask_whole();
   for (enum call call = UPGRADE; call <= DOWNGRADE; call++) {
-    put_line(0);
-    put_pattern(0, 0);
-    put_set_for(call);
-    expect(call, 0, call == UPGRADE ? old_length + 2 : old_length, "64, 16 and 16 nodes");
+    put_largest_for(call);
+    expect(call, 0, call == UPGRADE ? length : old_length, "64, 16 and 16 nodes");
   }
 }
 
@@ -372,7 +382,7 @@ static void put_shape(unsigned shape, int alike) {
 }
 
 static void normal_forms(void) {
-  static const uint64_t length = 2 + 64 * 6 + 2 + 9 * (2 + 16 * 8);
+  static const uint64_t length = 2 + 64 * 6 + 2 + 9 * (2 + 16 * 10);
   ask_whole();
   for (unsigned shape = 0; shape < 5; shape++) {
     for (int alike = 0; alike <= 1; alike++) {
@@ -382,10 +392,14 @@ static void normal_forms(void) {
   }
 }
 
+/* Question 17 about the document, to tell it from that about the patterns. */
+#define DOCUMENT_FIGURE 1017
+
 /* Alters what is asked so that this question is the first one answered no. */
 static void break_question(unsigned question) {
-  uint8_t *second_node = asked.given.at + 2 + 2 * 6, *pattern_root = asked.given.at + 2 + 64 * 6 + 2;
-  uint8_t *last_root = asked.given.at + asked.given.length - 16 * 8;
+  const size_t nodes = 16 * (old_form ? 8 : 10);
+  uint8_t *second_node = asked.given.at + 2 + 2 * 6, *set = asked.given.at + 2 + 64 * 6 + 2 + nodes;
+  uint8_t *last_root = asked.given.at + asked.given.length - nodes;
   switch (question) {
   case 1: asked.limit = 0; break;
   case 2: asked.answer_length--, asked.table_length--; break;
@@ -399,33 +413,39 @@ static void break_question(unsigned question) {
   case 10: asked.document.length--; break;
   case 12: asked.number = 2 + CADWEZIN_MEMBERS_MOST; break;
   case 14:
-    for (; pattern_root[16 * 8] <= CADWEZIN_MEMBERS_MOST; pattern_root[16 * 8]++) {
+    for (; *set <= CADWEZIN_MEMBERS_MOST; ++*set) {
       put_pattern(0, 0);
     }
     break;
-  case 15: pattern_root[16 * 8]++, put_pattern(0, 0); break;
+  case 15: ++*set, put_pattern(0, 0); break;
   case 16: asked.caller = CADWEZIN_CALLERS; break;
+  case 17: asked.given.at[asked.given.length - 1] = 8; break;
+  case DOCUMENT_FIGURE: asked.document.at[asked.document.length - 1] = 8; break;
   default: asked.list.length -= 2;
   }
 }
 
 /* Each call's questions, each answered no. */
 static void refusals(void) {
-  static const unsigned questions[CALLS][12] = {
-      {1, 2, 3, 4, 14, 5, 6, 7, 8, 16, 9}, {3, 4, 14, 5, 6, 7, 8, 10}, {3, 4, 14, 5, 6, 7, 8, 10, 12, 11},
-      {2, 3, 4, 14, 5, 6, 7, 8, 10, 12},   {3, 4, 14, 5, 6, 7, 8, 12}, {2, 3, 4, 14, 5, 6, 7, 8, 12, 13},
-      {2, 3, 4, 5, 6, 7, 8},               {2, 3, 4, 14, 5, 6, 7, 8, 15}, {1, 2, 3, 4, 14, 5, 6, 7, 8, 16, 9},
-      {2, 3, 4, 14, 5, 6, 7, 8}};
+  static const unsigned questions[CALLS][14] = {
+      {1, 2, 3, 4, 14, 5, 6, 7, 17, 8, 16, 9},
+      {3, 4, 14, 5, 6, 7, 17, 8, 10, DOCUMENT_FIGURE},
+      {3, 4, 14, 5, 6, 7, 17, 8, 10, DOCUMENT_FIGURE, 12, 11},
+      {2, 3, 4, 14, 5, 6, 7, 17, 8, 10, DOCUMENT_FIGURE, 12},
+      {3, 4, 14, 5, 6, 7, 17, 8, 12},
+      {2, 3, 4, 14, 5, 6, 7, 17, 8, 12, 13},
+      {2, 3, 4, 5, 6, 7, 8},
+      {2, 3, 4, 14, 5, 6, 7, 17, 8, 15},
+      {1, 2, 3, 4, 14, 5, 6, 7, 17, 8, 16, 9},
+      {2, 3, 4, 14, 5, 6, 7, 17, 8}};
   for (enum call call = 0; call < CALLS; call++) {
     for (const unsigned *question = questions[call]; *question != 0; question++) {
       ask_whole();
-      put_line(0);
-      put_pattern(0, 0);
-      put_set_for(call);
+      put_largest_for(call);
       put_document(63);
       put_list(call == LAYOUT ? 16 : 8, 0, 1);
       break_question(*question);
-      expect(call, *question, 0, "a refusal");
+      expect(call, *question == DOCUMENT_FIGURE ? 17 : *question, 0, "a refusal");
     }
   }
 }
@@ -442,13 +462,16 @@ static size_t used(const uint8_t *room) {
 int main(void) {
   int kept = 1;
   memset(rooms, PAINT, sizeof rooms);
-  shown(0, 63);
-  shown(1, 1);
-  stepped();
+  for (figure = 0; figure <= CADWEZIN_FIGURE_MOST; figure += CADWEZIN_FIGURE_MOST) {
+    shown(0, 63);
+    shown(1, 1);
+    stepped();
+    documents();
+    normal_forms();
+  }
+  figure = 0;
   struck();
-  documents();
   moved();
-  normal_forms();
   refusals();
   printf("stack: %u answers;", held);
   for (enum call call = 0; call < CALLS; call++) {

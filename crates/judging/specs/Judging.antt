@@ -23,7 +23,7 @@ gather parent F (suc n) t = gather parent F n (joinUp parent F (suc n) t)
 
 -- ---- one node
 
--- who holds a document node: a node of the first pattern, or this number, nobody
+-- a document node is held by a node of the first pattern, whose position and figure it then has, or by this number, nobody
 abbrev pub nobody : ℕ
 nobody = maxPattern
 

@@ -17,11 +17,10 @@ use Rattle.model.proofs.Bytes.{length-bytes, whole-case}
 use Rattle.model.proofs.WriteBack.{encode-case}
 use Rattle.model.proofs.Normal.{case-renumbers}
 use Rattle.model.proofs.RenumberedBytes.{renumbered-size}
-use Rattle.format.specs.Given.{SetGiven}
 use Rattle.format.proofs.SectionLaws.{set-member, member-step}
-use Rattle.format.proofs.GivenLaws.{given-first, given-set}
+use Rattle.format.proofs.GivenLaws.{given-first, given-set, member-facts}
 use Rattle.format.proofs.WriteLaws.{flatMap-append, bytes-append, sets-append}
-use Rattle.normalising.specs.Tables.{normalFields, TableGiven}
+use Rattle.normalising.specs.Tables.{normalFields, TableGiven, SetTables}
 use Rattle.normalising.proofs.SectionLaws.{fields-count, pattern-fields, pattern-given, summary-given, summary-fields}
 
 -- ---- the set
@@ -47,9 +46,9 @@ module _ {b : List ℕ} {on : ℕ} where
   unfolding memberAt flatMap bytesOf
   members-start rows out l = record { turns = omega arith; lent = l; size = refl; place = refl; fields = omega arith; bytes = refl }
 
-  module _ (g : SetGiven b on) {rows out₀ out : List ℕ} {at i : ℕ} (w : Members b on rows out₀ out at i) (h : i < length (setOf b on)) where
+  module _ (g : SetTables b on) {rows out₀ out : List ℕ} {at i : ℕ} (w : Members b on rows out₀ out at i) (h : i < length (setOf b on)) where
     pub member-table : TableGiven patternWidth b at
-    member-table = subst (TableGiven patternWidth b) (sym (w .place)) (pattern-given b (memberAt b on i) (g .members i h))
+    member-table = subst (TableGiven patternWidth b) (sym (w .place)) (g .members i h)
 
     -- it stands inside the case, which has room in out
     pub member-inside : length b ≤ length out₀ → (2 * at + 1 < length b) × (2 * sectionEnd patternWidth b at ≤ length out)
@@ -116,13 +115,24 @@ module _ {b : List ℕ} (a : AcceptedCase b) where
   pub summary-fits : (out : List ℕ) → length b ≤ length out → 2 * sectionEnd summaryWidth b 0 ≤ length out
   summary-fits out room = omega (arith, a .whole .summary .records)
 
+  first-table : TableGiven patternWidth b (firstAt b)
+  unfolding caseOf
+  first-table = pattern-given b (firstAt b) (given-first a) (a .facts .first) (a .facts .arityBound)
+
   pub first-fits : {first : ℕ} → first ≡ firstAt b → (out : List ℕ) (at : ℕ) (vs : List ℕ) {o : List ℕ} → length b ≤ length out → o ≡ sets out at vs → TableGiven patternWidth b first × (2 * sectionEnd patternWidth b first ≤ length o)
   first-fits {first} e out at vs {o} room p =
-      let g : TableGiven patternWidth b first = subst (TableGiven patternWidth b) (sym e) (pattern-given b (firstAt b) (given-first a)) in
+      let g : TableGiven patternWidth b first = subst (TableGiven patternWidth b) (sym e) first-table in
       (g, omega (arith, g .whole .records, ap length p ∙ length-sets out at vs))
 
-  pub set-given : {set : ℕ} → set ≡ setAt b → SetGiven b set
-  set-given e = subst (SetGiven b) (sym e) (given-set a)
+  pub set-given : {set : ℕ} → set ≡ setAt b → SetTables b set
+  set-given e =
+      subst (SetTables b) (sym e)
+      (record {
+        whole = a .whole .members;
+        members = λ i h.
+            let m = member-facts a i h in
+            pattern-given b (memberAt b (setAt b) i) (given-set a .members i h) (m .pattern) (omega (arith, m .sameArity, a .facts .arityBound));
+      })
 
   pub normal-size : AreBytes b → length (normalised b) ≡ length b
   unfolding normalised
@@ -137,7 +147,7 @@ module _ {b : List ℕ} (a : AcceptedCase b) where
       let F₂ : List ℕ = normalFields patternWidth b (firstAt b) in
       let F₃ : List ℕ = setFields (written b (setAt b)) in
       let n₁ : 0 + length F₁ ≡ firstAt b = fields-count (summary-given b a) in
-      let n₂ : firstAt b + length F₂ ≡ setAt b = fields-count (pattern-given b (firstAt b) (given-first a)) in
+      let n₂ : firstAt b + length F₂ ≡ setAt b = fields-count first-table in
       let l₁ : length (bytesOf F₁) ≡ 2 * length F₁ = length-bytes F₁ in
       let l₂ : length (bytesOf F₂) ≡ 2 * length F₂ = length-bytes F₂ in
       let a₁ : 2 * firstAt b ≡ 0 + length (bytesOf F₁) = omega arith in

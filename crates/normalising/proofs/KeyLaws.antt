@@ -16,15 +16,20 @@ use Rattle.model.proofs.ListLaws.{true-or-false, getD-map}
 use Rattle.model.proofs.Ordering.{after-same}
 use Rattle.normalising.specs.Keys.{entryOf, entriesOf}
 
-pub packed : (d l e p : ℕ) → l < 65536 → e < 65536 → p < 65536 → entryOf (d * 281474976710656 + l * 4294967296 + e * 65536 + p) ≡ record { depth = d; label = l; edge = e; position = p }
+-- a key made of its parts
+abbrev keyOf : ℕ → ℕ → ℕ → ℕ → ℕ → ℕ
+keyOf d l g p f = d * 72057594037927936 + l * 1099511627776 + g * 16777216 + p * 65536 + f
+
+pub packed : (d l g p f : ℕ) → l < 65536 → g < 65536 → p < 256 → f < 65536 → entryOf (keyOf d l g p f) ≡ record { depth = d; label = l; edge = g; position = p; figure = f }
 unfolding entryOf
-packed d l e p hl he hp =
-    let k : ℕ = d * 281474976710656 + l * 4294967296 + e * 65536 + p in
-    let ed : k / 281474976710656 ≡ d = omega arith in
-    let el : k / 4294967296 % 65536 ≡ l = omega arith in
-    let ee : k / 65536 % 65536 ≡ e = omega arith in
-    let ep : k % 65536 ≡ p = omega arith in
-    λ i. record { depth = ed i; label = el i; edge = ee i; position = ep i }
+packed d l g p f hl hg hp hf =
+    let k : ℕ = keyOf d l g p f in
+    let ed : k / 72057594037927936 ≡ d = omega arith in
+    let el : k / 1099511627776 % 65536 ≡ l = omega arith in
+    let eg : k / 16777216 % 65536 ≡ g = omega arith in
+    let ep : k / 65536 % 256 ≡ p = omega arith in
+    let ef : k % 65536 ≡ f = omega arith in
+    λ i. record { depth = ed i; label = el i; edge = eg i; position = ep i; figure = ef i }
 
 -- ---- comparing
 
@@ -51,25 +56,35 @@ head-decides x y r s t f g = same-or-other x y (λ e. after-same x y r s e ∙ g
 abbrev numbersOf : List ℕ → List ℕ
 numbersOf ks = flatMap entryNumbers (entriesOf ks)
 
--- a key is the sum of its parts
-key-parts : (x : ℕ) → (x ≡ x / 281474976710656 * 281474976710656 + x / 4294967296 % 65536 * 4294967296 + x / 65536 % 65536 * 65536 + x % 65536)
-    × ((x / 4294967296 % 65536 < 65536) × ((x / 65536 % 65536 < 65536) × (x % 65536 < 65536)))
-key-parts x = (omega arith, (omega arith, (omega arith, omega arith)))
+-- a key is the sum of its parts, one after another
+joined-parts : (x u v w d l g p f : ℕ) → x ≡ u * 65536 + f → u ≡ v * 256 + p → v ≡ w * 65536 + g → w ≡ d * 65536 + l → x ≡ keyOf d l g p f
+joined-parts x u v w d l g p f a b c e = omega arith
 
-module _ (d l g p d′ l′ g′ p′ x y : ℕ)
-    (ex : x ≡ d * 281474976710656 + l * 4294967296 + g * 65536 + p) (hl : l < 65536) (hg : g < 65536) (hp : p < 65536)
-    (ey : y ≡ d′ * 281474976710656 + l′ * 4294967296 + g′ * 65536 + p′) (hl′ : l′ < 65536) (hg′ : g′ < 65536) (hp′ : p′ < 65536) where
-  parts-decide : (x ≡ y → ⊥) → (r s : List ℕ) → notAfter (d ∷ l ∷ g ∷ p ∷ r) (d′ ∷ l′ ∷ g′ ∷ p′ ∷ s) ≡ ltb x y
-  parts-decide f r s =
-      head-decides d d′ (l ∷ g ∷ p ∷ r) (l′ ∷ g′ ∷ p′ ∷ s) (ltb x y)
+key-parts : (x : ℕ) → (x ≡ keyOf (x / 72057594037927936) (x / 1099511627776 % 65536) (x / 16777216 % 65536) (x / 65536 % 256) (x % 65536))
+    × ((x / 1099511627776 % 65536 < 65536) × ((x / 16777216 % 65536 < 65536) × ((x / 65536 % 256 < 256) × (x % 65536 < 65536))))
+key-parts x =
+    let figure : x ≡ x / 65536 * 65536 + x % 65536 = omega arith in
+    let position : x / 65536 ≡ x / 16777216 * 256 + x / 65536 % 256 = omega arith in
+    let edge : x / 16777216 ≡ x / 1099511627776 * 65536 + x / 16777216 % 65536 = omega arith in
+    let label : x / 1099511627776 ≡ x / 72057594037927936 * 65536 + x / 1099511627776 % 65536 = omega arith in
+    (joined-parts _ _ _ _ _ _ _ _ _ figure position edge label, (omega arith, (omega arith, (omega arith, omega arith))))
+
+module _ (d l g p f d′ l′ g′ p′ f′ x y : ℕ)
+    (ex : x ≡ keyOf d l g p f) (hl : l < 65536) (hg : g < 65536) (hp : p < 256) (hf : f < 65536)
+    (ey : y ≡ keyOf d′ l′ g′ p′ f′) (hl′ : l′ < 65536) (hg′ : g′ < 65536) (hp′ : p′ < 256) (hf′ : f′ < 65536) where
+  parts-decide : (x ≡ y → ⊥) → (r s : List ℕ) → notAfter (d ∷ l ∷ g ∷ p ∷ f ∷ r) (d′ ∷ l′ ∷ g′ ∷ p′ ∷ f′ ∷ s) ≡ ltb x y
+  parts-decide ne r s =
+      head-decides d d′ (l ∷ g ∷ p ∷ f ∷ r) (l′ ∷ g′ ∷ p′ ∷ f′ ∷ s) (ltb x y)
       (λ n. ltb-agree d d′ x y (λ h. omega arith) (λ h. let m : d′ < d = omega arith in omega arith))
-      (λ ed. head-decides l l′ (g ∷ p ∷ r) (g′ ∷ p′ ∷ s) (ltb x y)
+      (λ ed. head-decides l l′ (g ∷ p ∷ f ∷ r) (g′ ∷ p′ ∷ f′ ∷ s) (ltb x y)
       (λ n. ltb-agree l l′ x y (λ h. omega arith) (λ h. let m : l′ < l = omega arith in omega arith))
-      (λ el. head-decides g g′ (p ∷ r) (p′ ∷ s) (ltb x y)
+      (λ el. head-decides g g′ (p ∷ f ∷ r) (p′ ∷ f′ ∷ s) (ltb x y)
       (λ n. ltb-agree g g′ x y (λ h. omega arith) (λ h. let m : g′ < g = omega arith in omega arith))
-      (λ eg. head-decides p p′ r s (ltb x y)
+      (λ eg. head-decides p p′ (f ∷ r) (f′ ∷ s) (ltb x y)
       (λ n. ltb-agree p p′ x y (λ h. omega arith) (λ h. let m : p′ < p = omega arith in omega arith))
-      (λ ep. absurd (f (omega arith))))))
+      (λ ep. head-decides f f′ r s (ltb x y)
+      (λ n. ltb-agree f f′ x y (λ h. omega arith) (λ h. let m : f′ < f = omega arith in omega arith))
+      (λ ef. absurd (ne (omega arith)))))))
 
 module _ (x y : ℕ) (ks ls : List ℕ) where
   -- equal keys: the rest decides
@@ -80,11 +95,13 @@ module _ (x y : ℕ) (ks ls : List ℕ) where
       let l : ℕ = entryOf x .label in
       let g : ℕ = entryOf x .edge in
       let p : ℕ = entryOf x .position in
+      let f : ℕ = entryOf x .figure in
       ap (λ (k : ℕ). bySubtree (entriesOf (x ∷ ks)) (entriesOf (k ∷ ls))) (sym e)
-      ∙ after-same d d (l ∷ g ∷ p ∷ numbersOf ks) (l ∷ g ∷ p ∷ numbersOf ls) refl
-      ∙ after-same l l (g ∷ p ∷ numbersOf ks) (g ∷ p ∷ numbersOf ls) refl
-      ∙ after-same g g (p ∷ numbersOf ks) (p ∷ numbersOf ls) refl
-      ∙ after-same p p (numbersOf ks) (numbersOf ls) refl
+      ∙ after-same d d (l ∷ g ∷ p ∷ f ∷ numbersOf ks) (l ∷ g ∷ p ∷ f ∷ numbersOf ls) refl
+      ∙ after-same l l (g ∷ p ∷ f ∷ numbersOf ks) (g ∷ p ∷ f ∷ numbersOf ls) refl
+      ∙ after-same g g (p ∷ f ∷ numbersOf ks) (p ∷ f ∷ numbersOf ls) refl
+      ∙ after-same p p (f ∷ numbersOf ks) (f ∷ numbersOf ls) refl
+      ∙ after-same f f (numbersOf ks) (numbersOf ls) refl
 
   -- others: the smaller comes first
   pub key-other : (x ≡ y → ⊥) → bySubtree (entriesOf (x ∷ ks)) (entriesOf (y ∷ ls)) ≡ ltb x y
@@ -92,8 +109,9 @@ module _ (x y : ℕ) (ks ls : List ℕ) where
   key-other f =
       let u = key-parts x in
       let v = key-parts y in
-      parts-decide (x / 281474976710656) (x / 4294967296 % 65536) (x / 65536 % 65536) (x % 65536) (y / 281474976710656) (y / 4294967296 % 65536) (y / 65536 % 65536) (y % 65536) x y
-      (u .0) (u .1 .0) (u .1 .1 .0) (u .1 .1 .1) (v .0) (v .1 .0) (v .1 .1 .0) (v .1 .1 .1) f (numbersOf ks) (numbersOf ls)
+      parts-decide (x / 72057594037927936) (x / 1099511627776 % 65536) (x / 16777216 % 65536) (x / 65536 % 256) (x % 65536)
+      (y / 72057594037927936) (y / 1099511627776 % 65536) (y / 16777216 % 65536) (y / 65536 % 256) (y % 65536) x y
+      (u .0) (u .1 .0) (u .1 .1 .0) (u .1 .1 .1 .0) (u .1 .1 .1 .1) (v .0) (v .1 .0) (v .1 .1 .0) (v .1 .1 .1 .0) (v .1 .1 .1 .1) f (numbersOf ks) (numbersOf ls)
 
 -- a row against nothing, and nothing against a row
 pub none-after : (ls : List ℕ) → bySubtree (entriesOf []) (entriesOf ls) ≡ true

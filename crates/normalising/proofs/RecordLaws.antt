@@ -10,13 +10,12 @@ use lib.Dec.{eqb}
 use lib.ListN.{length, getD, take, set, replicate, length-append, length-set, length-map, length-replicate, getD-replicate}
 use lib.Seq.{sets, length-sets, take-suc, take-all, length-take-le, getD-set-same, getD-set-other}
 use borrow.Author.Tests.{eq-eqb, ne-eqb}
-use Rattle.model.specs.Limits.{patternWidth}
+use Rattle.model.specs.Limits.{summaryWidth}
 use Rattle.model.specs.Pattern.{PatternRecord, Pattern, noPatternRecord}
 use Rattle.model.specs.Bytes.{fieldBytes, bytesOf, patternFields}
 use Rattle.model.specs.Normal.{Entry, noEntry, lastAt, tableOf}
-use Rattle.model.proofs.Bytes.{length-bytes}
 use Rattle.model.proofs.Numbering.{table-length, table-record}
-use Rattle.format.proofs.WriteLaws.{flatMap-append, bytes-append, sets-append}
+use Rattle.format.proofs.WriteLaws.{flatMap-append, fields-run, one-run}
 use Rattle.normalising.specs.Keys.{entryOf, entriesOf, Shallow}
 use Rattle.normalising.specs.Tables.{Width, fieldsOf, recordWith}
 use Rattle.normalising.proofs.KeyLaws.{same-or-other, entry-there}
@@ -26,42 +25,36 @@ use Rattle.normalising.proofs.KeyLaws.{same-or-other, entry-there}
 -- fields put one after another
 pub fields-put : (out : List ℕ) (at : ℕ) (fs : List ℕ) (v : ℕ) {before after : List ℕ} {to : ℕ} → to ≡ at + length fs → before ≡ sets out (2 * at) (bytesOf fs) → after ≡ sets before (2 * to) (fieldBytes v)
     → after ≡ sets out (2 * at) (bytesOf (fs ++ (v ∷ [])))
-unfolding bytesOf flatMap fieldBytes
-fields-put out at fs v {before} {after} {to} e b a =
-    let n : length (bytesOf fs) ≡ 2 * length fs = length-bytes fs in
-    let there : 2 * to ≡ 2 * at + length (bytesOf fs) = omega arith in
-    a ∙ ap₂ (λ (o : List ℕ) (j : ℕ). sets o j (fieldBytes v)) b there ∙ sym (sets-append out (2 * at) (bytesOf fs) (fieldBytes v))
-    ∙ ap (λ (l : List ℕ). sets out (2 * at) l) (sym (bytes-append fs (v ∷ [])))
-
--- the first field
-pub field-put : (out : List ℕ) (at v : ℕ) {after : List ℕ} → after ≡ sets out (2 * at) (fieldBytes v) → after ≡ sets out (2 * at) (bytesOf (v ∷ []))
-unfolding bytesOf flatMap fieldBytes
-field-put out at v e = e
+fields-put out at fs v {before} {after} {to} e b a = fields-run out at fs (v ∷ []) e b (one-run before to v a)
 
 module _ (out : List ℕ) (at parent key : ℕ) {width : ℕ} (w : Width width) {o₁ o₂ o₃ : List ℕ}
     (p₁ : o₁ ≡ sets out (2 * at) (fieldBytes parent))
-    (p₂ : o₂ ≡ sets o₁ (2 * (at + 1)) (fieldBytes (key / 4294967296 % 65536)))
-    (p₃ : o₃ ≡ sets o₂ (2 * (at + 2)) (fieldBytes (key / 65536 % 65536))) where
-  three : o₃ ≡ sets out (2 * at) (bytesOf (parent ∷ key / 4294967296 % 65536 ∷ key / 65536 % 65536 ∷ []))
-  three = fields-put out at (parent ∷ key / 4294967296 % 65536 ∷ []) (key / 65536 % 65536) refl (fields-put out at (parent ∷ []) (key / 4294967296 % 65536) refl (field-put out at parent p₁) p₂) p₃
+    (p₂ : o₂ ≡ sets o₁ (2 * (at + 1)) (fieldBytes (key / 1099511627776 % 65536)))
+    (p₃ : o₃ ≡ sets o₂ (2 * (at + 2)) (fieldBytes (key / 16777216 % 65536))) where
+  abbrev narrow : List ℕ
+  narrow = parent ∷ key / 1099511627776 % 65536 ∷ key / 16777216 % 65536 ∷ []
 
-  -- records of three fields, and of four
-  pub record-narrow : width < patternWidth → o₃ ≡ sets out (2 * at) (bytesOf (fieldsOf width (recordWith parent (entryOf key))))
+  three : o₃ ≡ sets out (2 * at) (bytesOf narrow)
+  three = fields-put out at (parent ∷ key / 1099511627776 % 65536 ∷ []) (key / 16777216 % 65536) refl (fields-put out at (parent ∷ []) (key / 1099511627776 % 65536) refl (one-run out at parent p₁) p₂) p₃
+
+  -- records of three fields, and of five
+  pub record-narrow : width ≤ summaryWidth → o₃ ≡ sets out (2 * at) (bytesOf (fieldsOf width (recordWith parent (entryOf key))))
   unfolding entryOf
   record-narrow h =
       let e : 3 ≡ width = omega (arith, w .least) in
       three ∙ ap (λ (n : ℕ). sets out (2 * at) (bytesOf (fieldsOf n (recordWith parent (entryOf key))))) e
 
-  pub record-wide : patternWidth ≤ width → {o₄ : List ℕ} → o₄ ≡ sets o₃ (2 * (at + 3)) (fieldBytes (key % 65536)) → o₄ ≡ sets out (2 * at) (bytesOf (fieldsOf width (recordWith parent (entryOf key))))
+  pub record-wide : summaryWidth < width → {o₄ o₅ : List ℕ} → o₄ ≡ sets o₃ (2 * (at + 3)) (fieldBytes (key / 65536 % 256)) → o₅ ≡ sets o₄ (2 * (at + 4)) (fieldBytes (key % 65536))
+      → o₅ ≡ sets out (2 * at) (bytesOf (fieldsOf width (recordWith parent (entryOf key))))
   unfolding entryOf
-  record-wide h p₄ =
-      let e : 4 ≡ width = omega (arith, w .most) in
-      fields-put out at (parent ∷ key / 4294967296 % 65536 ∷ key / 65536 % 65536 ∷ []) (key % 65536) refl three p₄
+  record-wide h p₄ p₅ =
+      let e : 5 ≡ width = omega (arith, w .most, w .all h) in
+      fields-put out at (narrow ++ (key / 65536 % 256 ∷ [])) (key % 65536) refl (fields-put out at narrow (key / 65536 % 256) refl three p₄) p₅
       ∙ ap (λ (n : ℕ). sets out (2 * at) (bytesOf (fieldsOf n (recordWith parent (entryOf key))))) e
 
   -- sizes stay
   pub size-three : length o₃ ≡ length out
-  size-three = ap length three ∙ length-sets out (2 * at) (bytesOf (parent ∷ key / 4294967296 % 65536 ∷ key / 65536 % 65536 ∷ []))
+  size-three = ap length three ∙ length-sets out (2 * at) (bytesOf narrow)
 
 -- ---- the loop that writes the records
 
@@ -121,8 +114,6 @@ module _ {keys : List ℕ} {width at : ℕ} {out₀ out last : List ℕ} {k : �
       let fs : List ℕ = flatMap (fieldsOf width) (take k T) in
       let r : PatternRecord = getD T k noPatternRecord in
       let m : length fs ≡ width * k = records-length g (take k T) ∙ ap (λ (x : ℕ). width * x) (length-take-le k T (omega arith)) in
-      let l : length (bytesOf fs) ≡ 2 * length fs = length-bytes fs in
-      let there : 2 * (at + width * k) ≡ 2 * at + length (bytesOf fs) = omega arith in
       let more : flatMap (fieldsOf width) (take (k + 1) T) ≡ fs ++ fieldsOf width r =
       ap (λ (j : ℕ). flatMap (fieldsOf width) (take j T)) (add-one k) ∙ ap (flatMap (fieldsOf width)) (take-suc T k noPatternRecord (omega arith))
       ∙ flatMap-append (fieldsOf width) (take k T) (r ∷ []) ∙ ap (λ (x : List ℕ). fs ++ x) (append-nil (fieldsOf width r)) in
@@ -130,10 +121,8 @@ module _ {keys : List ℕ} {width at : ℕ} {out₀ out last : List ℕ} {k : �
         turns = omega arith;
         size = ap length e ∙ length-sets out (2 * (at + width * k)) (bytesOf (fieldsOf width (recordWith (getD last up 0) (entryOf (getD keys k 0))))) ∙ w .size;
         bytes =
-            e ∙ ap (λ (x : PatternRecord). sets out (2 * (at + width * k)) (bytesOf (fieldsOf width x))) own-record
-            ∙ ap₂ (λ (o : List ℕ) (j : ℕ). sets o j (bytesOf (fieldsOf width r))) (w .bytes) there
-            ∙ sym (sets-append out₀ (2 * at) (bytesOf fs) (bytesOf (fieldsOf width r)))
-            ∙ ap (λ (x : List ℕ). sets out₀ (2 * at) x) (sym (ap bytesOf more ∙ bytes-append fs (fieldsOf width r)));
+            fields-run out₀ at fs (fieldsOf width r) (ap (λ (x : ℕ). at + x) (sym m)) (w .bytes) (e ∙ ap (λ (x : PatternRecord). sets out (2 * (at + width * k)) (bytesOf (fieldsOf width x))) own-record)
+            ∙ ap (λ (x : List ℕ). sets out₀ (2 * at) (bytesOf x)) (sym more);
         depths = length-set last depth k ∙ w .depths;
         lasts = λ d l. same-or-other d depth (own d) (other d l);
       }

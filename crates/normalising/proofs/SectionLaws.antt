@@ -3,14 +3,14 @@ use Prim.Native.Nat.{ℕ, _+_, _*_, _≤_, _<_}
 use mathlib.Core.Path.{_≡_, refl, sym, ap, ap₂, _∙_, subst}
 use mathlib.Core.List.{List, [], _∷_, _++_, flatMap, map-map}
 use native.Mathlib.Omega.{arith}
-use lib.ListN.{length, getD, take, length-map}
+use lib.ListN.{length, getD, take, length-map, List·getD-map}
 use lib.Seq.{sets, length-sets, length-take-le}
 use Rattle.model.specs.Lists.{upFrom}
-use Rattle.model.specs.Limits.{summaryWidth, patternWidth}
-use Rattle.model.specs.Summary.{Summary}
-use Rattle.model.specs.Pattern.{Pattern, IsPatternTree}
+use Rattle.model.specs.Limits.{maxPosition, summaryWidth, patternWidth}
+use Rattle.model.specs.Summary.{Summary, noSummaryRecord}
+use Rattle.model.specs.Pattern.{PatternRecord, Pattern, IsPatternTree, position, arity}
 use Rattle.model.specs.Bytes.{field, fieldBytes, bytesOf, section, recordsAt, summaryRecordAt, summaryFields, patternFields, sectionFields, sectionEnd, caseOf}
-use Rattle.model.specs.Facts.{AcceptedCase}
+use Rattle.model.specs.Facts.{PatternFacts, AcceptedCase}
 use Rattle.model.specs.Normal.{Entry, noEntry, entryAt, depthOf, bySubtree, preorder, listed, tableOf, normalPattern, readAs, readBack, asPattern, asSummary, normalSummary}
 use Rattle.model.proofs.ListLaws.{getD-map}
 use Rattle.model.proofs.Preorder.{depth-small}
@@ -95,13 +95,16 @@ module _ (b : List ℕ) (at : ℕ) where
   pub pattern-fields : normalFields patternWidth b at ≡ sectionFields patternFields (normalPattern (patternAt b at))
   pattern-fields = ap (λ (P : Pattern). sectionFields patternFields (normalPattern P)) table-pattern
 
-  pub pattern-given : PatternGiven b at → TableGiven patternWidth b at
-  pattern-given g =
+  pub pattern-given : PatternGiven b at → PatternFacts (patternAt b at) → arity (patternAt b at) ≤ maxPosition → TableGiven patternWidth b at
+  pattern-given g facts few =
       record {
-        fields = record { least = omega arith; most = omega arith };
+        fields = record { least = omega arith; most = omega arith; all = λ h. omega arith };
         whole = g .whole;
         tree = subst IsPatternTree (sym table-pattern) (g .tree);
         few = subst (λ (P : Pattern). length P ≤ 64) (sym table-pattern) (omega (arith, g .few));
+        positions =
+            subst (λ (P : Pattern). (i : ℕ) → i < length P → position P i < 256) (sym table-pattern)
+            (λ i h. let r : position (patternAt b at) i ≤ arity (patternAt b at) = facts .range i h in omega arith);
       }
 
 module _ (b : List ℕ) where
@@ -113,10 +116,13 @@ module _ (b : List ℕ) where
     pub summary-given : TableGiven summaryWidth b 0
     summary-given =
         record {
-          fields = record { least = omega arith; most = omega arith };
+          fields = record { least = omega arith; most = omega arith; all = λ h. absurd (omega arith) };
           whole = a .whole .summary;
           tree = subst IsPatternTree (sym table-summary) (summary-tree (summaryIn b) (a .facts .summary));
           few = subst (λ (P : Pattern). length P ≤ 64) (sym table-summary) (omega (arith, a .facts .summarySize, length-map (summaryIn b) readAs));
+          positions =
+              subst (λ (P : Pattern). (i : ℕ) → i < length P → position P i < 256) (sym table-summary)
+              (λ i h. let z : position (asPattern (summaryIn b)) i ≡ 0 = ap (λ (r : PatternRecord). r .position) (List·getD-map readAs (summaryIn b) i noSummaryRecord) in omega arith);
         }
 
     narrow-fields : (Q : Pattern) → flatMap (fieldsOf summaryWidth) Q ≡ flatMap summaryFields (asSummary Q)

@@ -7,11 +7,12 @@ use native.Mathlib.Omega.{arith}
 use native.Mathlib.Numerals.{add-one}
 use native.Mathlib.Nat.{add-zero}
 use Rattle.normalising.proofs.KeyLaws.{same-or-other}
+use lib.Dec.{ltb}
 use lib.ListN.{length, getD, set, length-set}
 use lib.Seq.{getD-set-same, getD-set-other}
 use borrow.Author.Tests.{lt-ltb, le-ltb}
-use Rattle.model.specs.Limits.{summaryWidth, patternWidth}
-use Rattle.model.specs.Pattern.{PatternRecord, Pattern, IsPatternTree, noPatternRecord, patternParent}
+use Rattle.model.specs.Limits.{summaryWidth}
+use Rattle.model.specs.Pattern.{PatternRecord, Pattern, IsPatternTree, noPatternRecord, patternParent, position}
 use Rattle.model.specs.Bytes.{field}
 use Rattle.model.specs.Normal.{Entry, depthOf, entryAt}
 use Rattle.model.proofs.Preorder.{depth-root, depth-child, depth-small}
@@ -31,22 +32,33 @@ module _ (width : ℕ) (b : List ℕ) (at i : ℕ) where
   unfolding readAt
   table-parent h e = e ∙ ap (field b) (add-zero (at + 1 + width * i)) ∙ sym (ap (λ (r : PatternRecord). r .parent) (table-record h))
 
+  -- a field that only wide records have
+  read-wide : (f : ℕ) → summaryWidth < width → f ≡ (elim (ltb summaryWidth width) as (λ _. ℕ) [ true ↦ f | false ↦ 0 ])
+  read-wide f w = sym (ap (λ (t : Bool). elim t as (λ _. ℕ) [ true ↦ f | false ↦ 0 ]) (lt-ltb summaryWidth width w))
+
+  -- the position that is read is small
+  pub position-small : i < field b at → {p p′ : ℕ} → summaryWidth < width → p ≡ p′ → p′ ≡ field b (at + 1 + width * i + 3) → position (tableAt width b at) i < 256 → p < 256
+  unfolding readAt
+  position-small h {p} w wp fp small =
+      let e : p ≡ position (tableAt width b at) i = wp ∙ fp ∙ read-wide (field b (at + 1 + width * i + 3)) w ∙ sym (ap (λ (r : PatternRecord). r .position) (table-record h)) in
+      omega arith
+
   module _ (h : i < field b at) {d l l′ e e′ : ℕ} (wl : l ≡ l′) (fl : l′ ≡ field b (at + 1 + width * i + 1)) (we : e ≡ e′) (fe : e′ ≡ field b (at + 1 + width * i + 2)) where
-    -- a record of three fields, and one of four
-    pub node-narrow : {x : Entry} → width < patternWidth → x ≡ record { depth = d; label = l; edge = e; position = 0 } → x ≡ entryWith d (getD (tableAt width b at) i noPatternRecord)
+    -- a record of three fields, and one of five
+    pub node-narrow : {x : Entry} → width ≤ summaryWidth → x ≡ record { depth = d; label = l; edge = e; position = 0; figure = 0 } → x ≡ entryWith d (getD (tableAt width b at) i noPatternRecord)
     unfolding readAt
     node-narrow w z =
-        let none : 0 ≡ readAt width b (at + 1 + width * i) .position =
-        sym (ap (λ (t : Bool). elim t as (λ _. ℕ) [ true ↦ field b (at + 1 + width * i + 3) | false ↦ 0 ]) (le-ltb summaryWidth width (omega arith))) in
-        z ∙ (λ j. record { depth = d; label = (wl ∙ fl) j; edge = (we ∙ fe) j; position = none j }) ∙ sym (ap (entryWith d) (table-record h))
+        let none : (f : ℕ) → _≡_ {A = ℕ} 0 (elim (ltb summaryWidth width) as (λ _. ℕ) [ true ↦ f | false ↦ 0 ]) =
+        λ f. sym (ap (λ (t : Bool). elim t as (λ _. ℕ) [ true ↦ f | false ↦ 0 ]) (le-ltb summaryWidth width w)) in
+        let a : ℕ = at + 1 + width * i in
+        z ∙ (λ j. record { depth = d; label = (wl ∙ fl) j; edge = (we ∙ fe) j; position = none (field b (a + 3)) j; figure = none (field b (a + 4)) j }) ∙ sym (ap (entryWith d) (table-record h))
 
-    pub node-wide : {x : Entry} {p p′ : ℕ} → patternWidth ≤ width → p ≡ p′ → p′ ≡ field b (at + 1 + width * i + 3) → x ≡ record { depth = d; label = l; edge = e; position = p }
-        → x ≡ entryWith d (getD (tableAt width b at) i noPatternRecord)
+    pub node-wide : {x : Entry} {p p′ f f′ : ℕ} → summaryWidth < width → p ≡ p′ → p′ ≡ field b (at + 1 + width * i + 3) → f ≡ f′ → f′ ≡ field b (at + 1 + width * i + 4)
+        → x ≡ record { depth = d; label = l; edge = e; position = p; figure = f } → x ≡ entryWith d (getD (tableAt width b at) i noPatternRecord)
     unfolding readAt
-    node-wide {x} {p} w wp fp z =
-        let some : p ≡ readAt width b (at + 1 + width * i) .position =
-        wp ∙ fp ∙ sym (ap (λ (t : Bool). elim t as (λ _. ℕ) [ true ↦ field b (at + 1 + width * i + 3) | false ↦ 0 ]) (lt-ltb summaryWidth width (omega arith))) in
-        z ∙ (λ j. record { depth = d; label = (wl ∙ fl) j; edge = (we ∙ fe) j; position = some j }) ∙ sym (ap (entryWith d) (table-record h))
+    node-wide w wp fp wf ff z =
+        let a : ℕ = at + 1 + width * i in
+        z ∙ (λ j. record { depth = d; label = (wl ∙ fl) j; edge = (we ∙ fe) j; position = (wp ∙ fp ∙ read-wide (field b (a + 3)) w) j; figure = (wf ∙ ff ∙ read-wide (field b (a + 4)) w) j }) ∙ sym (ap (entryWith d) (table-record h))
 
 -- ---- the loop that puts each node's key
 

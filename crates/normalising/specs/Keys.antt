@@ -6,14 +6,15 @@ use lib.ListN.{length, getD, take, drop}
 use Rattle.model.specs.Normal.{Entry}
 use Rattle.model.specs.Gathering.{joined}
 
--- the entry that a key holds, 16 bits each but for the depth, which stands highest
+-- the entry that a key holds: 16 bits for label, edge and figure, 8 for a position; the depth stands highest
 unfoldable pub entryOf : ℕ → Entry
 entryOf k =
     record {
-      depth = k / 281_474_976_710_656;
-      label = k / 4_294_967_296 % 65_536;
-      edge = k / 65_536 % 65_536;
-      position = k % 65_536;
+      depth = k / 72_057_594_037_927_936;
+      label = k / 1_099_511_627_776 % 65_536;
+      edge = k / 16_777_216 % 65_536;
+      position = k / 65_536 % 256;
+      figure = k % 65_536;
     }
 
 abbrev pub entriesOf : List ℕ → List Entry

@@ -28,13 +28,13 @@ ghost use Rattle.model.specs.Bytes.{bytesOf, setFields, setOf, writtenAtFront};
 ghost use Rattle.model.specs.Facts.{AcceptedCase};
 ghost use Rattle.model.specs.Normal.{normalPattern, normaliseRefusal, normalised};
 ghost use Rattle.model.specs.Demands.{NormaliseAnswered};
-ghost use Rattle.format.specs.Given.{SetGiven};
 ghost use Rattle.moving.specs.Answers.{movedOf};
 ghost use Rattle.normalising.specs.Keys.{allKeys};
+ghost use Rattle.normalising.specs.Tables.{SetTables};
 
 // The set whose count is field `on`, at the same place of out: its members keep their order.
 fn write_set(case: &[u8], on: usize, rows: &mut [u64], out: &mut [u8])
-    requires { ⌜ SetGiven (now case) on × (length (now rows) ≡ allKeys) × (length (now case) ≤ length (now out)) ⌝ }
+    requires { ⌜ SetTables (now case) on × (length (now rows) ≡ allKeys) × (length (now case) ≤ length (now out)) ⌝ }
     ensures { λ _. ⌜ (length (now (rows .exit)) ≡ allKeys) × (now (out .exit)
         ≡ sets (now (out .entry)) (2 * on) (bytesOf (setFields (map normalPattern (setOf (now (case .entry)) on))))) ⌝ }
 {
@@ -60,7 +60,7 @@ fn write_case(case: &[u8], out: &mut [u8])
     write_set(case, set, &mut rows, out);
 }
 
-// The call's refusal: 2, then 3 to 8 with 14 right after 4.
+// The call's refusal: 2, then 3 to 8 with 14 right after 4 and 17 right after 7.
 fn normalise_refusal(case: &[u8], buffer: usize) -> u64
     ensures { λ r. ⌜ r ≡ normaliseRefusal (now (case .entry)) buffer ⌝ }
 {

@@ -2,10 +2,11 @@
 
 use crate::keys::EDGE;
 use crate::keys::LABEL;
+use crate::keys::POSITION;
 use crate::keys::ROW;
 use crate::keys::depth_of;
 use format::field::index64;
-use format::limits::PATTERN_WIDTH;
+use format::limits::SUMMARY_WIDTH;
 use format::write::put_field;
 ghost use mathlib.Core.Path.{_≡_};
 ghost use mathlib.Core.List.{flatMap};
@@ -25,10 +26,11 @@ fn put_record(out: &mut [u8], at: usize, width: usize, parent: u16, key: u64)
     put_field(out, at, parent);
     put_field(out, at + 1, (key / LABEL % 65536) as u16);
     put_field(out, at + 2, (key / EDGE % 65536) as u16);
-    if width < PATTERN_WIDTH {
+    if width <= SUMMARY_WIDTH {
         return;
     }
-    put_field(out, at + 3, (key % 65536) as u16);
+    put_field(out, at + 3, (key / POSITION % 256) as u16);
+    put_field(out, at + 4, (key % 65536) as u16);
 }
 
 // The depth above; the root's own where there is none.

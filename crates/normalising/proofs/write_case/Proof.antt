@@ -46,7 +46,7 @@ write-set-requires c κs =
     let m = w .before .before .before in
     let f = m .before in
     let s = f .before .before .before in
-    let size = stored-twice (now (s .args .out)) 0 (bytesOf (normalFields 3 (now (s .args .case)) 0)) (2 * f .first-at .result) (bytesOf (normalFields 4 (now (s .args .case)) (f .first-at .result))) (w .write-tree .ensures .1) (w₂ .write-tree2 .ensures .1) in
+    let size = stored-twice (now (s .args .out)) 0 (bytesOf (normalFields 3 (now (s .args .case)) 0)) (2 * f .first-at .result) (bytesOf (normalFields 5 (now (s .args .case)) (f .first-at .result))) (w .write-tree .ensures .1) (w₂ .write-tree2 .ensures .1) in
     (set-given (s .pre .0) (m .set-at .ensures), w₂ .write-tree2 .ensures .0, omega (arith, s .pre .1))
 
 returns : tie.Need-returns

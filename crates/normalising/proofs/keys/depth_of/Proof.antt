@@ -1,4 +1,4 @@
--- `normalising::keys::depth_of` meets its contract: 64 bits hold 16 above the 48. Assumes nothing.
+-- `normalising::keys::depth_of` meets its contract: 64 bits hold 8 above the 56. Assumes nothing.
 use borrow.Author.Needs.{needs}
 use Rattle.normalising.specs.Keys.{entryOf}
 use Rattle.normalising.proofs.keys.depth_of.Statement.{statement}

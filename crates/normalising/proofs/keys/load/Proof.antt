@@ -30,7 +30,8 @@ inside c =
 node-key-requires : tie.Need-node-key-requires Inv-loop μ-loop
 node-key-requires c κs =
     let s = c .before .before .before in
-    (s .pre .0 .fields, s .pre .0 .whole, node-in (s .pre .0) (c .field .ensures .0) (counted (s .pre .0) (c .field .ensures .0) .0) .2, omega arith)
+    let root = node-in (s .pre .0) (c .field .ensures .0) (counted (s .pre .0) (c .field .ensures .0) .0) in
+    ((s .pre .0 .fields, s .pre .0 .whole, root .2, omega arith), s .pre .0 .positions 0 (root .0))
 
 loop-holds : tie.Need-loop-holds Inv-loop μ-loop
 loop-holds c =
@@ -60,7 +61,9 @@ node-key-requires-2 c κs =
     let l = t .before in
     let n = l .before .before in
     let s = n .before .before .before in
-    (s .pre .0 .fields, s .pre .0 .whole, node-in (s .pre .0) (n .field .ensures .0) (t .loop-test .taken) .2, omega (arith, turn-depth (s .pre .0) (n .field .ensures .0) (l .loop .inv) (t .loop-test .taken) (p .record-field .ensures .0) (c .depth-of .ensures .0)))
+    let node = node-in (s .pre .0) (n .field .ensures .0) (t .loop-test .taken) in
+    let depth = turn-depth (s .pre .0) (n .field .ensures .0) (l .loop .inv) (t .loop-test .taken) (p .record-field .ensures .0) (c .depth-of .ensures .0) in
+    ((s .pre .0 .fields, s .pre .0 .whole, node .2, omega (arith, depth)), s .pre .0 .positions (l .loop .i) (node .0))
 
 mul-rows : tie.Need-mul-rows Inv-loop μ-loop
 mul-rows c = record { fits = omega (arith, inside (c .before .before .before) .2, inside (c .before .before .before) .3) }
