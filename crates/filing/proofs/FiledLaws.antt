@@ -40,7 +40,7 @@ module _ (refusal : ℕ → ℕ) (written : List ℕ) {before : List ℕ} (long 
   outcome : refusal (length before) ≡ 0 → movedOf m mid ≡ movedAccepted written before
   outcome z = a .outcome ∙ moved-accepted (refusal (length before)) written before z
 
-  short : refusal (length before) ≤ 15 → m .refused < 100
+  short : refusal (length before) ≤ 17 → m .refused < 100
   unfolding movedAccepted
   short most =
       by-number (refusal (length before)) (λ z. omega (arith, ap (λ (o : CountOutcome). o .answer .refused) (outcome z)))
