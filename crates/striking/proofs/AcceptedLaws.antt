@@ -7,7 +7,7 @@ use lib.ListN.{length, getD, take, length-take}
 use Rattle.model.specs.Limits.{maxLimit, maxPosition}
 use Rattle.model.specs.Pattern.{Pattern, noPatternRecord, arity}
 use Rattle.model.specs.Bytes.{Case, caseOf, firstAt, encodePattern, encodeCounted, writtenAtFront, AreBytes}
-use Rattle.model.specs.Facts.{PatternFacts, AcceptedCase, RecordFits}
+use Rattle.model.specs.Facts.{PatternFacts, FewFigures, AcceptedCase, RecordFits}
 use Rattle.model.specs.Striking.{Struck, strikeAll}
 use Rattle.format.specs.Given.{patternAt, PatternGiven}
 use Rattle.format.proofs.GivenLaws.{given-summary}
@@ -28,6 +28,7 @@ first-strikable {b} {present} A small l f =
       facts = subst PatternFacts (sym (f .1)) (A .facts .first);
       someArity = subst (λ (P : Pattern). 1 ≤ arity P) (sym (f .1)) (A .facts .someArity);
       arityBound = subst (λ (P : Pattern). arity P ≤ maxPosition) (sym (f .1)) (A .facts .arityBound);
+      figures = subst FewFigures (sym (f .1)) (A .facts .firstFigures);
       fits = subst (λ (P : Pattern). (i : ℕ) → i < length P → RecordFits (getD P i noPatternRecord)) (sym (f .1 ∙ first-pattern b (firstAt b) refl)) (read-fits b small (firstAt b));
       limited = l;
     }

@@ -29,29 +29,30 @@ parent-small b j q {p} {l} G h e f = go (lowered-cases q p) (inside j h e)
     go (inr a) k = omega arith
 
 -- the record's fields stand in the bytes
-pub record-room : (b : List ℕ) (j : ℕ) → PatternGiven b 0 → j < length (patternAt b 0) → 2 * (1 + 4 * j + 1 + 3) ≤ length b
+pub record-room : (b : List ℕ) (j : ℕ) → PatternGiven b 0 → j < length (patternAt b 0) → 2 * (1 + 5 * j + 1 + 4) ≤ length b
 record-room b j G h =
-    let k = record-ends b 0 patternWidth j 3 (G .whole) (pattern-below b 0 j h) (omega arith) in
+    let k = record-ends b 0 patternWidth j 4 (G .whole) (pattern-below b 0 j h) (omega arith) in
     omega (arith, k .1)
 
-three : (b : List ℕ) (a : ℕ) → fieldsAt b (a + 1) 3 ≡ field b (a + 1) ∷ field b (a + 2) ∷ field b (a + 3) ∷ []
+four : (b : List ℕ) (a : ℕ) → fieldsAt b (a + 1) 4 ≡ field b (a + 1) ∷ field b (a + 2) ∷ field b (a + 3) ∷ field b (a + 4) ∷ []
 unfolding upFrom
-three b a =
+four b a =
     let e₂ : suc (a + 1) ≡ a + 2 = omega arith in
     let e₃ : suc (suc (a + 1)) ≡ a + 3 = omega arith in
-    λ i. field b (a + 1) ∷ field b (e₂ i) ∷ field b (e₃ i) ∷ []
+    let e₄ : suc (suc (suc (a + 1))) ≡ a + 4 = omega arith in
+    λ i. field b (a + 1) ∷ field b (e₂ i) ∷ field b (e₃ i) ∷ field b (e₄ i) ∷ []
 
 pub record-stored : (b : List ℕ) (j q at : ℕ) (out : List ℕ) {p l : ℕ} {out₁ out₂ : List ℕ} → PatternGiven b 0 → j < length (patternAt b 0) → p ≡ patternParent (patternAt b 0) j → l ≡ lowered q p
-    → out₁ ≡ sets out (2 * at) (fieldBytes l) → out₂ ≡ sets out₁ (2 * (at + 1)) (bytesOf (fieldsAt b (1 + 4 * j + 1) 3))
+    → out₁ ≡ sets out (2 * at) (fieldBytes l) → out₂ ≡ sets out₁ (2 * (at + 1)) (bytesOf (fieldsAt b (1 + 5 * j + 1) 4))
     → out₂ ≡ sets out (2 * at) (bytesOf (patternFields (relinked q (getD (patternAt b 0) j noPatternRecord))))
 unfolding bytesOf flatMap fieldBytes
 record-stored b j q at out {p} {l} {out₁} {out₂} G h e f s t =
     let r : PatternRecord = getD (patternAt b 0) j noPatternRecord in
-    let place : 0 + 1 + 4 * j ≡ 1 + 4 * j = omega arith in
-    let same : r ≡ patternRecordAt b (1 + 4 * j) = section-record patternRecordAt patternWidth b 0 j noPatternRecord (pattern-below b 0 j h) ∙ ap (patternRecordAt b) place in
-    let rest : fieldsAt b (1 + 4 * j + 1) 3 ≡ r .label ∷ r .edge ∷ r .position ∷ [] = three b (1 + 4 * j) ∙ ap (λ (x : PatternRecord). x .label ∷ x .edge ∷ x .position ∷ []) (sym same) in
+    let place : 0 + 1 + 5 * j ≡ 1 + 5 * j = omega arith in
+    let same : r ≡ patternRecordAt b (1 + 5 * j) = section-record patternRecordAt patternWidth b 0 j noPatternRecord (pattern-below b 0 j h) ∙ ap (patternRecordAt b) place in
+    let rest : fieldsAt b (1 + 5 * j + 1) 4 ≡ r .label ∷ r .edge ∷ r .position ∷ r .figure ∷ [] = four b (1 + 5 * j) ∙ ap (λ (x : PatternRecord). x .label ∷ x .edge ∷ x .position ∷ x .figure ∷ []) (sym same) in
     let first : l ≡ lowered q (r .parent) = f ∙ ap (lowered q) e in
     let there : 2 * (at + 1) ≡ 2 * at + 2 = omega arith in
     t ∙ ap₂ (λ (o fs : List ℕ). sets o (2 * (at + 1)) (bytesOf fs)) (s ∙ ap (λ (n : ℕ). sets out (2 * at) (fieldBytes n)) first) rest
-    ∙ ap (λ (k : ℕ). sets (sets out (2 * at) (fieldBytes (lowered q (r .parent)))) k (bytesOf (r .label ∷ r .edge ∷ r .position ∷ []))) there
-    ∙ sym (sets-append out (2 * at) (fieldBytes (lowered q (r .parent))) (bytesOf (r .label ∷ r .edge ∷ r .position ∷ [])))
+    ∙ ap (λ (k : ℕ). sets (sets out (2 * at) (fieldBytes (lowered q (r .parent)))) k (bytesOf (r .label ∷ r .edge ∷ r .position ∷ r .figure ∷ []))) there
+    ∙ sym (sets-append out (2 * at) (fieldBytes (lowered q (r .parent))) (bytesOf (r .label ∷ r .edge ∷ r .position ∷ r .figure ∷ [])))

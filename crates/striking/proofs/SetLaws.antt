@@ -4,7 +4,7 @@ use Prim.Native.Nat.{ℕ, zero, suc, _+_, _*_, _≤_, _<_}
 use mathlib.Core.Path.{_≡_, sym, ap, ap₂, _∙_, subst}
 use mathlib.Core.Bool.{true}
 use mathlib.Core.Logic.{_⊎_, inl, inr}
-use mathlib.Core.List.{List, [], _∷_, map, flatMap, List·Memᴰ, List·Memᴰ·cases-cons}
+use mathlib.Core.List.{List, [], _∷_, map, flatMap, List·Memᴰ, List·Memᴰ·cases-cons, List·Memᴰ·not-nil}
 use native.Mathlib.Omega.{arith}
 use native.Mathlib.Nat.{zero-add}
 use lib.ListN.{length, replicate, length-replicate}
@@ -13,7 +13,7 @@ use Rattle.model.specs.Lists.{upFrom}
 use Rattle.model.specs.Limits.{maxPattern, maxPosition, patternWidth}
 use Rattle.model.specs.Pattern.{Pattern, arity}
 use Rattle.model.specs.Bytes.{Case, field, fieldBytes, bytesOf, fieldsAt, memberAt, setOf, patternRecordAt, patternFields, sectionFields, setFields, encodePattern, WholeSection, AreBytes}
-use Rattle.model.specs.Facts.{CaseFacts}
+use Rattle.model.specs.Facts.{FewFigures, CaseFacts}
 use Rattle.model.specs.Striking.{mayGo, without, verdictWithout}
 use Rattle.model.proofs.Bytes.{FitFields, Holds, holds-right, pattern-readable, length-section}
 use Rattle.model.proofs.WriteBack.{one-fields}
@@ -25,7 +25,7 @@ use Rattle.containment.specs.Answer.{caseBy, verdictOf, CaseGiven}
 use Rattle.striking.specs.Present.{Strikable, SetStands}
 use Rattle.format.proofs.WriteLaws.{sets-append, field-before, fields-stored}
 use Rattle.model.proofs.StruckBack.{section-fits}
-use Rattle.striking.proofs.SectionBytes.{read-fits, without-fits, pattern-held, pattern-given, section-fields}
+use Rattle.striking.proofs.SectionBytes.{read-fits, without-fits, low-without, pattern-held, pattern-given, section-fields}
 
 -- ---- the set is written
 
@@ -36,8 +36,8 @@ one-fits P h = subst FitFields (sym (one-fields P)) (λ f m. go f (List·Memᴰ�
     go f (inl e) = omega arith
     go f (inr m) = h f m
 
--- a section by itself ends in its bytes, and has at most 65 fields
-pub section-room : (b : List ℕ) → PatternGiven b 0 → {n : ℕ} → n ≡ length (patternAt b 0) → (2 * (1 + 4 * n) ≤ length b) × (n ≤ 16)
+-- a section by itself ends in its bytes, and has at most 81 fields
+pub section-room : (b : List ℕ) → PatternGiven b 0 → {n : ℕ} → n ≡ length (patternAt b 0) → (2 * (1 + 5 * n) ≤ length b) × (n ≤ 16)
 section-room b G e =
     let r = G .whole .records in
     let k : length (patternAt b 0) ≡ field b 0 = pattern-count b 0 in
@@ -45,25 +45,33 @@ section-room b G e =
     (omega arith, omega arith)
 
 -- its count, then the present pattern's section
-pub set-stands : (b : List ℕ) → AreBytes b → PatternGiven b 0 → {n : ℕ} {w₁ w₂ : List ℕ} → n ≡ length (patternAt b 0) → w₁ ≡ sets (replicate 256 0) 0 (fieldBytes 1)
-    → w₂ ≡ sets w₁ 2 (bytesOf (fieldsAt b 0 (1 + 4 * n))) → SetStands (patternAt b 0) w₂
+pub set-stands : (b : List ℕ) → AreBytes b → PatternGiven b 0 → {n : ℕ} {w₁ w₂ : List ℕ} → n ≡ length (patternAt b 0) → w₁ ≡ sets (replicate 320 0) 0 (fieldBytes 1)
+    → w₂ ≡ sets w₁ 2 (bytesOf (fieldsAt b 0 (1 + 5 * n))) → SetStands (patternAt b 0) w₂
 unfolding bytesOf flatMap fieldBytes
 set-stands b small G {n} {w₁} {w₂} e s t =
     let P : Pattern = patternAt b 0 in
     let fs : List ℕ = setFields (P ∷ []) in
-    let size : length {A = ℕ} (replicate 256 0) ≡ 256 = length-replicate {A = ℕ} 256 0 in
-    let same : w₂ ≡ sets (replicate 256 0) 0 (bytesOf fs) =
-    t ∙ ap₂ (λ (o gs : List ℕ). sets o 2 (bytesOf gs)) s (ap (λ (k : ℕ). fieldsAt b 0 (1 + 4 * k)) e ∙ sym (section-fields b 0))
-    ∙ sym (sets-append (replicate 256 0) 0 (fieldBytes 1) (bytesOf (sectionFields patternFields P)))
-    ∙ ap (λ (gs : List ℕ). sets (replicate 256 0) 0 (bytesOf gs)) (sym (one-fields P)) in
+    let size : length {A = ℕ} (replicate 320 0) ≡ 320 = length-replicate {A = ℕ} 320 0 in
+    let same : w₂ ≡ sets (replicate 320 0) 0 (bytesOf fs) =
+    t ∙ ap₂ (λ (o gs : List ℕ). sets o 2 (bytesOf gs)) s (ap (λ (k : ℕ). fieldsAt b 0 (1 + 5 * k)) e ∙ sym (section-fields b 0))
+    ∙ sym (sets-append (replicate 320 0) 0 (fieldBytes 1) (bytesOf (sectionFields patternFields P)))
+    ∙ ap (λ (gs : List ℕ). sets (replicate 320 0) 0 (bytesOf gs)) (sym (one-fields P)) in
     let k : length fs ≡ suc (1 + patternWidth * length P) = ap length (one-fields P) ∙ ap suc (length-section patternRecordAt patternFields patternWidth pattern-readable P) in
     let few = G .few in
     record {
-      size = ap length same ∙ length-sets (replicate 256 0) 0 (bytesOf fs) ∙ size;
-      holds = λ i h. ap (λ (o : List ℕ). field o i) same ∙ ap (λ (j : ℕ). field (sets (replicate 256 0) 0 (bytesOf fs)) j) (sym (zero-add i)) ∙ fields-stored (replicate 256 0) 0 fs (one-fits P (section-fits P few (read-fits b small 0))) (omega arith) i h;
+      size = ap length same ∙ length-sets (replicate 320 0) 0 (bytesOf fs) ∙ size;
+      holds = λ i h. ap (λ (o : List ℕ). field o i) same ∙ ap (λ (j : ℕ). field (sets (replicate 320 0) 0 (bytesOf fs)) j) (sym (zero-add i)) ∙ fields-stored (replicate 320 0) 0 fs (one-fits P (section-fits P few (read-fits b small 0))) (omega arith) i h;
     }
 
 -- ---- and read
+
+-- its only member
+only-one : {R P : Pattern} → List·Memᴰ R (P ∷ []) → R ≡ P
+only-one {R} {P} m = go (List·Memᴰ·cases-cons m)
+  where
+    go : (R ≡ P) ⊎ List·Memᴰ R [] → R ≡ P
+    go (inl e) = e
+    go (inr n) = absurd (List·Memᴰ·not-nil n)
 
 -- the bytes hold the set of one, and from field `at` on the pattern without node q
 module _ {case present : List ℕ} {limit : ℕ} (G : Strikable case present limit) (q : ℕ) (inside : q < length (patternAt present 0)) (may : mayGo (patternAt present 0) q ≡ true) where
@@ -82,7 +90,7 @@ module _ {case present : List ℕ} {limit : ℕ} (G : Strikable case present lim
   set-size : length (setFields (P ∷ [])) ≡ suc (1 + patternWidth * length P)
   set-size = ap length (one-fields P) ∙ ap suc (length-section patternRecordAt patternFields patternWidth pattern-readable P)
 
-  module _ {w w′ : List ℕ} (stands : SetStands P w) {at : ℕ} (place : at ≡ 2 + 4 * length P) (written : w′ ≡ sets w (2 * at) (encodePattern Q)) where
+  module _ {w w′ : List ℕ} (stands : SetStands P w) {at : ℕ} (place : at ≡ 2 + 5 * length P) (written : w′ ≡ sets w (2 * at) (encodePattern Q)) where
     -- what was there is still there
     pub still-stands : SetStands P w′
     still-stands =
@@ -91,7 +99,7 @@ module _ {case present : List ℕ} {limit : ℕ} (G : Strikable case present lim
           holds = λ i h. ap (λ (o : List ℕ). field o i) written ∙ field-before w at (encodePattern Q) i (let k = set-size in omega arith) ∙ stands .holds i h;
         }
 
-    long : length w′ ≡ 256
+    long : length w′ ≡ 320
     long = still-stands .size
 
     holds-set : Holds w′ 0 (1 ∷ sectionFields patternFields P)
@@ -103,10 +111,10 @@ module _ {case present : List ℕ} {limit : ℕ} (G : Strikable case present lim
     holds-first : Holds w′ at (sectionFields patternFields Q)
     unfolding encodePattern
     holds-first =
-        let n : length (sectionFields patternFields Q) ≡ 1 + 4 * length Q = length-section patternRecordAt patternFields patternWidth pattern-readable Q in
+        let n : length (sectionFields patternFields Q) ≡ 1 + 5 * length Q = length-section patternRecordAt patternFields patternWidth pattern-readable Q in
         let k = length-without P q inside in
         let f = few in
-        let l : length w ≡ 256 = stands .size in
+        let l : length w ≡ 320 = stands .size in
         subst (λ (o : List ℕ). Holds o at (sectionFields patternFields Q)) (sym written)
         (fields-stored w at (sectionFields patternFields Q) (section-fits Q shorter (without-fits P q inside (G .fits))) (omega arith))
 
@@ -157,6 +165,8 @@ module _ {case present : List ℕ} {limit : ℕ} (G : Strikable case present lim
                 arityBound = subst (λ (n : ℕ). n ≤ maxPosition) (sym arities) (G .arityBound);
                 summarySize = G .summary .few;
                 firstSize = shorter;
+                firstFigures = low-without P q inside (G .figures);
+                memberFigures = λ R m. subst FewFigures (sym (only-one m)) (G .figures);
               });
         }
 

@@ -15,7 +15,7 @@ use Rattle.model.specs.Lists.{upFrom, total}
 use Rattle.model.specs.Summary.{Summary}
 use Rattle.model.specs.Pattern.{Pattern, noPatternRecord, arity}
 use Rattle.model.specs.Bytes.{patternRecordAt, patternFields, sectionFields, encodePattern, writtenAtFront}
-use Rattle.model.specs.Facts.{PatternFacts, RecordFits}
+use Rattle.model.specs.Facts.{PatternFacts, FewFigures, RecordFits}
 use Rattle.model.specs.Striking.{removed, raised, without, mayGo, mayGoOf, verdictWithout, Round, round, Struck, alsoStruck, strikeFrom, strikeAll}
 use Rattle.model.proofs.ListLaws.{length-keep, length-upFrom, getD-upFrom}
 use Rattle.model.proofs.Bytes.{Holds, pattern-readable, length-section}
@@ -31,7 +31,7 @@ use Rattle.striking.specs.declared.round.Rounded.{Rounded}
 use Rattle.format.proofs.WriteLaws.{fields-stored}
 use Rattle.striking.proofs.RoundLaws.{mostTried}
 use Rattle.model.proofs.StruckBack.{section-fits}
-use Rattle.striking.proofs.SectionBytes.{without-fits, pattern-held, pattern-given}
+use Rattle.striking.proofs.SectionBytes.{without-fits, low-without, pattern-held, pattern-given}
 
 -- ---- a round
 
@@ -116,12 +116,12 @@ module _ (S : Summary) (L : ℕ) where
 
 -- ---- a pattern stored alone
 
-stored-held : (Q : Pattern) → length Q ≤ maxPattern → ((i : ℕ) → i < length Q → RecordFits (getD Q i noPatternRecord)) → {b : List ℕ} → b ≡ sets (replicate 130 0) 0 (encodePattern Q)
+stored-held : (Q : Pattern) → length Q ≤ maxPattern → ((i : ℕ) → i < length Q → RecordFits (getD Q i noPatternRecord)) → {b : List ℕ} → b ≡ sets (replicate 162 0) 0 (encodePattern Q)
     → Holds b 0 (sectionFields patternFields Q)
 unfolding encodePattern
 stored-held Q few fit {b} e =
-    let l : length (sectionFields patternFields Q) ≡ 1 + 4 * length Q = length-section patternRecordAt patternFields patternWidth pattern-readable Q in
-    subst (λ (x : List ℕ). Holds x 0 (sectionFields patternFields Q)) (sym e) (fields-stored (replicate 130 0) 0 (sectionFields patternFields Q) (section-fits Q few fit) (omega arith))
+    let l : length (sectionFields patternFields Q) ≡ 1 + 5 * length Q = length-section patternRecordAt patternFields patternWidth pattern-readable Q in
+    subst (λ (x : List ℕ). Holds x 0 (sectionFields patternFields Q)) (sym e) (fields-stored (replicate 162 0) 0 (sectionFields patternFields Q) (section-fits Q few fit) (omega arith))
 
 -- ---- the turns
 
@@ -133,10 +133,10 @@ pub record Striking (case : List ℕ) (L : ℕ) (P₀ : Pattern) (present struck
   pub stands : Strikable case present L
   pub turns : length (patternAt present 0) + k ≡ length P₀
   pub few : length P₀ ≤ maxPattern
-  pub sizes : (length present ≡ 130) × (length struck ≡ 16)
+  pub sizes : (length present ≡ 162) × (length struck ≡ 16)
   pub bound : tried ≤ k * mostTried
 
-pub striking-start : {case present struck names : List ℕ} {L : ℕ} → Strikable case present L → (length present ≡ 130) × (length struck ≡ 16) → names ≡ upFrom 0 16
+pub striking-start : {case present struck names : List ℕ} {L : ℕ} → Strikable case present L → (length present ≡ 162) × (length struck ≡ 16) → names ≡ upFrom 0 16
     → Striking case L (patternAt present 0) present struck names 0 0
 striking-start {case} {present} {struck} {names} {L} s sizes e =
     let few = s .pattern .few in
@@ -213,7 +213,7 @@ module _ {case : List ℕ} {L : ℕ} {P₀ : Pattern} {present struck names : Li
           ap (λ (j : ℕ). take j (set struck k (getD names q 0))) (add-one k) ∙ take-suc-set struck k (getD names q 0) place-left
           ∙ ap (λ (y : ℕ). take k struck ++ y ∷ []) (v .named q leaf-inside)
 
-      module _ {present′ : List ℕ} (w : present′ ≡ sets (replicate 130 0) 0 (encodePattern (without P q))) where
+      module _ {present′ : List ℕ} (w : present′ ≡ sets (replicate 162 0) 0 (encodePattern (without P q))) where
         abbrev Q : Pattern
         Q = without P q
 
@@ -229,8 +229,8 @@ module _ {case : List ℕ} {L : ℕ} {P₀ : Pattern} {present struck names : Li
         same : patternAt present′ 0 ≡ Q
         same = pattern-held present′ 0 Q there
 
-        long : length present′ ≡ 130
-        long = ap length w ∙ length-sets (replicate 130 0) 0 (encodePattern Q)
+        long : length present′ ≡ 162
+        long = ap length w ∙ length-sets (replicate 162 0) 0 (encodePattern Q)
 
         stands-after : Strikable case present′ L
         stands-after =
@@ -244,6 +244,7 @@ module _ {case : List ℕ} {L : ℕ} {P₀ : Pattern} {present struck names : Li
               facts = subst PatternFacts (sym same) facts;
               someArity = let a = s .someArity in omega arith;
               arityBound = let a = s .arityBound in omega arith;
+              figures = subst FewFigures (sym same) (low-without P q leaf-inside (s .figures));
               fits = subst (λ (X : Pattern). (i : ℕ) → i < length X → RecordFits (getD X i noPatternRecord)) (sym same) fit;
               limited = s .limited;
             }

@@ -1,6 +1,6 @@
 -- Writing a section without a node: after i turns the first i records stand from the field after the count on. Assumes nothing.
 use Prim.Native.Nat.{ℕ, _+_, _-_, _*_, _≤_, _<_}
-use mathlib.Core.Path.{_≡_, refl, sym, ap, ap₂, _∙_, subst}
+use mathlib.Core.Path.{_≡_, refl, sym, ap, _∙_, subst}
 use mathlib.Core.List.{List, [], _∷_, _++_, flatMap}
 use native.Mathlib.Omega.{arith}
 use native.Mathlib.Numerals.{add-one}
@@ -10,9 +10,9 @@ use Rattle.model.specs.Limits.{patternWidth}
 use Rattle.model.specs.Pattern.{PatternRecord, Pattern, noPatternRecord}
 use Rattle.model.specs.Bytes.{fieldBytes, bytesOf, patternRecordAt, patternFields, sectionFields, encodePattern}
 use Rattle.model.specs.Striking.{raised, relinked, without}
-use Rattle.model.proofs.Bytes.{length-bytes, pattern-readable, length-records}
+use Rattle.model.proofs.Bytes.{pattern-readable, length-records}
 use Rattle.model.proofs.Removing.{raised-inside, length-without, record-without}
-use Rattle.format.proofs.WriteLaws.{flatMap-append, bytes-append, sets-append}
+use Rattle.format.proofs.WriteLaws.{flatMap-append, fields-run, one-run}
 
 pub record Writing (Q : Pattern) (to : ℕ) (out₀ out : List ℕ) (i : ℕ) : Type 0 where
   pub turns : i ≤ length Q
@@ -25,35 +25,30 @@ module _ {Q : Pattern} {to : ℕ} {out₀ : List ℕ} where
   writing-start = record { turns = omega arith; size = refl; bytes = refl }
 
   pub writing-step : {out out′ : List ℕ} {i : ℕ} {r : PatternRecord} → Writing Q to out₀ out i → i < length Q → getD Q i noPatternRecord ≡ r
-      → out′ ≡ sets out (2 * (to + 1 + 4 * i)) (bytesOf (patternFields r)) → Writing Q to out₀ out′ (i + 1)
+      → out′ ≡ sets out (2 * (to + 1 + 5 * i)) (bytesOf (patternFields r)) → Writing Q to out₀ out′ (i + 1)
   unfolding flatMap
   writing-step {out} {out′} {i} {r} w h e s =
       let fs : List ℕ = flatMap patternFields (take i Q) in
-      let n : length fs ≡ 4 * length (take i Q) = length-records patternRecordAt patternFields patternWidth pattern-readable (take i Q) in
+      let n : length fs ≡ 5 * length (take i Q) = length-records patternRecordAt patternFields patternWidth pattern-readable (take i Q) in
       let k : length (take i Q) ≡ i = length-take-le i Q (omega arith) in
-      let f : length (bytesOf fs) ≡ 2 * length fs = length-bytes fs in
-      let there : 2 * (to + 1 + 4 * i) ≡ 2 * (to + 1) + length (bytesOf fs) = omega arith in
+      let there : to + 1 + 5 * i ≡ to + 1 + length fs = omega arith in
       let more : flatMap patternFields (take (i + 1) Q) ≡ fs ++ patternFields r =
       ap (λ (j : ℕ). flatMap patternFields (take j Q)) (add-one i) ∙ ap (flatMap patternFields) (take-suc Q i noPatternRecord h ∙ ap (λ (x : PatternRecord). take i Q ++ (x ∷ [])) e)
       ∙ flatMap-append patternFields (take i Q) (r ∷ []) in
       record {
         turns = omega arith;
-        size = ap length s ∙ length-sets out (2 * (to + 1 + 4 * i)) (bytesOf (patternFields r)) ∙ w .size;
+        size = ap length s ∙ length-sets out (2 * (to + 1 + 5 * i)) (bytesOf (patternFields r)) ∙ w .size;
         bytes =
-            s ∙ ap₂ (λ (o : List ℕ) (j : ℕ). sets o j (bytesOf (patternFields r))) (w .bytes) there
-            ∙ sym (sets-append out₀ (2 * (to + 1)) (bytesOf fs) (bytesOf (patternFields r)))
-            ∙ ap (λ (l : List ℕ). sets out₀ (2 * (to + 1)) l) (sym (ap bytesOf more ∙ bytes-append fs (patternFields r)));
+            fields-run out₀ (to + 1) fs (patternFields r) there (w .bytes) s ∙ ap (λ (l : List ℕ). sets out₀ (2 * (to + 1)) (bytesOf l)) (sym more);
       }
 
 -- with the count, which is put before them
 pub writing-end : (Q : Pattern) (to : ℕ) (out₀ : List ℕ) {m : ℕ} {out₁ out : List ℕ} {i : ℕ} → m ≡ length Q → out₁ ≡ sets out₀ (2 * to) (fieldBytes m) → Writing Q to out₁ out i → length Q ≤ i → out ≡ sets out₀ (2 * to) (encodePattern Q)
-unfolding encodePattern sectionFields bytesOf flatMap fieldBytes
+unfolding encodePattern sectionFields
 writing-end Q to out₀ {m} {out₁} {out} {i} e s w h =
     let done : i ≡ length Q = let t : i ≤ length Q = w .turns in omega arith in
-    let there : 2 * (to + 1) ≡ 2 * to + 2 = omega arith in
-    w .bytes ∙ ap (λ (P : Pattern). sets out₁ (2 * (to + 1)) (bytesOf (flatMap patternFields P))) (ap (λ (j : ℕ). take j Q) done ∙ take-length Q)
-    ∙ ap₂ (λ (o : List ℕ) (j : ℕ). sets o j (bytesOf (flatMap patternFields Q))) (s ∙ ap (λ (n : ℕ). sets out₀ (2 * to) (fieldBytes n)) e) there
-    ∙ sym (sets-append out₀ (2 * to) (fieldBytes (length Q)) (bytesOf (flatMap patternFields Q)))
+    fields-run out₀ to (length Q ∷ []) (flatMap patternFields Q) refl (one-run out₀ to (length Q) (s ∙ ap (λ (n : ℕ). sets out₀ (2 * to) (fieldBytes n)) e))
+    (w .bytes ∙ ap (λ (P : Pattern). sets out₁ (2 * (to + 1)) (bytesOf (flatMap patternFields P))) (ap (λ (j : ℕ). take j Q) done ∙ take-length Q))
 
 -- one record fewer
 pub count-without : (P : Pattern) (q : ℕ) {n m : ℕ} → q < length P → n ≡ length P → m ≡ n - 1 → m ≡ length (without P q)

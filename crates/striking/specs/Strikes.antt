@@ -15,4 +15,4 @@ pub record StruckBy (s : Struck) (present struck : List ℕ) (r : Strikes) : Typ
   pub count : r .count ≡ length (s .struck)
   pub numbers : take (r .count) struck ≡ s .struck
   pub tried : r .tried ≡ total (s .tried)
-  pub sizes : (length present ≡ 130) × (length struck ≡ 16)
+  pub sizes : (length present ≡ 162) × (length struck ≡ 16)

@@ -39,7 +39,7 @@ fn first_section(case: &[u8]) -> Section
     ensures { λ r. ⌜ PatternGiven r 0 × (patternAt r 0 ≡ caseOf (now (case .entry)) .first) ⌝ }
 {
     let first = first_at(case);
-    let mut present = [0u8; 130];
+    let mut present = [0u8; 162];
     let n = 1 + PATTERN_WIDTH * pattern_count(case, first);
     copy_fields(case, first, n, &mut present, 0);
     present

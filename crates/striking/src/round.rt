@@ -21,7 +21,7 @@ ghost use Rattle.striking.specs.Present.{SetStands, Strikable};
 ghost use Rattle.striking.specs.Rounds.{turnBy, turnIn, roundOf};
 
 // Bytes for the patterns of a verdict: the set of one, its count in field 0, and after it the pattern without the leaf.
-pub type Work = [u8; 256];
+pub type Work = [u8; 320];
 
 // Whether a leaf is struck, and how many were tried for it.
 pub struct Turned {
@@ -40,7 +40,7 @@ fn set_of_one(present: &[u8]) -> Work
     requires { ⌜ PatternGiven (now present) 0 ⌝ }
     ensures { λ r. ⌜ SetStands (patternAt (now (present .entry)) 0) r ⌝ }
 {
-    let mut work = [0u8; 256];
+    let mut work = [0u8; 320];
     put_field(&mut work, 0, 1);
     let n = 1 + PATTERN_WIDTH * pattern_count(present, 0);
     copy_fields(present, 0, n, &mut work, 1);

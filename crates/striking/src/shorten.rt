@@ -17,7 +17,7 @@ ghost use Rattle.model.specs.Striking.{lowered as loweredOf, raised as raisedOf
 ghost use Rattle.format.specs.Given.{patternAt, PatternGiven};
 
 // Its section: a count and up to 16 records.
-pub type Section = [u8; 130];
+pub type Section = [u8; 162];
 
 // No node has node q as its parent.
 fn childless(p: &[u8], q: usize) -> bool
@@ -70,7 +70,7 @@ pub fn raised(q: usize, i: usize) -> usize
 
 // Record j, its parent renumbered for want of node q, becomes the fields of out from field `at` on.
 fn put_record(p: &[u8], j: usize, q: usize, out: &mut [u8], at: usize)
-    requires { ⌜ PatternGiven (now p) 0 × (j < length (patternAt (now p) 0)) × (2 * (at + 4) ≤ length (now out)) ⌝ }
+    requires { ⌜ PatternGiven (now p) 0 × (j < length (patternAt (now p) 0)) × (2 * (at + 5) ≤ length (now out)) ⌝ }
     ensures { λ _. ⌜ now (out .exit)
         ≡ sets (now (out .entry)) (2 * at) (bytesOf (patternFields (relinked q (getD (patternAt (now (p .entry)) 0) j noPatternRecord)))) ⌝ }
 {
@@ -81,7 +81,7 @@ fn put_record(p: &[u8], j: usize, q: usize, out: &mut [u8], at: usize)
 
 // The section without node q goes to out from field `to` on.
 pub fn write_without(p: &[u8], q: usize, out: &mut [u8], to: usize)
-    requires { ⌜ PatternGiven (now p) 0 × (q < length (patternAt (now p) 0)) × (2 * (to + 61) ≤ length (now out)) ⌝ }
+    requires { ⌜ PatternGiven (now p) 0 × (q < length (patternAt (now p) 0)) × (2 * (to + 76) ≤ length (now out)) ⌝ }
     ensures { λ _. ⌜ now (out .exit) ≡ sets (now (out .entry)) (2 * to) (encodePattern (without (patternAt (now (p .entry)) 0) q)) ⌝ }
 {
     let m = pattern_count(p, 0) - 1;
@@ -94,9 +94,9 @@ pub fn write_without(p: &[u8], q: usize, out: &mut [u8], to: usize)
 // The section without node q, by itself.
 pub fn shortened(p: &[u8], q: usize) -> Section
     requires { ⌜ PatternGiven (now p) 0 × (q < length (patternAt (now p) 0)) ⌝ }
-    ensures { λ r. ⌜ r ≡ sets (replicate 130 0) 0 (encodePattern (without (patternAt (now (p .entry)) 0) q)) ⌝ }
+    ensures { λ r. ⌜ r ≡ sets (replicate 162 0) 0 (encodePattern (without (patternAt (now (p .entry)) 0) q)) ⌝ }
 {
-    let mut next = [0u8; 130];
+    let mut next = [0u8; 162];
     write_without(p, q, &mut next, 0);
     next
 }

@@ -32,7 +32,7 @@ returns : tie.Need-returns
 returns c =
     let p = c .before .before .before in
     let f = p .before in
-    let r = copied-alone _ _ (p .pattern-count .ensures .0) (given f) (λ i. omega (arith, f .before .shared-slice-known .given i)) (replicate 130 0) (omega arith) (c .before .copy-fields .ensures) in
+    let r = copied-alone _ _ (p .pattern-count .ensures .0) (given f) (λ i. omega (arith, f .before .shared-slice-known .given i)) (replicate 162 0) (omega arith) (c .before .copy-fields .ensures) in
     (r .0, r .1 ∙ sym (first-pattern _ _ (f .first-at .ensures)))
 
 pub first-section-spec : {M : Type 1} → statement M

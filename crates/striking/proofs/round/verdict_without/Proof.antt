@@ -17,14 +17,14 @@ write-without-requires c κs =
 verdict-requires : tie.Need-verdict-requires
 verdict-requires c κs =
     let p = c .before .before .before .before .before .before .before .before .pre in
-    let place = ap (λ (n : ℕ). 2 + 4 * n) (c .before .before .before .before .before .pattern-count .ensures .0) in
+    let place = ap (λ (n : ℕ). 2 + 5 * n) (c .before .before .before .before .before .pattern-count .ensures .0) in
     let w = c .before .before .before .write-without .ensures in
     ((case-given (p .0 .0) _ (p .1 .1) (p .1 .2) (p .1 .0) place w, p .0 .0 .limited), (images-enough (p .0 .0) _ (p .1 .1) (p .1 .2) (p .1 .0) place w, p .0 .1))
 
 returns : tie.Need-returns
 returns c =
     let p = c .before .before .before .before .before .before .before .before .before .before .pre in
-    let place = ap (λ (n : ℕ). 2 + 4 * n) (c .before .before .before .before .before .before .before .pattern-count .ensures .0) in
+    let place = ap (λ (n : ℕ). 2 + 5 * n) (c .before .before .before .before .before .before .before .pattern-count .ensures .0) in
     let w = c .before .before .before .before .before .write-without .ensures in
     (c .before .verdict .ensures .0 ∙ ap answerOf (case-verdict (p .0 .0) _ (p .1 .1) (p .1 .2) (p .1 .0) place w), still-stands (p .0 .0) _ (p .1 .1) (p .1 .2) (p .1 .0) place w)
 

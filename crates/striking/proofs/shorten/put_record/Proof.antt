@@ -1,4 +1,4 @@
--- `striking::shorten::put_record` meets its contract: the parent's field and the three after it are those of the record. Assumes nothing.
+-- `striking::shorten::put_record` meets its contract: the parent's field and the four after it are those of the record. Assumes nothing.
 use borrow.Author.Needs.{needs}
 use Rattle.striking.proofs.RecordLaws.{parent-small, record-room, record-stored}
 use Rattle.striking.proofs.shorten.put_record.Statement.{statement}

@@ -9,7 +9,8 @@ use borrow.Author.Needs.{needs}
 use Rattle.model.specs.Bytes.{fieldBytes}
 use Rattle.model.specs.Striking.{without}
 use Rattle.format.specs.Given.{patternAt}
-use Rattle.striking.proofs.WriteWithout.{Writing, writing-start, writing-step, writing-end, count-without, left-inside, left-record, stored-size}
+use Rattle.format.proofs.WriteLaws.{stored-size}
+use Rattle.striking.proofs.WriteWithout.{Writing, writing-start, writing-step, writing-end, count-without, left-inside, left-record}
 use Rattle.striking.proofs.shorten.write_without.Statement.{statement}
 use Rattle.striking.proofs.shorten.write_without.Tie as tie
 
