@@ -82,7 +82,7 @@ fn verdict(vector: &Vector, loans: &mut Loans) -> Result<Answered, Difference> {
         },
     )?;
     let written = if answered.value == ffi::NOT_CONTAINED {
-        sections_bytes(loans.bytes.now(), 2)
+        sections_bytes(loans.bytes.now(), 3)
     } else {
         0
     };
@@ -105,7 +105,7 @@ fn minimise(vector: &Vector, loans: &mut Loans) -> Result<Answered, Difference> 
         },
     )?;
     let written = if answered.refused == 0 {
-        sections_bytes(loans.bytes.now(), 4)
+        sections_bytes(loans.bytes.now(), 5)
     } else {
         0
     };
@@ -278,12 +278,14 @@ fn judged_alike(vector: &Vector, loans: &mut Loans, answered: Answered) -> Resul
     same("the refusal of a case moved over", got.refused, 0)
 }
 
-fn numbers(record: &NodeRecord) -> (usize, usize, u16) {
-    (record.parent.0, record.at.0, record.label)
+fn numbers(record: &NodeRecord) -> (usize, usize, u16, u16) {
+    let (parent, at) = (record.parent.0, record.at.0);
+    (parent, at, record.label, record.figure)
 }
 
-fn their_numbers(record: &ReferenceRecord) -> (usize, usize, u16) {
-    (record.parent.into(), record.outline.into(), record.label)
+fn their_numbers(record: &ReferenceRecord) -> (usize, usize, u16, u16) {
+    let (parent, at) = (record.parent.into(), record.outline.into());
+    (parent, at, record.label, record.figure)
 }
 
 fn counted(ours: ffi::CountAnswer, theirs: reference::CountAnswer) -> Result<Answered, Difference> {

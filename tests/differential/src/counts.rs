@@ -20,7 +20,7 @@ const NAMES: [(u32, &str); 10] = [
     (NORMALISE, "one way of writing"),
 ];
 
-const QUESTIONS: usize = 16;
+const QUESTIONS: usize = 17;
 
 /// One row of the table.
 #[derive(Clone, Copy, Debug, Default)]

@@ -72,14 +72,16 @@ impl Default for Loans {
             bytes: Lent::new(byte),
             reference_bytes: Lent::new(byte),
             records: Lent::new(|place| NodeRecord {
-                parent: DocumentNode(mixed(3 * place) as usize),
-                at: SummaryNode(mixed(3 * place + 1) as usize),
-                label: mixed(3 * place + 2) as u16,
+                parent: DocumentNode(mixed(4 * place) as usize),
+                at: SummaryNode(mixed(4 * place + 1) as usize),
+                label: mixed(4 * place + 2) as u16,
+                figure: mixed(4 * place + 3) as u16,
             }),
             reference_records: Lent::new(|place| ReferenceRecord {
-                parent: mixed(3 * place) as u16,
-                outline: mixed(3 * place + 1) as u16,
-                label: mixed(3 * place + 2) as u16,
+                parent: mixed(4 * place) as u16,
+                outline: mixed(4 * place + 1) as u16,
+                label: mixed(4 * place + 2) as u16,
+                figure: mixed(4 * place + 3) as u16,
             }),
         }
     }

@@ -15,7 +15,7 @@ use std::fmt;
 const DRAWN: usize = 1_200;
 /// A caller whose tally begins so far below the bound, or less, reaches it within some thousand calls.
 const NEAR: u64 = 1_200;
-const QUESTIONS: usize = 16;
+const QUESTIONS: usize = 17;
 
 /// One verdict or order with the contents of the buffer that is lent.
 struct Call {

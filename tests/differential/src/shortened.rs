@@ -46,14 +46,14 @@ fn written(old: &Case, answer: &[u8]) -> Result<(Vec<SelectionNode>, Vec<usize>)
             .rev()
             .fold(0, |n, &b| n << 8 | usize::from(b))
     };
-    let end = (2 + 8 * field(0)).min(answer.len() / 2);
+    let end = (2 + 10 * field(0)).min(answer.len() / 2);
     let member = Case {
         set: vec![old.first.clone()],
         ..old.clone()
     };
     // The section stands in the place of the only member.
     let mut bytes = member.bytes();
-    bytes.truncate(bytes.len() - 2 - 8 * old.first.len());
+    bytes.truncate(bytes.len() - 2 - 10 * old.first.len());
     bytes.extend(&answer[..end]);
     let read = read_case(&bytes).map_err(|refused| format!("what is left is refused {refused}"))?;
     let struck = (0..field(end).min(old.first.len())).map(|index| field(end + 2 + 2 * index));

@@ -1,13 +1,13 @@
-//! Many calls made of few drawn vectors: another call on the same case, in either form, numbers at their
-//! bounds, damaged bytes and sets, lengths of all kinds. Drawing a vector takes far longer than altering
+//! Many calls made of few drawn vectors: another call on the same case, in either form, numbers and figures
+//! at their bounds, damaged bytes and sets, lengths of all kinds. Drawing a vector takes far longer than altering
 //! one.
 
 use crate::lent::LENT_MOST;
-use reference::calls::{CALLERS, STOPPED, TALLY_MOST, VERDICTS_MOST};
+use reference::calls::{ANSWER_BYTES, CALLERS, STOPPED, TABLE_RECORDS, TALLY_MOST, VERDICTS_MOST};
 use reference::embedding::{has, Shape};
 use reference::generate::Prng;
-use reference::old::read_old_case;
-use reference::records::{holder, read_case, read_volume, Case};
+use reference::old::{old_case, read_old_case};
+use reference::records::{holder, read_case, read_volume, Case, FIGURE_MOST};
 use reference::trials::{each_placement, lay_out};
 use reference::vectors::{
     Vector, DOWNGRADE, FITS, IS_RESULT, LAYOUT, MINIMISE, NODES_AT, NORMALISE, PATHS, UPGRADE,
@@ -57,14 +57,18 @@ pub fn vary(prng: &mut Prng, drawn: &[Vector], index: usize) -> Vector {
 /// The same case through any of the calls, with a document and a list that often suit it.
 fn for_call(prng: &mut Prng, drawn: &[Vector], vector: Vector) -> Vector {
     let call = CALLS[prng.below(CALLS.len())];
-    let least = if call == LAYOUT { 1_024 } else { 4_096 };
+    let least = if call == LAYOUT {
+        TABLE_RECORDS
+    } else {
+        ANSWER_BYTES
+    };
     let mut vector = Vector {
         call,
         selection: 1,
         position: prng.between(1, 2) as u64,
         tally: prng.draw() % TALLY_MOST,
         caller: prng.below(CALLERS) as u64,
-        length: least + [0, 0, 1, 904][prng.below(4)],
+        length: least as u64 + [0, 0, 1, 904][prng.below(4)],
         ..vector
     };
     if prng.percent(97) {
@@ -87,8 +91,8 @@ fn for_call(prng: &mut Prng, drawn: &[Vector], vector: Vector) -> Vector {
     vector
 }
 
-/// The case in the form that the call takes, with one member where it is moved, but for some that are to
-/// go back; as it is where it is not accepted in either form.
+/// The case in the form that the call takes, with one member and no figures where it is moved, but for some
+/// that are to go back; as it is where it is not accepted in either form.
 fn in_form(prng: &mut Prng, call: u32, case: &[u8]) -> Vec<u8> {
     if let Ok(old) = read_old_case(case) {
         return match call {
@@ -96,15 +100,21 @@ fn in_form(prng: &mut Prng, call: u32, case: &[u8]) -> Vec<u8> {
             _ => old.with_set_of_one().bytes(),
         };
     }
-    let Some((at, members)) = set_of(case) else {
+    let moved = call == UPGRADE || call == DOWNGRADE && prng.percent(70);
+    let Some(mut read) = read_case(case).ok().filter(|_| moved) else {
         return case.to_vec();
     };
-    let count: &[u8] = match call {
-        UPGRADE => &[],
-        DOWNGRADE if prng.percent(70) => &[1, 0],
-        _ => return case.to_vec(),
-    };
-    [&case[..at], count, &members[prng.below(members.len())]].concat()
+    let member = prng.below(read.set.len());
+    read.set = vec![read.set.swap_remove(member)];
+    if call == UPGRADE || prng.percent(80) {
+        for node in read.first.iter_mut().chain(&mut read.set[0]) {
+            node.figure = 0;
+        }
+    }
+    match old_case(&read).filter(|_| call == UPGRADE) {
+        Some(old) => old.bytes(),
+        None => read.bytes(),
+    }
 }
 
 /// The number of the first pattern, or as often that of a member.
@@ -125,10 +135,10 @@ fn document(prng: &mut Prng, drawn: &[Vector], case: &Case) -> Vec<u8> {
         return other.clone();
     }
     let pattern = case.selection(number).unwrap_or(&case.first);
-    let nodes = lay_out(&case.outline, pattern, &places).nodes;
+    let nodes = lay_out(&case.outline, pattern, &places).volume(&case.outline);
     let mut numbers = vec![nodes.len()];
     for node in &nodes {
-        numbers.extend([node.parent, case.outline[node.outline].label.into()]);
+        numbers.extend([node.parent, node.label.into(), node.figure.into()]);
     }
     fields(&numbers)
 }
@@ -226,8 +236,10 @@ pub fn caller(prng: &mut Prng, any: u64) -> u64 {
 /// How much is lent: around both least lengths, little, or anything up to the most.
 fn length(prng: &mut Prng) -> u64 {
     let any = prng.below(LENT_MOST + 1);
-    let short = prng.below(5_000);
-    let lengths = [0, 1, 1_023, 1_024, 1_025, 4_095, 4_096, 4_097, short, short];
+    let short = prng.below(10_000);
+    let lengths = [
+        0, 1, 1_023, 1_024, 1_025, 4_096, 8_191, 8_192, 8_193, short, short,
+    ];
     let chosen = lengths[prng.below(lengths.len())];
     (if prng.below(200) == 0 { any } else { chosen }) as u64
 }
@@ -240,15 +252,60 @@ fn damage(prng: &mut Prng, vector: &mut Vector) {
         LAYOUT => (false, true),
         _ => (false, false),
     };
-    let bytes = match prng.below(4) {
+    let bytes = match prng.below(6) {
         0 if volume => &mut vector.volume,
         1 if list => &mut vector.list,
         2 => return damage_set(prng, &mut vector.case),
+        3 if volume => return volume_figure(prng, &mut vector.volume),
+        3 | 4 => return case_figure(prng, &mut vector.case),
         _ => &mut vector.case,
     };
     for _ in 0..prng.between(1, 4) {
         stroke(prng, bytes);
     }
+}
+
+/// Another figure at a node of an accepted case.
+fn case_figure(prng: &mut Prng, case: &mut Vec<u8>) {
+    let Ok(mut read) = read_case(case) else {
+        return stroke(prng, case);
+    };
+    let member = prng.below(read.set.len());
+    let nodes = match prng.below(2) {
+        0 => &mut read.first,
+        _ => &mut read.set[member],
+    };
+    let node = prng.below(nodes.len());
+    nodes[node].figure = figure(prng, nodes[node].figure);
+    *case = read.bytes();
+}
+
+/// Another figure at a node of a document that has one.
+fn volume_figure(prng: &mut Prng, volume: &mut Vec<u8>) {
+    let nodes = volume.len().saturating_sub(2) / 6;
+    if nodes == 0 {
+        return stroke(prng, volume);
+    }
+    // A record's last field.
+    let place = 2 + 6 * prng.below(nodes) + 4;
+    let old = u16::from_le_bytes([volume[place], volume[place + 1]]);
+    let new = figure(prng, old);
+    volume[place..place + 2].copy_from_slice(&new.to_le_bytes());
+}
+
+/// A neighbour of the one there is, or one at the bounds.
+fn figure(prng: &mut Prng, old: u16) -> u16 {
+    let figures = [
+        old.wrapping_add(1),
+        old.wrapping_sub(1),
+        0,
+        1,
+        FIGURE_MOST - 1,
+        FIGURE_MOST,
+        FIGURE_MOST + 1,
+        u16::MAX,
+    ];
+    figures[prng.below(figures.len())]
 }
 
 /// A member fewer, more, empty or damaged, eight or nine of them, or none. Mostly the count tells how
@@ -284,11 +341,11 @@ fn damage_set(prng: &mut Prng, case: &mut Vec<u8>) {
 /// Where the set of an accepted case begins, and the sections of its members.
 pub fn set_of(case: &[u8]) -> Option<(usize, Vec<Vec<u8>>)> {
     let read = read_case(case).ok()?;
-    let at = 4 + 6 * read.outline.len() + 8 * read.first.len();
+    let at = 4 + 6 * read.outline.len() + 10 * read.first.len();
     let mut rest = &case[at + 2..];
     let mut sections = Vec::new();
     for member in &read.set {
-        let (section, after) = rest.split_at(2 + 8 * member.len());
+        let (section, after) = rest.split_at(2 + 10 * member.len());
         sections.push(section.to_vec());
         rest = after;
     }
@@ -352,7 +409,7 @@ fn lengthen(prng: &mut Prng, vector: &mut Vector) {
     }
     bytes.resize(most, 0);
     if prng.percent(50) && vector.volume.len() == most {
-        let count = (most - 2) / 4;
+        let count = (most - 2) / 6;
         vector.volume[..2].copy_from_slice(&(count as u16).to_le_bytes());
     }
     if let Some((at, members)) = set.filter(|_| vector.case.len() == most) {
@@ -364,7 +421,7 @@ fn lengthen(prng: &mut Prng, vector: &mut Vector) {
 /// Whether many trials pass, so that a great limit takes long. Where all verdicts of an order together
 /// try less than one may, none of them is stopped there.
 fn slow(vector: &Vector, quick: u64) -> bool {
-    let (mut tallies, mut answer) = ([0; CALLERS], [0; 4_096]);
+    let (mut tallies, mut answer) = ([0; CALLERS], [0; ANSWER_BYTES]);
     match vector.call {
         VERDICT => {
             let got = reference::verdict(&vector.case, quick, 0, &mut tallies, &mut answer);

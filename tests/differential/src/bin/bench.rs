@@ -2,15 +2,17 @@
 //! table in Markdown. Each time is the least of ROUNDS (default 15), the two taking turns; a round
 //! repeats the call for 4 ms at least. Sets have one member; where a row has the same with a larger set,
 //! those that follow have it, and how much longer the library takes. An order stands after one verdict on
-//! the same case, and how much longer it takes beside that.
+//! the same case, and how much longer it takes beside that. All figures are 0, unless a row says that it has figures.
 
 #![forbid(unsafe_code)]
 
-use cadwezin::{ffi, NodeRecord, Tallies};
+use cadwezin::{ffi, NodeRecord, Tallies, ANSWER_BYTES, FIGURE_MOST};
 use differential::compare::compare;
 use differential::lent::Loans;
 use differential::vary::set_of;
-use reference::generate::{cases, layouts, normals, random, strikes};
+use reference::generate::{cases, layouts, normals, random, strikes, Seed};
+use reference::old::old_case;
+use reference::records::read_case;
 use reference::vectors::{
     Vector, DOWNGRADE, FITS, IS_RESULT, LAYOUT, MINIMISE, NODES_AT, NORMALISE, PATHS, UPGRADE,
     VERDICT,
@@ -124,7 +126,7 @@ impl Ours {
     fn new() -> Self {
         Ours {
             tallies: Tallies::default(),
-            answer: vec![0; 5_000],
+            answer: vec![0; 10_000],
             table: vec![NodeRecord::default(); 2_000],
         }
     }
@@ -170,7 +172,7 @@ impl Theirs {
     fn new() -> Self {
         Theirs {
             tallies: reference::Tallies::default(),
-            answer: vec![0; 5_000],
+            answer: vec![0; 10_000],
             table: vec![reference::NodeRecord::default(); 2_000],
         }
     }
@@ -273,7 +275,7 @@ const NOWHERE: u16 = 61_000;
 /// A pattern's section whose last record has another label.
 fn ending_in(section: &[u8], label: u16) -> Vec<u8> {
     let mut section = section.to_vec();
-    let at = section.len() - 6;
+    let at = section.len() - 8;
     section[at..at + 2].copy_from_slice(&label.to_le_bytes());
     section
 }
@@ -306,20 +308,24 @@ fn questions() -> Vec<Row> {
     let largest = in_itself(&line(1), star(15, 8));
     let mut spoilt = document(&line_document());
     let end = spoilt.len() - 2;
-    spoilt[end..].fill(0);
+    spoilt[end - 2..end].fill(0);
+    let too_good = with_figures(&line_document(), |i| if i == 1_023 { 2_001 } else { i });
+    let mut asking = largest.clone();
+    let end = asking.len();
+    asking[end - 2..].copy_from_slice(&2_001u16.to_le_bytes());
     let full = Vector {
         tally: u64::MAX,
         ..verdict(largest.clone(), 1)
     };
     let nine = case(&line(1), &star(15, 8), &vec![star(15, 8); 9]);
-    let empty = case(&line(1), &star(15, 8), &vec![vec![]; 32_509]);
-    let one_node = document(&[[0, 1]]);
+    let empty = case(&line(1), &star(15, 8), &vec![vec![]; 32_493]);
+    let one_node = document(&[[0, 1, 0]]);
     let mut rows = vec![
         row("verdict", "limit 0: refused 1", vec![verdict(vec![], 0)]),
         row("verdict", "no bytes: refused 3", vec![verdict(vec![], 1)]),
         row(
             "fits",
-            "65,536 bytes, 32,509 empty members: refused 4",
+            "65,536 bytes, 32,493 empty members: refused 4",
             vec![of_document(FITS, &empty, one_node.clone(), &[])],
         ),
         row(
@@ -338,6 +344,16 @@ fn questions() -> Vec<Row> {
         "1,024 nodes, the last of label 0: refused 10",
         vec![of_document(FITS, &largest, spoilt, &[])],
     ));
+    rows.push(row(
+        "fits",
+        "1,024 nodes, the last of figure 2,001: refused 17",
+        vec![of_document(FITS, &largest, document(&too_good), &[])],
+    ));
+    rows.push(row(
+        "verdict",
+        "64 + 16 + 16 nodes, the last of figure 2,001: refused 17",
+        vec![verdict(asking, 1)],
+    ));
     rows.extend(both(
         "fits",
         "64 + 16 + 16 nodes, a document of 1: accepted",
@@ -349,7 +365,7 @@ fn questions() -> Vec<Row> {
 /// Verdicts, of one trial and of 1,000.
 fn verdicts() -> Vec<Row> {
     let mut nowhere = star(14, 1);
-    nowhere.push([0, 60_000, 1, 0]);
+    nowhere.push([0, 60_000, 1, 0, 0]);
     let none = vec![verdict(case(&line(0), &nowhere, &[star(0, 1)]), 1_000)];
     let mut rows = Vec::new();
     rows.extend(both(
@@ -367,21 +383,51 @@ fn verdicts() -> Vec<Row> {
         "1,000 trials of few nodes, one below another",
         vec![verdict(in_itself(&line(0), chain(15)), 1_000)],
     ));
-    rows.extend(by_turns("6 nodes", &flat(8), [[0, 0, 0, 0]; 3].to_vec()));
+    rows.extend(by_turns("6 nodes", &flat(8), [[0, 0, 0, 0, 0]; 3].to_vec()));
     rows.extend(by_turns("some 600 nodes", &line(0)[..55], low()));
     rows.extend(both(
         "verdict",
         "63^14 partial placements, none whole",
         none,
     ));
+    rows.extend(both(
+        "verdict",
+        "1,000 trials of 946 nodes, with figures",
+        vec![verdict(in_itself(&line(1), asking(star(15, 1))), 1_000)],
+    ));
+    rows.extend(both(
+        "verdict",
+        "1,000 trials of few nodes, one below another, with figures",
+        vec![verdict(in_itself(&line(0), asking(chain(15))), 1_000)],
+    ));
+    rows.extend(by_turns(
+        "some 600 nodes, with figures",
+        &line(0)[..55],
+        asking(low()),
+    ));
     rows
+}
+
+/// The same pattern, each node asking for another figure.
+fn asking(mut pattern: Vec<[u16; 5]>) -> Vec<[u16; 5]> {
+    for (node, figure) in pattern.iter_mut().zip((0..=FIGURE_MOST).rev()) {
+        node[4] = figure;
+    }
+    pattern
+}
+
+/// The same document, with a figure for each node.
+fn with_figures(records: &[[u16; 3]], figure: fn(u16) -> u16) -> Vec<[u16; 3]> {
+    let all = records.iter().zip(0..);
+    all.map(|(&[parent, label, _], i)| [parent, label, figure(i)])
+        .collect()
 }
 
 fn e6() -> Vec<u8> {
     case(
         &[[0, 1, 0], [0, 2, 0], [1, 3, 0]],
-        &[[0, 1, 0, 0], [0, 0, 1, 1]],
-        &[vec![[0, 1, 0, 0], [0, 0, 0, 1]]],
+        &[[0, 1, 0, 0, 0], [0, 0, 1, 1, 0]],
+        &[vec![[0, 1, 0, 0, 0], [0, 0, 0, 1, 0]]],
     )
 }
 
@@ -393,23 +439,27 @@ fn flat(children: u16) -> Vec<[u16; 3]> {
 }
 
 /// Nodes at the bottom of a line of 55, and some that are free.
-fn low() -> Vec<[u16; 4]> {
-    [[[0, 55, 1, 0]; 10].to_vec(), [[0, 0, 1, 0]; 3].to_vec()].concat()
+fn low() -> Vec<[u16; 5]> {
+    [
+        [[0, 55, 1, 0, 0]; 10].to_vec(),
+        [[0, 0, 1, 0, 0]; 3].to_vec(),
+    ]
+    .concat()
 }
 
 /// 1,000 trials over a summary, in which the first pattern has these nodes and a last one, at any child
 /// of x. One member asks for any of these children; of two, four and eight each asks for another, so
 /// that trial by trial another one passes.
-fn by_turns(nodes: &str, summary: &[[u16; 3]], below_root: Vec<[u16; 4]>) -> Vec<Row> {
+fn by_turns(nodes: &str, summary: &[[u16; 3]], below_root: Vec<[u16; 5]>) -> Vec<Row> {
     const X: u16 = 900;
     const CHILD: u16 = 910;
     let x = summary.len() as u16;
-    let mut first = vec![[0, 1, 0, 1]];
+    let mut first = vec![[0, 1, 0, 1, 0]];
     first.extend(below_root);
     let above = first.len() as u16;
-    first.extend([[0, X, 0, 0], [above, 0, 0, 0]]);
-    let asking = |label: u16| vec![[0, 1, 0, 1], [0, X, 0, 0], [1, label, 0, 0]];
-    let over = |children: u16, set: &[Vec<[u16; 4]>]| {
+    first.extend([[0, X, 0, 0, 0], [above, 0, 0, 0, 0]]);
+    let asking = |label: u16| vec![[0, 1, 0, 1, 0], [0, X, 0, 0, 0], [1, label, 0, 0, 0]];
+    let over = |children: u16, set: &[Vec<[u16; 5]>]| {
         let mut summary = summary.to_vec();
         summary.push([0, X, 0]);
         summary.extend((0..children).map(|child| [x, CHILD + child, 0]));
@@ -418,7 +468,7 @@ fn by_turns(nodes: &str, summary: &[[u16; 3]], below_root: Vec<[u16; 4]>) -> Vec
     let input = format!("1,000 trials of {nodes}");
     let mut rows = vec![row("verdict", &input, over(8, &[asking(0)]))];
     for members in [2, 4, 8] {
-        let each: Vec<Vec<[u16; 4]>> = (0..members).map(|child| asking(CHILD + child)).collect();
+        let each: Vec<Vec<[u16; 5]>> = (0..members).map(|child| asking(CHILD + child)).collect();
         let input = format!("{input}, through {members} members by turns");
         rows.push(larger_row("verdict", &input, over(members, &each)));
     }
@@ -429,8 +479,19 @@ fn by_turns(nodes: &str, summary: &[[u16; 3]], below_root: Vec<[u16; 4]>) -> Vec
 fn documents() -> Vec<Row> {
     let case = in_itself(&line(0), chain(15));
     let bush = bush_document();
-    let with = |call, document: &[[u16; 2]], list: &[u16]| {
+    let with = |call, document: &[[u16; 3]], list: &[u16]| {
         vec![of_document(call, &case, self::document(document), list)]
+    };
+    // The upper half of the pattern's nodes ask for the most, which the upper half of the line has.
+    let mut asking = chain(15);
+    asking[..8]
+        .iter_mut()
+        .for_each(|node| node[4] = FIGURE_MOST);
+    let asking = in_itself(&line(0), asking);
+    let half = with_figures(&line_document(), |i| if i < 512 { FIGURE_MOST } else { i });
+    let low = with_figures(&line_document(), |i| i);
+    let by_figures = |call, document: &[[u16; 3]], list: &[u16]| {
+        vec![of_document(call, &asking, self::document(document), list)]
     };
     let mut rows = vec![
         row("fits", "1,024 nodes, yes", with(FITS, &bush, &[])),
@@ -455,6 +516,28 @@ fn documents() -> Vec<Row> {
         "1,024 nodes",
         with(NODES_AT, &line_document(), &[]),
     ));
+    rows.extend([
+        row(
+            "fits",
+            "1,024 nodes with figures, yes",
+            by_figures(FITS, &with_figures(&bush, |i| i), &[]),
+        ),
+        row(
+            "is it a result",
+            "1,024 nodes with figures, yes",
+            by_figures(IS_RESULT, &half, &[0]),
+        ),
+        row(
+            "is it a result",
+            "1,024 nodes with figures, no by figures",
+            by_figures(IS_RESULT, &low, &[0]),
+        ),
+    ]);
+    rows.extend(both(
+        "nodes at a position",
+        "1,024 nodes with figures",
+        by_figures(NODES_AT, &half, &[]),
+    ));
     rows
 }
 
@@ -478,10 +561,15 @@ fn others() -> Vec<Row> {
         list: fields(&below),
         ..layout.clone()
     };
+    let figured = Vector {
+        case: in_itself(&line(1), asking(star(15, 8))),
+        ..layout.clone()
+    };
     vec![
         row("paths", "64 + 16 nodes", vec![paths]),
         row("lay out a trial", "946 nodes", vec![layout]),
         row("lay out a trial", "946 nodes, 930 filled up", vec![filled]),
+        row("lay out a trial", "946 nodes, with figures", vec![figured]),
     ]
 }
 
@@ -499,6 +587,9 @@ fn moves() -> Vec<Row> {
     let end = unheld.len() - 8 * 8;
     unheld[end - 2..end].fill(0);
     let two = case(&line(1), &star(15, 8), &vec![star(15, 8); 2]);
+    let mut good = largest.clone();
+    let end = good.len();
+    good[end - 2] = 1;
     let (over, back) = ("old to new", "new to old");
     let nodes = "64 + 16 + 16 nodes";
     vec![
@@ -516,22 +607,27 @@ fn moves() -> Vec<Row> {
             "64 + 16 nodes, two members of 16: refused 15",
             vec![writing(DOWNGRADE, two)],
         ),
+        row(
+            back,
+            &format!("{nodes}, the last of figure 1: refused 15"),
+            vec![writing(DOWNGRADE, good)],
+        ),
     ]
 }
 
 fn writing(call: u32, case: Vec<u8>) -> Vector {
     Vector {
         call,
-        length: 4_096,
+        length: ANSWER_BYTES as u64,
         case,
         ..Vector::default()
     }
 }
 
-/// A case with a set of one as it was written before there were sets.
+/// A case with a set of one and figures of 0 as it was written before there were sets.
 fn old_form(case: &[u8]) -> Vec<u8> {
-    let (at, members) = set_of(case).expect("the case is accepted");
-    [&case[..at], &members.concat()].concat()
+    let read = read_case(case).expect("the case is accepted");
+    old_case(&read).expect("it goes back").bytes()
 }
 
 /// Cases written in one way: E6, and the most nodes there can be, 64 and nine times 16. Labels that fall turn
@@ -551,12 +647,18 @@ fn normal_forms() -> Vec<Row> {
     let same = |_| 7;
     let mut unheld = largest(star, falling);
     let end = unheld.len();
-    unheld[end - 2..].fill(0);
-    let drawn: Vec<Vector> = normals(1, 4_000)
-        .into_iter()
-        .filter(|vector| vector.case.len() == unheld.len() && vector.length >= 4_096)
-        .take(200)
-        .collect();
+    unheld[end - 4..end - 2].fill(0);
+    let drawn = |seed: Seed| -> Vec<Vector> {
+        let large = |vector: &Vector| {
+            vector.case.len() == unheld.len() && vector.length >= ANSWER_BYTES as u64
+        };
+        normals(seed, 4_000)
+            .into_iter()
+            .filter(large)
+            .take(200)
+            .collect()
+    };
+    let (plain, figured) = (drawn(Seed::without_figures(1)), drawn(1.into()));
     vec![
         row(ONE_WAY, "E6", vec![writing(NORMALISE, e6())]),
         one("stars, in order", largest(star, rising)),
@@ -576,7 +678,12 @@ fn normal_forms() -> Vec<Row> {
             "combs, all but one node of a pattern alike",
             largest(comb, same),
         ),
-        row(ONE_WAY, &format!("{NODES}, {} drawn", drawn.len()), drawn),
+        row(ONE_WAY, &format!("{NODES}, {} drawn", plain.len()), plain),
+        row(
+            ONE_WAY,
+            &format!("{NODES}, {} drawn with figures", figured.len()),
+            figured,
+        ),
         one("a position missing: refused 8", unheld),
     ]
 }
@@ -594,8 +701,8 @@ fn largest(parent: fn(u16) -> u16, label: fn(u16) -> u16) -> Vec<u8> {
         }
     };
     let summary: Vec<[u16; 3]> = (0..64).map(|t| [parent(t), other(t), t % 2]).collect();
-    let pattern: Vec<[u16; 4]> = (0..16)
-        .map(|q| [parent(q), label(q), 0, u16::from(q == 15)])
+    let pattern: Vec<[u16; 5]> = (0..16)
+        .map(|q| [parent(q), label(q), 0, u16::from(q == 15), 0])
         .collect();
     case(&summary, &pattern, &vec![pattern.clone(); 8])
 }
@@ -610,20 +717,25 @@ fn orders() -> Vec<Row> {
     plain.iter_mut().for_each(|node| node[2] = 0);
     let mut half = granted.clone();
     half[1..9].iter_mut().for_each(|node| node[2] = 0);
-    let leaves: Vec<[u16; 4]> = (0..16).map(|q| [0, q + 1, 0, u16::from(q == 0)]).collect();
-    let steps: Vec<[u16; 4]> = (0..16u16)
-        .map(|q| [q.saturating_sub(1), q + 1, 0, u16::from(q == 0)])
+    let leaves: Vec<[u16; 5]> = (0..16)
+        .map(|q| [0, q + 1, 0, u16::from(q == 0), 0])
         .collect();
-    let bottom: Vec<[u16; 4]> = (0..16u16)
+    let steps: Vec<[u16; 5]> = (0..16u16)
+        .map(|q| [q.saturating_sub(1), q + 1, 0, u16::from(q == 0), 0])
+        .collect();
+    let bottom: Vec<[u16; 5]> = (0..16u16)
         .map(|q| {
             [
                 0,
                 if q == 0 { 1 } else { 64 },
                 u16::from(q > 0),
                 u16::from(q == 0),
+                0,
             ]
         })
         .collect();
+    // Each of 15 equal leaves asks for less than the one before it, so that all but the first go.
+    let less = asking(bottom.clone());
     [
         ("15 leaves, all go", in_itself(&granted, leaves.clone())),
         ("a chain of 15, all go", in_itself(&line(1), steps)),
@@ -640,6 +752,10 @@ fn orders() -> Vec<Row> {
         (
             "15 free leaves, none goes: stopped",
             in_itself(&line(1), star(15, 1)),
+        ),
+        (
+            "15 leaves over 946 nodes, 14 go by figures",
+            in_itself(&line(0), less),
         ),
     ]
     .into_iter()
@@ -663,33 +779,35 @@ fn after_verdict(input: &str, judged: Vector) -> [Row; 2] {
     ]
 }
 
-/// Calls as the generators draw them, but for their callers and sets; their mean.
+/// Calls as the generators draw them, without figures and with them.
 fn drawn() -> Vec<Row> {
-    let near_limits = || of_one_caller(cases(1, 80));
-    let any = || of_one_caller(random(1, 1_000));
+    let mut rows = drawn_from(Seed::without_figures(1), "");
+    rows.extend(drawn_from(1.into(), " with figures"));
+    rows
+}
+
+/// Calls as they are drawn from a seed, but for their callers and sets; their mean.
+fn drawn_from(seed: Seed, figures: &str) -> Vec<Row> {
+    let near_limits = || of_one_caller(cases(seed, 80));
+    let any = || of_one_caller(random(seed, 1_000));
     let alone = |vectors: Vec<Vector>| vectors.iter().map(alone).collect();
+    let near = |count: u32| format!("{count} near the limits{figures}");
+    let random = format!("1,000 random{figures}");
+    let as_drawn = |input: &str| format!("{input}, sets as they are drawn");
     let mut rows = vec![row(
         "lay out a trial",
-        "200 near the limits",
-        alone(layouts(1, 200)),
+        &near(200),
+        alone(layouts(seed, 200)),
     )];
-    rows.extend(both("verdict", "80 near the limits", alone(near_limits())));
-    rows.push(row(
-        "verdict",
-        "80 near the limits, sets as they are drawn",
-        near_limits(),
-    ));
+    rows.extend(both("verdict", &near(80), alone(near_limits())));
+    rows.push(row("verdict", &as_drawn(&near(80)), near_limits()));
     rows.push(row(
         "striking out",
-        "80 drawn, sets as they are drawn",
-        of_one_caller(strikes(1, 80)),
+        &as_drawn(&format!("80 drawn{figures}")),
+        of_one_caller(strikes(seed, 80)),
     ));
-    rows.extend(both("all ten", "1,000 random", alone(any())));
-    rows.push(row(
-        "all ten",
-        "1,000 random, sets as they are drawn",
-        any(),
-    ));
+    rows.extend(both("all ten", &random, alone(any())));
+    rows.push(row("all ten", &as_drawn(&random), any()));
     rows
 }
 
@@ -713,7 +831,7 @@ fn section<const N: usize>(records: &[[u16; N]]) -> Vec<u8> {
     bytes
 }
 
-fn case(summary: &[[u16; 3]], first: &[[u16; 4]], set: &[Vec<[u16; 4]>]) -> Vec<u8> {
+fn case(summary: &[[u16; 3]], first: &[[u16; 5]], set: &[Vec<[u16; 5]>]) -> Vec<u8> {
     let mut bytes = [section(summary), section(first)].concat();
     bytes.extend(fields(&[set.len() as u16]));
     for member in set {
@@ -723,11 +841,11 @@ fn case(summary: &[[u16; 3]], first: &[[u16; 4]], set: &[Vec<[u16; 4]>]) -> Vec<
 }
 
 /// A pattern, and a set of that one alone.
-fn in_itself(summary: &[[u16; 3]], pattern: Vec<[u16; 4]>) -> Vec<u8> {
+fn in_itself(summary: &[[u16; 3]], pattern: Vec<[u16; 5]>) -> Vec<u8> {
     case(summary, &pattern.clone(), &[pattern])
 }
 
-fn document(records: &[[u16; 2]]) -> Vec<u8> {
+fn document(records: &[[u16; 3]]) -> Vec<u8> {
     section(records)
 }
 
@@ -735,7 +853,7 @@ fn verdict(case: Vec<u8>, limit: u64) -> Vector {
     Vector {
         call: VERDICT,
         limit,
-        length: 4_096,
+        length: ANSWER_BYTES as u64,
         case,
         ..Vector::default()
     }
@@ -746,7 +864,7 @@ fn of_document(call: u32, case: &[u8], volume: Vec<u8>, list: &[u16]) -> Vector 
         call,
         selection: 1,
         position: 1,
-        length: 4_096,
+        length: ANSWER_BYTES as u64,
         case: case.to_vec(),
         volume,
         list: fields(list),
@@ -762,42 +880,50 @@ fn line(strong: u16) -> Vec<[u16; 3]> {
 }
 
 /// A pattern: descendants of any label below the root, with the first so many positions.
-fn star(free: u16, positions: u16) -> Vec<[u16; 4]> {
+fn star(free: u16, positions: u16) -> Vec<[u16; 5]> {
     (0..=free)
         .map(|q| {
             let position = if q < positions { q + 1 } else { 0 };
-            [0, 0, u16::from(q > 0), position]
+            [0, 0, u16::from(q > 0), position, 0]
         })
         .collect()
 }
 
 /// A pattern whose nodes hang one from another by descendant edges.
-fn chain(free: u16) -> Vec<[u16; 4]> {
+fn chain(free: u16) -> Vec<[u16; 5]> {
     (0..=free)
-        .map(|q| [q.saturating_sub(1), 0, u16::from(q > 0), u16::from(q == 0)])
+        .map(|q| {
+            [
+                q.saturating_sub(1),
+                0,
+                u16::from(q > 0),
+                u16::from(q == 0),
+                0,
+            ]
+        })
         .collect()
 }
 
 /// 1,024 nodes one below another.
-fn line_document() -> Vec<[u16; 2]> {
+fn line_document() -> Vec<[u16; 3]> {
     (0..1_024u16)
-        .map(|i| [i.saturating_sub(1), i % 64 + 1])
+        .map(|i| [i.saturating_sub(1), i % 64 + 1, 0])
         .collect()
 }
 
 /// 1,024 nodes that conform to the summary `line`: sixteen branches from the root down to its end.
-fn bush_document() -> Vec<[u16; 2]> {
-    let mut records = vec![[0, 1]];
+fn bush_document() -> Vec<[u16; 3]> {
+    let mut records = vec![[0, 1, 0]];
     while records.len() < 1_024 {
         let step = (records.len() - 1) % 63;
         let parent = if step == 0 { 0 } else { records.len() - 1 };
-        records.push([parent as u16, step as u16 + 2]);
+        records.push([parent as u16, step as u16 + 2, 0]);
     }
     records
 }
 
 /// The same with another label at the last node.
-fn spoilt(records: &[[u16; 2]]) -> Vec<[u16; 2]> {
+fn spoilt(records: &[[u16; 3]]) -> Vec<[u16; 3]> {
     let mut records = records.to_vec();
     records[1_023][1] = 65_535;
     records

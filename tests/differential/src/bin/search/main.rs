@@ -280,7 +280,7 @@ impl Search {
         ffi::verdict(case, LIMIT, CALLER, &mut Tallies::default(), answer);
         let answer = self.loans.bytes.now();
         let field = |at: usize| usize::from(u16::from_le_bytes([answer[at], answer[at + 1]]));
-        let end = 2 + 4 * field(0);
+        let end = 2 + 6 * field(0);
         let (document, list) = (&answer[..end], &answer[end + 2..end + 2 + 2 * field(end)]);
         let holds = |number| reference::is_result(case, number, document, list).holds;
         let members = reference::records::read_case(case).map_or(0, |case| case.set.len());

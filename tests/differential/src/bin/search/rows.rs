@@ -6,7 +6,7 @@ pub const OUTLINE_MOST: usize = 64;
 pub const SELECTION_MOST: usize = 16;
 pub const MEMBERS_MOST: usize = 8;
 
-type Selection = Vec<[u16; 4]>;
+type Selection = Vec<[u16; 5]>;
 
 #[derive(Clone, Debug, Default, PartialEq, Eq)]
 pub struct Rows {
@@ -115,7 +115,7 @@ impl Rows {
         below_root(&mut self.first, fresh, 0);
         for member in &mut self.set {
             let above = member.len() as u16;
-            member.extend([[0, 0, 1, 0], [above, key, 0, 0]]);
+            member.extend([[0, 0, 1, 0, 0], [above, key, 0, 0, 0]]);
         }
     }
 
@@ -189,10 +189,10 @@ fn alter_selection(prng: &mut Prng, rows: &mut Selection, labels: &[u16]) {
     let count = rows.len();
     let at = prng.below(count);
     let label = labels[prng.below(labels.len())];
-    match prng.below(9) {
+    match prng.below(10) {
         0 if count < SELECTION_MOST => {
             let edge = u16::from(prng.percent(60));
-            rows.push([at as u16, label, edge, 0]);
+            rows.push([at as u16, label, edge, 0, 0]);
         }
         1 => remove_leaf(prng, rows, |row| row[3] == 0),
         2 if at > 0 => rows[at][0] = prng.below(at) as u16,
@@ -205,9 +205,10 @@ fn alter_selection(prng: &mut Prng, rows: &mut Selection, labels: &[u16]) {
         }
         5 => swap_next(rows, at),
         6 if at > 0 && count < SELECTION_MOST => {
-            let [parent, label, edge, _] = rows[at];
-            rows.push([parent, label, edge, 0]);
+            let [parent, label, edge, _, figure] = rows[at];
+            rows.push([parent, label, edge, 0, figure]);
         }
+        7 => rows[at][4] = [0, 0, 1, 2, 2_000][prng.below(5)],
         _ => rows[at][1] = label,
     }
 }
@@ -215,7 +216,7 @@ fn alter_selection(prng: &mut Prng, rows: &mut Selection, labels: &[u16]) {
 /// A child of the root, and a child of that.
 fn below_root(rows: &mut Selection, label: u16, below: u16) {
     let above = rows.len() as u16;
-    rows.extend([[0, label, 0, 0], [above, below, 0, 0]]);
+    rows.extend([[0, label, 0, 0, 0], [above, below, 0, 0, 0]]);
 }
 
 /// A row, not the root's, and the next one change places where they may. The order of the first
