@@ -2,6 +2,7 @@
 // the mask of the summary nodes that its children are on. The first row, and a row more.
 
 use bits::insert64;
+use format::limits::DOCUMENT_WIDTH;
 use format::nodes::DocumentNode;
 use format::nodes::SummaryNode;
 use format::summary::summary_label;
@@ -49,9 +50,9 @@ pub fn append(
 {
     let above = v.0;
     let place = s.0;
-    put_field(answer, 1 + 3 * count, above as u16);
-    put_field(answer, 2 + 3 * count, summary_label(case, s));
-    put_field(answer, 3 + 3 * count, 0);
+    put_field(answer, 1 + DOCUMENT_WIDTH * count, above as u16);
+    put_field(answer, 2 + DOCUMENT_WIDTH * count, summary_label(case, s));
+    put_field(answer, 3 + DOCUMENT_WIDTH * count, 0);
     on[count] = place as u16;
     kids[above] = insert64(kids[above], place);
     kids[count] = 0;

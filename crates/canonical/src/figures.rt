@@ -1,5 +1,6 @@
 // The figures: each pattern node's own node gets its least figure. The nodes above it in its chain and those that were filled up keep 0.
 
+use format::limits::DOCUMENT_WIDTH;
 use format::nodes::PatternNode;
 use format::nodes::own_of;
 use format::pattern::pattern_count;
@@ -27,7 +28,7 @@ pub fn figures(case: &[u8], at: usize, own: &[u16], answer: &mut [u8])
         let v = own_of(own, PatternNode(q));
         put_field(
             answer,
-            3 + 3 * v.0,
+            3 + DOCUMENT_WIDTH * v.0,
             pattern_figure(case, at, PatternNode(q)) as u16,
         );
     }
