@@ -114,8 +114,11 @@ pub fn lone_changes() -> Vec<Change> {
     all.extend(selection_counts(MIDDLE));
     all.extend(selection_records(MIDDLE));
     all.extend(positions(MIDDLE));
+    for which in FIRST..=SET_SELECTIONS {
+        all.extend(more_broken_figures(which));
+    }
     for which in [FIRST, MIDDLE, LAST] {
-        all.extend(more_selection_figures(which));
+        all.extend(accepted_figures(which));
     }
     let mut all: Vec<Change> = all.into_iter().map(Change::with_set).collect();
     all.extend(more_volume_figures());
@@ -541,9 +544,8 @@ fn selection_figures(which: usize) -> Vec<Change> {
     figures_of_selection(17, which, &values)
 }
 
-/// The same in other records and with other bits, figures that are accepted, and
-/// question 15, which no figure but 0 passes.
-fn more_selection_figures(which: usize) -> Vec<Change> {
+/// The same in other records and with other bits.
+fn more_broken_figures(which: usize) -> Vec<Change> {
     let broken = [
         (0, u16::MAX),
         (1, FIGURE_MOST + 1),
@@ -551,7 +553,12 @@ fn more_selection_figures(which: usize) -> Vec<Change> {
         (2, 1 << 15),
         (LAST, u16::MAX),
     ];
-    let mut all = figures_of_selection(17, which, &broken);
+    figures_of_selection(17, which, &broken)
+}
+
+/// Figures that are accepted, and question 15, which no figure but 0 passes.
+fn accepted_figures(which: usize) -> Vec<Change> {
+    let mut all = Vec::new();
     for question in [0, 15] {
         for figure in [1, 255, 256, FIGURE_MOST - 1, FIGURE_MOST] {
             let values = [(0, figure), (1, figure), (LAST, figure)];

@@ -10,7 +10,8 @@ use crate::records::FIGURE_MOST;
 pub const OF_SELECTION: usize = 4;
 pub const OF_VOLUME: usize = 2;
 
-const SOME: [u16; 6] = [0, 1, 2, 5, FIGURE_MOST - 1, FIGURE_MOST];
+/// Of 5 and 256 the low bytes go the other way.
+const SOME: [u16; 7] = [0, 1, 2, 5, 256, FIGURE_MOST - 1, FIGURE_MOST];
 
 fn some(prng: &mut Prng) -> u16 {
     SOME[prng.below(SOME.len())]
@@ -89,6 +90,28 @@ pub fn give(prng: &mut Prng, rows: &mut [VolumeRow]) {
     let all = [Some(FIGURE_MOST), Some(0), None, None][prng.below(4)];
     for row in rows {
         row[OF_VOLUME] = all.unwrap_or_else(|| some(prng));
+    }
+}
+
+/// Now and then a figure at a bound, or past it, at any node of the volume or of any
+/// selection.
+pub fn at_bounds(prng: &mut Prng, plan: &mut Plan) {
+    let Some(prng) = prng.figures() else { return };
+    if !prng.percent(8) {
+        return;
+    }
+    let (last, past) = (FIGURE_MOST, FIGURE_MOST + 1);
+    let bounds = [0, 1, last - 1, last, past, u16::MAX];
+    let bound = bounds[prng.below(bounds.len())];
+    if prng.percent(40) {
+        let node = prng.below(plan.volume.len());
+        plan.volume[node][OF_VOLUME] = bound;
+    } else {
+        let chosen = prng.below(1 + plan.set.len());
+        for rows in plan.selections_mut().skip(chosen).take(1) {
+            let node = prng.below(rows.len());
+            rows[node][OF_SELECTION] = bound;
+        }
     }
 }
 

@@ -41,6 +41,7 @@ fn one(prng: &mut Prng, changes: &[Change]) -> Vector {
     plan.selection = prng.between(1, plan.last_selection() as usize) as u64;
     plan.position = prng.between(1, plan.positions() as usize) as u64;
     plan.volume = volume(prng, &plan);
+    figures::at_bounds(prng, &mut plan);
     plan.result = result(prng, &plan);
     plan.placement = placement(prng, &plan);
     plan.tally = [0, prng.draw() % 1_000_000, prng.draw() % 999_999_000_000][prng.below(3)];
