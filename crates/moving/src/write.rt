@@ -91,6 +91,6 @@ pub fn write_old(b: &[u8], out: &mut [u8]) -> usize
     let set = set_at(b);
     copy_fields(b, 0, first, out, 0);
     let second = write_narrower(b, first, out, first);
-    let end = write_narrower(b, set + 1, out, second);
-    2 * end
+    let old_end = write_narrower(b, set + 1, out, second);
+    2 * old_end
 }
