@@ -29,13 +29,16 @@ fn pin_fits(wanted: &Wanted, figure: usize, mark: usize, p: PatternNode) -> bool
     requires { ⌜ p .0 < 16 ⌝ }
     ensures { λ r. ⌜ r ≡ pinBy (now (wanted .entry)) figure mark (p .0) ⌝ }
 {
-    if !mark_fits(wanted_mark(wanted, p), mark) {
+    let by_mark = mark_fits(wanted_mark(wanted, p), mark);
+    let by_figure = figure_fits(wanted_least(wanted, p), figure);
+    if !by_mark {
         return false;
     }
-    figure_fits(wanted_least(wanted, p), figure)
+    by_figure
 }
 
-// Pattern node p may stand at a tree node with this label, figure and mark, where acc is offered from below.
+// Pattern node p may stand at a tree node with this label, figure and mark, where acc is offered from below. Every test is asked, whatever
+// the others say: so a loop over the nodes has no branch, and takes several at a time.
 fn fits_here(
     wanted: &Wanted,
     label: u16,
@@ -47,13 +50,16 @@ fn fits_here(
     requires { ⌜ p .0 < 16 ⌝ }
     ensures { λ r. ⌜ r ≡ fitsBy (now (wanted .entry)) label figure mark acc (p .0) ⌝ }
 {
-    if !label_fits(wanted_label(wanted, p), label) {
+    let by_label = label_fits(wanted_label(wanted, p), label);
+    let by_pin = pin_fits(wanted, figure, mark, p);
+    let by_kids = bits::subset16(wanted_kids(wanted, p), acc);
+    if !by_label {
         return false;
     }
-    if !pin_fits(wanted, figure, mark, p) {
+    if !by_pin {
         return false;
     }
-    bits::subset16(wanted_kids(wanted, p), acc)
+    by_kids
 }
 
 // The pattern nodes that may stand there.
