@@ -17,7 +17,7 @@ use Rattle.model.specs.Strong.{strongTable}
 use Rattle.model.specs.Bytes.{writtenAtFront}
 use Rattle.judging.specs.Judging.{nobody, gather, Sets, offersBy}
 use Rattle.judging.specs.declared.sets.Asked.{Asked}
-use Rattle.judging.specs.declared.sets.Asked.the-variants.{Label, Held, Deep}
+use Rattle.judging.specs.declared.sets.Asked.the-variants.{Held, Deep}
 
 -- f's values at 0 to n - 1, then zeros, k entries in all
 abbrev pub tableOf : (ℕ → ℕ) → ℕ → ℕ → List ℕ
@@ -41,9 +41,8 @@ pathTable S P = map (pathMask S P) (upFrom 0 16)
 
 -- ---- a member of the set
 
--- p's label fits, it may stand where a position and a figure are held, or it hangs by a descendant edge
+-- p may stand where a position and a figure are held, or it hangs by a descendant edge
 abbrev pub askedBy : Pattern → Asked → ℕ → Bool
-askedBy Q (Label l) p = labelFits (patternLabel Q p) l
 askedBy Q (Held n f) p = mayHold Q (record { position = n; figure = f }) p
 askedBy Q Deep p = descends Q p
 
@@ -55,13 +54,21 @@ askedSet Q w = maskBelow (askedBy Q w) (length Q)
 abbrev pub heldSet : Pattern → Pattern → ℕ → ℕ
 heldSet P Q c = askedSet Q (Held (position P c) (patternFigure P c))
 
+-- by node, its label
+abbrev pub labelRow : Pattern → List ℕ
+labelRow Q = tableOf (patternLabel Q) (length Q) 16
+
+-- the nodes whose labels fit l
+unfoldable pub labelledSet : Pattern → ℕ → ℕ
+labelledSet Q l = maskBelow (λ p. labelFits (patternLabel Q p) l) (length Q)
+
 -- of n nodes those whose children, from the bit that shift stands for on, are all in byte b; kids has each node's children
 unfoldable pub byteSet : List ℕ → ℕ → ℕ → ℕ → ℕ
 byteSet kids n shift b = maskBelow (λ p. eqb (bitAnd (getD kids p 0 / shift % 256) b) (getD kids p 0 / shift % 256)) n
 
 -- by summary node, by the first pattern's node that holds, by byte
 abbrev pub fittingTable : Summary → Pattern → List ℕ
-fittingTable S Q = tableOf (λ x. askedSet Q (Label (summaryLabel S x))) (length S) 64
+fittingTable S Q = tableOf (λ x. labelledSet Q (summaryLabel S x)) (length S) 64
 
 abbrev pub allowedTable : Pattern → Pattern → List ℕ
 allowedTable P Q = tableOf (heldSet P Q) (length P) 16
