@@ -7,13 +7,13 @@ use native.Mathlib.Omega.{arith}
 use lib.Dec.{eqb, ltb}
 use lib.ListN.{length}
 use borrow.Author.Tests.{eq-eqb, ne-eqb, lt-ltb, le-ltb}
-use Rattle.model.specs.Limits.{documentWidth}
+use Rattle.model.specs.Limits.{documentWidth, maxDocument}
 use Rattle.model.specs.Lists.{upFrom, allOf}
 use Rattle.model.specs.Pattern.{arity}
 use Rattle.model.specs.Bytes.{field, sectionEnd, WholeSection, caseOf, isWholeCase, documentOf, isWholeDocument, listOf, isWholeList}
-use Rattle.model.specs.Questions.{documentKept, listInRange, patternGiven, selected, Question, refusal, caseQuestions, documentQuestions, fitsRefusal}
+use Rattle.model.specs.Questions.{between, documentKept, listInRange, patternGiven, selected, ask, Question, refusal, caseQuestions, documentQuestions, fitsRefusal}
 use Rattle.model.proofs.ListLaws.{and-left}
-use Rattle.model.proofs.Refusals.{AllYes, accepted-all-yes, all-yes-left, all-yes-right, numbered-append, refusal-after, refusal-kept, refusal-none}
+use Rattle.model.proofs.Refusals.{AllYes, accepted-all-yes, all-yes-left, all-yes-right, numbered-append, refusal-after, refusal-kept, refusal-none, refusal-no}
 use Rattle.format.specs.Given.{patternAt}
 use Rattle.format.proofs.GivenLaws.{whole-document}
 use Rattle.format.proofs.ListLaws.{list-count}
@@ -21,6 +21,7 @@ use Rattle.questions.proofs.TestLaws.{said-yes}
 use Rattle.questions.proofs.RefusalLaws.{one-by-one, case-numbered, accepted-whole}
 use Rattle.questions.proofs.LoopLaws.{Passed, passed-more, all-passed, one-failed, all-map}
 use Rattle.refusals.specs.Numbered.{numberedAt}
+use Rattle.refusals.specs.Records.{recordsQuestions}
 use Rattle.refusals.proofs.NumberedLaws.{numbered-pattern}
 
 -- ---- a document
@@ -37,8 +38,15 @@ kept-whole : (w : List ℕ) → documentKept w ≡ true → WholeSection documen
 unfolding documentKept
 kept-whole w e = whole-document w (and-left _ _ (and-left _ _ e))
 
-pub asked-document : (answer : Bool) (w : List ℕ) → answer ≡ documentKept w → not answer ≡ false → WholeSection documentWidth w 0
-asked-document answer w e t = kept-whole w (said-yes answer (documentKept w) e t)
+module _ (w : List ℕ) where
+  pub kept-no : false ≡ documentKept w → 10 ≡ refusal (documentQuestions w)
+  kept-no e = sym (refusal-no (ask 10 (documentKept w)) _ (sym e))
+
+  -- where the bytes are whole and the count is in range, the records decide
+  pub records-decide : (r : ℕ) → r ≡ refusal (recordsQuestions (documentOf w)) → true ≡ isWholeDocument w → true ≡ between 1 maxDocument (length (documentOf w))
+      → r ≡ refusal (documentQuestions w)
+  unfolding documentKept
+  records-decide r e h g = rw (← h, ← g) e
 
 -- ---- the questions on a case and a document, asked before others
 

@@ -4,9 +4,10 @@ ghost use mathlib.Core.Path.{_≡_};
 ghost use Prim.Native.Nat.{_<_};
 ghost use lib.ListN.{length};
 ghost use Rattle.model.specs.Limits.{documentWidth};
-ghost use Rattle.model.specs.Lists.{upFrom, allOf};
+ghost use Rattle.model.specs.Tree.{figureOf};
 ghost use Rattle.model.specs.Bytes.{documentOf, isWholeDocument, WholeSection};
-ghost use Rattle.model.specs.Questions.{documentRecordKept, documentKept, documentFigures, refusal, documentQuestions};
+ghost use Rattle.model.specs.Questions.{documentRecordKept, figureInRange, refusal, documentQuestions};
+ghost use Rattle.refusals.specs.Records.{recordsQuestions};
 use format::document::document_count;
 use format::document::document_figure;
 use format::document::document_label;
@@ -43,56 +44,42 @@ pub fn document_record_kept(w: &[u8], i: DocumentNode) -> bool
     0 < document_label(w, i)
 }
 
-// All records of the document do.
-pub fn document_records_kept(w: &[u8]) -> bool
+// Its figure is at most 2,000.
+fn document_figure_kept(w: &[u8], i: DocumentNode) -> bool
     requires { ⌜ WholeSection documentWidth (now w) 0 ⌝ }
-    ensures { λ r. ⌜ r ≡ allOf (documentRecordKept (documentOf (now (w .entry)))) (upFrom 0 (length (documentOf (now (w .entry))))) ⌝ }
+    requires { ⌜ i .0 < length (documentOf (now w)) ⌝ }
+    ensures { λ r. ⌜ r ≡ figureInRange (figureOf (documentOf (now (w .entry))) (i .0)) ⌝ }
+{
+    figure_in_range(wide(document_figure(w, i)))
+}
+
+// 10 and 17 of the records, in one pass: a figure that is too great is remembered, since a later record may be refused by 10.
+fn records_refusal(w: &[u8]) -> u64
+    requires { ⌜ WholeSection documentWidth (now w) 0 ⌝ }
+    ensures { λ r. ⌜ r ≡ refusal (recordsQuestions (documentOf (now (w .entry)))) ⌝ }
 {
     let n = document_count(w);
+    let mut r: u64 = 0;
     for i in 0..n {
         if !document_record_kept(w, DocumentNode(i)) {
-            return false;
+            return 10;
+        }
+        if !document_figure_kept(w, DocumentNode(i)) {
+            r = 17;
         }
     }
-    true
-}
-
-// 10. Is the document whole, nothing after, with 1 to 1,024 nodes, parents by the rule and labels not 0?
-pub fn document_kept(w: &[u8]) -> bool
-    ensures { λ r. ⌜ r ≡ documentKept (now (w .entry)) ⌝ }
-{
-    if !document_whole(w) {
-        return false;
-    }
-    if !between(1, MAX_DOCUMENT, document_count(w) as u64) {
-        return false;
-    }
-    document_records_kept(w)
-}
-
-// 17. Is every figure of the document at most 2,000?
-pub fn document_figures(w: &[u8]) -> bool
-    requires { ⌜ WholeSection documentWidth (now w) 0 ⌝ }
-    ensures { λ r. ⌜ r ≡ documentFigures (documentOf (now (w .entry))) ⌝ }
-{
-    let n = document_count(w);
-    for i in 0..n {
-        if !figure_in_range(wide(document_figure(w, DocumentNode(i)))) {
-            return false;
-        }
-    }
-    true
+    r
 }
 
 // 10 and 17, which every call asks of its document.
 pub fn document_refusal(w: &[u8]) -> u64
     ensures { λ r. ⌜ r ≡ refusal (documentQuestions (now (w .entry))) ⌝ }
 {
-    if !document_kept(w) {
+    if !document_whole(w) {
         return 10;
     }
-    if !document_figures(w) {
-        return 17;
+    if !between(1, MAX_DOCUMENT, document_count(w) as u64) {
+        return 10;
     }
-    0
+    records_refusal(w)
 }
