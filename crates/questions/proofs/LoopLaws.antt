@@ -98,7 +98,7 @@ module _ {A : Type 0} (test : A → Bool) (xs : List A) where
   unfolding countOf
   counted-none = record { count = refl; atMost = omega arith; inside = omega arith }
 
-  count-more : (d : A) (i : ℕ) (t : Bool) → i < length xs → test (getD xs i d) ≡ t → countOf test (take (i + 1) xs) ≡ countOf test (take i xs) + (elim t as (λ _. ℕ) [ true ↦ 1 | false ↦ 0 ])
+  pub count-more : (d : A) (i : ℕ) (t : Bool) → i < length xs → test (getD xs i d) ≡ t → countOf test (take (i + 1) xs) ≡ countOf test (take i xs) + (elim t as (λ _. ℕ) [ true ↦ 1 | false ↦ 0 ])
   count-more d i t h e = rw (add-one i, take-suc xs i d h) (count-after test (take i xs) (getD xs i d) t e)
 
   -- one element more: `if passes { k += 1; }`

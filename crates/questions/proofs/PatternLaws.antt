@@ -1,25 +1,33 @@
 -- Questions 7, 17 and 8 by what the code reads of a pattern's section. Assumes nothing.
-use Prim.Native.Nat.{ℕ, _+_, _≤_, _<_}
-use mathlib.Core.Path.{_≡_, refl, sym, ap, _∙_}
-use mathlib.Core.Bool.{Bool, true, false, _&&_, _||_}
+use Prim.Native.Nat.{ℕ, zero, suc, _+_, _^_, _≤_, _<_}
+use mathlib.Core.Path.{_≡_, refl, sym, ap, ap₂, _∙_, subst}
+use mathlib.Core.Bool.{Bool, true, false, _&&_, _||_, not, and-true, or-false}
+use mathlib.Core.Logic.{_⊎_, inl, inr}
 use mathlib.Core.List.{List}
 use native.Mathlib.Omega.{arith}
+use lib.Bits.{bitOr}
 use lib.Dec.{eqb, leb, ltb}
-use lib.ListN.{getD}
+use lib.ListN.{length, getD, take}
+use lib.Seq.{take-all}
 use borrow.Author.Needs.{needs}
-use borrow.Author.Tests.{le-leb, lt-leb, eq-eqb, ne-eqb}
-use Rattle.model.specs.Lists.{upFrom, allOf, countOf}
+use borrow.Author.Tests.{le-leb, lt-leb, leb-true, eq-eqb, ne-eqb, eqb-true}
+use Rattle.model.specs.Lists.{upFrom, allOf, countOf, has}
 use Rattle.model.specs.Limits.{maxPosition}
 use Rattle.model.specs.Pattern.{PatternRecord, Pattern, noPatternRecord, patternParent, position, arity}
 use Rattle.model.specs.Fitting.{parentRule}
+use Rattle.model.proofs.ListLaws.{not-both, true-or-false}
 use Rattle.model.specs.Bytes.{firstAt, setAt, setOf, caseOf}
 use Rattle.model.specs.Questions.{patternRecordKept, positionsOnce, positionsKept}
 use Rattle.format.specs.Given.{patternAt}
 use Rattle.questions.specs.declared.members.Asked.{Asked}
 use Rattle.questions.specs.declared.members.Asked.the-variants.{Positions}
+use Rattle.bits.specs.Sets.{insertIf}
+use Rattle.bits.proofs.MaskLaws.{has-none, has-insert}
+use Rattle.questions.specs.declared.pattern.Seen.{Seen}
 use Rattle.questions.specs.Members.{askedOf}
-use Rattle.questions.proofs.TestLaws.{and-no, and-assoc}
-use Rattle.questions.proofs.LoopLaws.{Passed, passed-none, passed-more, all-passed, one-failed}
+use Rattle.questions.specs.Positions.{holdersOf, heldOnce, Sees, SeenIn}
+use Rattle.questions.proofs.TestLaws.{and-no, and-assoc, eqb-sym, said-no, said-yes}
+use Rattle.questions.proofs.LoopLaws.{Passed, passed-none, passed-more, all-passed, one-failed, count-more}
 use Rattle.questions.proofs.SectionLaws.{first-pattern, set-members}
 
 -- 7, with the rule for the flag by itself
@@ -41,20 +49,17 @@ module _ (b : List ℕ) (first on : ℕ) (r : Bool) (p : first ≡ firstAt b) (s
   unfolding positionsKept
   positions-asked k a e = rw (first-pattern b first p, set-members b on s, ← a) e
 
--- 8 of one pattern, whose k is read and whose positions are then counted
-abbrev pub heldOnce : Pattern → ℕ → Bool
-heldOnce P p = eqb (countOf (λ (r : PatternRecord). eqb (r .position) p) P) 1
-
+-- 8 of one pattern, whose k is read and whose positions are then tested
 module _ (P : Pattern) (k : ℕ) (e : k ≡ arity P) where
   pub once-none : k < 1 → false ≡ positionsOnce P
   unfolding positionsOnce
   once-none h = rw (← e, lt-leb 1 k h) refl
 
-  pub once-stops : (p h : ℕ) → h ≡ countOf (λ (r : PatternRecord). eqb (r .position) p) P → (h ≡ 1 → ⊥) → Passed (heldOnce P) 1 p → p < k + 1 → false ≡ positionsOnce P
+  pub once-stops : (p : ℕ) (answer : Bool) → answer ≡ heldOnce P p → not answer ≡ true → Passed (heldOnce P) 1 p → p < k + 1 → false ≡ positionsOnce P
   unfolding positionsOnce
-  once-stops p h c n b u =
+  once-stops p answer a n b u =
       let from : 1 ≤ p = b .began in
-      let no₀ : allOf (heldOnce P) (upFrom 1 k) ≡ false = one-failed (heldOnce P) 1 k p (omega arith) (omega arith) (ne-eqb _ 1 (λ g. n (c ∙ g))) in
+      let no₀ : allOf (heldOnce P) (upFrom 1 k) ≡ false = one-failed (heldOnce P) 1 k p (omega arith) (omega arith) (said-no answer _ a n) in
       rw (← e, no₀) (sym (and-no (leb 1 k)))
 
   pub once-ends : (p : ℕ) → Passed (heldOnce P) 1 p → 1 ≤ k → k + 1 ≤ p → true ≡ positionsOnce P
@@ -63,10 +68,109 @@ module _ (P : Pattern) (k : ℕ) (e : k ≡ arity P) where
       let all₀ : allOf (heldOnce P) (upFrom 1 k) ≡ true = all-passed (heldOnce P) 1 k p b (omega arith) in
       rw (← e, le-leb 1 k l, all₀) refl
 
-pub once-more : (P : Pattern) (p h : ℕ) → Passed (heldOnce P) 1 p → h ≡ countOf (λ (r : PatternRecord). eqb (r .position) p) P → h ≡ 1 → Passed (heldOnce P) 1 (p + 1)
-once-more P p h b c e = passed-more (heldOnce P) 1 p b (eq-eqb _ 1 (sym c ∙ e))
+pub once-more : (P : Pattern) (p : ℕ) (answer : Bool) → Passed (heldOnce P) 1 p → answer ≡ heldOnce P p → not answer ≡ false → Passed (heldOnce P) 1 (p + 1)
+once-more P p answer b a t = passed-more (heldOnce P) 1 p b (said-yes answer _ a t)
 
 pub once-begins : (P : Pattern) → Passed (heldOnce P) 1 1
 once-begins P = passed-none (heldOnce P) 1
 
 pub ruleset once = (needs, once-none, once-stops, once-ends, once-more, once-begins)
+
+-- asked for k, where its own is read
+module _ (P : Pattern) (k own : ℕ) (e : own ≡ arity P) where
+  pub other-k : (k ≡ own → ⊥) → false ≡ (positionsOnce P && eqb k (arity P))
+  other-k n = rw (← e, ne-eqb k own n) (sym (and-no (positionsOnce P)))
+
+  pub same-k : (r : Bool) → k ≡ own → r ≡ positionsOnce P → r ≡ (positionsOnce P && eqb k (arity P))
+  same-k r g a = rw (← e, eq-eqb k own g) (a ∙ sym (and-true (positionsOnce P)))
+
+-- ---- the positions that are held, as masks
+
+-- those that the first q nodes hold
+pub record SeenBefore (P : Pattern) (q : ℕ) (h : Seen) : Type 0 where
+  pub seen : SeenIn (take q P) h
+  pub inside : q ≤ length P
+
+pub seen-none : (P : Pattern) → SeenBefore P 0 (record { once = 0; twice = 0 })
+unfolding countOf
+seen-none P = record { seen = record { once = λ i l. has-none i; twice = λ i l. has-none i }; inside = omega arith }
+
+-- one more holder, or none
+one-more : (n : ℕ) (t : Bool) → leb 1 (n + (elim t as (λ _. ℕ) [ true ↦ 1 | false ↦ 0 ])) ≡ (leb 1 n || t)
+one-more zero true = refl
+one-more zero false = refl
+one-more (suc n) t = le-leb 1 (suc n + (elim t as (λ _. ℕ) [ true ↦ 1 | false ↦ 0 ])) (omega arith) ∙ sym (ap (λ (b : Bool). b || t) (le-leb 1 (suc n) (omega arith)))
+
+two-more : (n : ℕ) (t : Bool) → leb 2 (n + (elim t as (λ _. ℕ) [ true ↦ 1 | false ↦ 0 ])) ≡ (leb 2 n || (leb 1 n && t))
+two-more zero true = refl
+two-more zero false = refl
+two-more (suc zero) true = refl
+two-more (suc zero) false = refl
+two-more (suc (suc n)) t =
+    le-leb 2 (suc (suc n) + (elim t as (λ _. ℕ) [ true ↦ 1 | false ↦ 0 ])) (omega arith)
+    ∙ sym (ap (λ (b : Bool). b || (leb 1 (suc (suc n)) && t)) (le-leb 2 (suc (suc n)) (omega arith)))
+
+-- the masks with position p
+has-insert-if : (t : Bool) (m p i : ℕ) → has (insertIf t m p) i ≡ (has m i || (t && eqb i p))
+unfolding insertIf
+has-insert-if true m p i = has-insert m p i
+has-insert-if false m p i = sym (or-false (has m i))
+
+has-here : (m p i : ℕ) → (has m p && eqb i p) ≡ (has m i && eqb i p)
+has-here m p i = go (true-or-false (eqb i p))
+  where
+    go : (eqb i p ≡ true) ⊎ (eqb i p ≡ false) → (has m p && eqb i p) ≡ (has m i && eqb i p)
+    go (inl e) = ap (λ (x : ℕ). has m x && eqb i p) (sym (eqb-true i p e))
+    go (inr e) = rw (e) (and-no (has m p) ∙ sym (and-no (has m i)))
+
+pub sees-far : (h : Seen) (p : ℕ) → 63 < p → Sees h p h
+sees-far h p l =
+    let none : (i : ℕ) → i < 64 → eqb i p ≡ false = λ i u. ne-eqb i p (λ e. absurd (omega arith)) in
+    record {
+      once = λ i u. rw (none i u) (sym (or-false (has (h .once) i)));
+      twice = λ i u. rw (none i u, and-no (has (h .once) i)) (sym (or-false (has (h .twice) i)));
+    }
+
+pub sees-in : (h g : Seen) (p : ℕ) (t : Bool) → g .once ≡ bitOr (h .once) (2 ^ p) → t ≡ has (h .once) p → g .twice ≡ insertIf t (h .twice) p → Sees h p g
+sees-in h g p t o e w =
+    record {
+      once = λ i u. ap (λ (m : ℕ). has m i) o ∙ has-insert (h .once) p i;
+      twice = λ i u.
+          ap (λ (m : ℕ). has m i) w ∙ has-insert-if t (h .twice) p i
+          ∙ ap (λ (b : Bool). has (h .twice) i || b) (ap (λ (b : Bool). b && eqb i p) e ∙ has-here (h .once) p i);
+    }
+
+pub seen-more : (P : Pattern) (q p : ℕ) (h g : Seen) → SeenBefore P q h → q < length P → p ≡ position P q → Sees h p g → SeenBefore P (q + 1) g
+seen-more P q p h g s u e m = record { seen = record { once = once₁; twice = twice₁ }; inside = omega arith }
+  where
+    at : ℕ → PatternRecord → Bool
+    at i r = eqb (r .position) i
+
+    more : (i : ℕ) → countOf (at i) (take (q + 1) P) ≡ countOf (at i) (take q P) + (elim (eqb i p) as (λ _. ℕ) [ true ↦ 1 | false ↦ 0 ])
+    more i = count-more (at i) P noPatternRecord q (eqb i p) u (ap (λ (x : ℕ). eqb x i) (sym e) ∙ eqb-sym p i)
+
+    once₁ : (i : ℕ) → i < 64 → has (g .once) i ≡ leb 1 (countOf (at i) (take (q + 1) P))
+    once₁ i l = m .once i l ∙ ap (λ (t : Bool). t || eqb i p) (s .seen .once i l) ∙ sym (one-more (countOf (at i) (take q P)) (eqb i p)) ∙ sym (ap (leb 1) (more i))
+
+    twice₁ : (i : ℕ) → i < 64 → has (g .twice) i ≡ leb 2 (countOf (at i) (take (q + 1) P))
+    twice₁ i l =
+        m .twice i l ∙ ap₂ (λ (t o : Bool). t || (o && eqb i p)) (s .seen .twice i l) (s .seen .once i l)
+        ∙ sym (two-more (countOf (at i) (take q P)) (eqb i p)) ∙ sym (ap (leb 2) (more i))
+
+pub seen-all : (P : Pattern) (q : ℕ) (h : Seen) → SeenBefore P q h → length P ≤ q → SeenIn P h
+seen-all P q h s l = subst (λ (Q : Pattern). SeenIn Q h) (take-all q P l) (s .seen)
+
+pub ruleset seen = (needs, sees-far, sees-in, seen-none, seen-more, seen-all)
+
+-- one position, by the masks
+module _ (P : Pattern) (h : Seen) (s : SeenIn P h) (p : ℕ) (l : p ≤ 63) where
+  pub held-twice : has (h .twice) p ≡ true → false ≡ heldOnce P p
+  held-twice e = let k = leb-true 2 (holdersOf P p) (sym (s .twice p (omega arith)) ∙ e) in sym (ne-eqb (holdersOf P p) 1 (λ g. absurd (omega arith)))
+
+  pub held-by-mask : has (h .twice) p ≡ false → has (h .once) p ≡ heldOnce P p
+  held-by-mask e = s .once p (omega arith) ∙ at-most-once (holdersOf P p) (sym (s .twice p (omega arith)) ∙ e)
+    where
+      at-most-once : (n : ℕ) → leb 2 n ≡ false → leb 1 n ≡ eqb n 1
+      at-most-once zero f = refl
+      at-most-once (suc zero) f = refl
+      at-most-once (suc (suc n)) f = absurd (not-both (leb 2 (suc (suc n))) (le-leb 2 (suc (suc n)) (omega arith)) f)

@@ -1,3 +1,4 @@
 pub mod Front
 pub mod Members
+pub mod Positions
 pub mod Rules

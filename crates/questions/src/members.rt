@@ -93,7 +93,7 @@ pub fn positions_kept(b: &[u8]) -> bool
     let first = first_at(b);
     let set = set_at(b);
     let k = arity(b, first);
-    if !positions_once(b, first) {
+    if !positions_once(b, first, k) {
         return false;
     }
     members_kept(b, set, Asked::Positions(k))

@@ -12,10 +12,14 @@ ghost use Rattle.model.specs.Pattern.{PatternRecord, arity as arityOf};
 ghost use Rattle.model.specs.Bytes.{WholeSection};
 ghost use Rattle.model.specs.Questions.{countInRange, patternRecordKept, patternKept, patternFigures, positionsOnce};
 ghost use Rattle.format.specs.Given.{patternAt};
+ghost use Rattle.questions.specs.Positions.{heldOnce, Sees, SeenIn};
 use crate::rules::between;
 use crate::rules::figure_in_range;
 use crate::rules::flag_rule;
 use crate::rules::parent_rule;
+use bits::has64;
+use bits::insert_if64;
+use bits::insert64;
 use format::limits::MAX_PATTERN;
 use format::limits::MAX_POSITION;
 use format::nodes::PatternNode;
@@ -108,18 +112,64 @@ pub fn holders(b: &[u8], at: usize, position: usize) -> usize
     k
 }
 
-// The pattern has the positions 1 to its own k once each, k at least 1.
-pub fn positions_once(b: &[u8], at: usize) -> bool
+// The positions below 64 that are held, and those that are held more than once, as masks.
+pub struct Seen {
+    pub once: u64,
+    pub twice: u64,
+}
+
+// One more node holds position p.
+fn see(h: Seen, p: usize) -> Seen
+    ensures { λ r. ⌜ Sees h p r ⌝ }
+{
+    if 63 < p {
+        return h;
+    }
+    Seen {
+        once: insert64(h.once, p),
+        twice: insert_if64(h.twice, p, has64(h.once, p)),
+    }
+}
+
+// What the pattern's nodes hold, in one pass.
+pub fn positions_seen(b: &[u8], at: usize) -> Seen
     requires { ⌜ WholeSection patternWidth (now b) at ⌝ }
+    ensures { λ r. ⌜ SeenIn (patternAt (now (b .entry)) at) r ⌝ }
+{
+    let n = pattern_count(b, at);
+    let mut h = Seen { once: 0, twice: 0 };
+    for q in 0..n {
+        h = see(h, pattern_position(b, at, PatternNode(q)));
+    }
+    h
+}
+
+// Position p is held by one node. Question 7 lets no position pass that the masks have no room for; such a one is counted.
+fn held_once(b: &[u8], at: usize, h: Seen, p: usize) -> bool
+    requires { ⌜ WholeSection patternWidth (now b) at × SeenIn (patternAt (now b) at) h ⌝ }
+    ensures { λ r. ⌜ r ≡ heldOnce (patternAt (now (b .entry)) at) p ⌝ }
+{
+    if 63 < p {
+        return holders(b, at, p) == 1;
+    }
+    if has64(h.twice, p) {
+        return false;
+    }
+    has64(h.once, p)
+}
+
+// The pattern, whose k is told, has the positions 1 to k once each, k at least 1.
+pub fn positions_once(b: &[u8], at: usize, k: usize) -> bool
+    requires { ⌜ WholeSection patternWidth (now b) at × (k ≡ arityOf (patternAt (now b) at)) × (k < 65536) ⌝ }
     ensures { λ r. ⌜ r ≡ positionsOnce (patternAt (now (b .entry)) at) ⌝ }
 {
-    let k = arity(b, at);
     if k < 1 {
         return false;
     }
+    let h = positions_seen(b, at);
     let end = k + 1;
     for p in 1..end {
-        if holders(b, at, p) != 1 {
+        if !held_once(b, at, h, p) {
             return false;
         }
     }
@@ -131,8 +181,9 @@ pub fn positions_to(b: &[u8], at: usize, k: usize) -> bool
     requires { ⌜ WholeSection patternWidth (now b) at ⌝ }
     ensures { λ r. ⌜ r ≡ (positionsOnce (patternAt (now (b .entry)) at) && eqb k (arityOf (patternAt (now (b .entry)) at))) ⌝ }
 {
-    if !positions_once(b, at) {
+    let own = arity(b, at);
+    if k != own {
         return false;
     }
-    k == arity(b, at)
+    positions_once(b, at, own)
 }

@@ -1,10 +1,11 @@
--- `questions::pattern::positions_to` meets its contract: both tests are the definition's. Assumes nothing.
+-- `questions::pattern::positions_to` meets its contract: its own k is another, or the same. Assumes nothing.
 use borrow.Author.Needs.{needs}
-use lib.Dec.{eqb}
-use Rattle.questions.proofs.TestLaws.{joined, ruled-same}
+use Rattle.questions.proofs.PatternLaws.{other-k, same-k}
 use Rattle.questions.proofs.pattern.positions_to.Statement.{statement}
 use Rattle.questions.proofs.pattern.positions_to.Tie as tie
 
 pub positions-to-spec : {M : Type 1} → statement M
 positions-to-spec =
-    tie.close (tie.spec (λ c κs. search needs) (λ c. search joined) (λ c κs. search needs) (λ c. search (joined, ruled-same eqb)))
+    tie.close
+    (tie.spec (λ c κs. search needs) (λ c. other-k _ _ _ (c .before .arity .ensures .0) (c .if1 .taken))
+    (λ c κs. search needs) (λ c. same-k _ _ _ (c .before .before .arity .ensures .0) _ (c .before .if1 .left) (c .positions-once .ensures)))

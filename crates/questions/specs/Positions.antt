@@ -1,0 +1,26 @@
+-- The positions that a pattern's nodes hold, as masks with room for those below 64.
+use Prim.Native.Nat.{ℕ, _<_}
+use mathlib.Core.Path.{_≡_}
+use mathlib.Core.Bool.{Bool, _&&_, _||_}
+use lib.Dec.{eqb, leb}
+use Rattle.model.specs.Lists.{has, countOf}
+use Rattle.model.specs.Pattern.{PatternRecord, Pattern}
+use Rattle.questions.specs.declared.pattern.Seen.{Seen}
+
+-- how many nodes hold position p
+abbrev pub holdersOf : Pattern → ℕ → ℕ
+holdersOf P p = countOf (λ (r : PatternRecord). eqb (r .position) p) P
+
+-- one does
+abbrev pub heldOnce : Pattern → ℕ → Bool
+heldOnce P p = eqb (holdersOf P p) 1
+
+-- one more node holds position p
+pub record Sees (before : Seen) (p : ℕ) (after : Seen) : Type 0 where
+  pub once : (i : ℕ) → i < 64 → has (after .once) i ≡ (has (before .once) i || eqb i p)
+  pub twice : (i : ℕ) → i < 64 → has (after .twice) i ≡ (has (before .twice) i || (has (before .once) i && eqb i p))
+
+-- what the pattern's nodes hold, once at least and twice at least
+pub record SeenIn (P : Pattern) (h : Seen) : Type 0 where
+  pub once : (i : ℕ) → i < 64 → has (h .once) i ≡ leb 1 (holdersOf P i)
+  pub twice : (i : ℕ) → i < 64 → has (h .twice) i ≡ leb 2 (holdersOf P i)
