@@ -5,4 +5,5 @@ pub mod MemberLaws
 pub mod CaseLaws
 pub mod SummaryLaws
 pub mod PatternLaws
+pub mod RecordLaws
 pub mod RefusalLaws

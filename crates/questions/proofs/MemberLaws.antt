@@ -12,6 +12,7 @@ use borrow.Author.Needs.{needs}
 use borrow.Author.Tests.{ne-eqb}
 use Rattle.model.specs.Limits.{patternWidth}
 use Rattle.model.specs.Lists.{upFrom, allOf}
+use Rattle.model.specs.Pattern.{Pattern}
 use Rattle.model.specs.Bytes.{field, sectionEnd, memberAt, setEnd, setOf, WholeSection, WholeSet}
 use Rattle.model.proofs.Bytes.{member-first, member-later}
 use Rattle.format.specs.Given.{patternAt}
@@ -31,11 +32,12 @@ pub record Members (b : List ℕ) (on : ℕ) (w : Asked) (at i : ℕ) : Type 0 w
   pub here : at ≡ memberAt b on i
   pub passed : Passed (askedAt b on w) 0 i
 
-module _ (b : List ℕ) (on : ℕ) (w : Asked) where
-  all-members : allOf (askedOf w) (setOf b on) ≡ allOf (askedAt b on w) (upFrom 0 (field b on))
-  unfolding setOf
-  all-members = all-map (askedOf w) (λ i. patternAt b (memberAt b on i)) (upFrom 0 (field b on))
+-- the members are tested by their numbers
+pub all-set : (b : List ℕ) (on : ℕ) (test : Pattern → Bool) → allOf test (setOf b on) ≡ allOf (λ i. test (patternAt b (memberAt b on i))) (upFrom 0 (field b on))
+unfolding setOf
+all-set b on test = all-map test (λ i. patternAt b (memberAt b on i)) (upFrom 0 (field b on))
 
+module _ (b : List ℕ) (on : ℕ) (w : Asked) where
   pub members-none : Members b on w (on + 1) 0
   members-none = record { here = sym (member-first b on); passed = passed-none (askedAt b on w) 0 }
 
@@ -46,10 +48,10 @@ module _ (b : List ℕ) (on : ℕ) (w : Asked) where
     pub members-stops : (answer : Bool) → i < length (setOf b on) → answer ≡ askedOf w (patternAt b at) → not answer ≡ true → false ≡ allOf (askedOf w) (setOf b on)
     members-stops answer h a f =
         kept-stops (askedAt b on w) (field b on) i (length (setOf b on)) answer (set-count b on) h (a ∙ ap (λ (k : ℕ). askedOf w (patternAt b k)) (m .here)) f
-        ∙ sym all-members
+        ∙ sym (all-set b on (askedOf w))
 
     pub members-ends : length (setOf b on) ≤ i → true ≡ allOf (askedOf w) (setOf b on)
-    members-ends h = kept-ends (askedAt b on w) (field b on) i (length (setOf b on)) (set-count b on) h (m .passed) ∙ sym all-members
+    members-ends h = kept-ends (askedAt b on w) (field b on) i (length (setOf b on)) (set-count b on) h (m .passed) ∙ sym (all-set b on (askedOf w))
 
   pub members-more : (at i end : ℕ) (answer : Bool) → Members b on w at i → answer ≡ askedOf w (patternAt b at) → not answer ≡ false
       → end ≡ sectionEnd patternWidth b at → Members b on w end (i + 1)

@@ -19,13 +19,12 @@ use Rattle.model.proofs.ListLaws.{not-both, true-or-false}
 use Rattle.model.specs.Bytes.{firstAt, setAt, setOf, caseOf}
 use Rattle.model.specs.Questions.{patternRecordKept, positionsOnce, positionsKept}
 use Rattle.format.specs.Given.{patternAt}
-use Rattle.questions.specs.declared.members.Asked.{Asked}
 use Rattle.questions.specs.declared.members.Asked.the-variants.{Positions}
 use Rattle.bits.specs.Sets.{insertIf}
 use Rattle.bits.proofs.MaskLaws.{has-none, has-insert}
 use Rattle.questions.specs.declared.pattern.Seen.{Seen}
 use Rattle.questions.specs.Members.{askedOf}
-use Rattle.questions.specs.Positions.{holdersOf, heldOnce, Sees, SeenIn}
+use Rattle.questions.specs.Positions.{oneIf, holdersOf, heldOnce, Sees, SeenIn}
 use Rattle.questions.proofs.TestLaws.{and-no, and-assoc, eqb-sym, said-no, said-yes}
 use Rattle.questions.proofs.LoopLaws.{Passed, passed-none, passed-more, all-passed, one-failed, count-more}
 use Rattle.questions.proofs.SectionLaws.{first-pattern, set-members}
@@ -40,11 +39,8 @@ module _ (P : Pattern) (q : ℕ) where
   unfolding patternRecordKept
   pattern-asked r e = e ∙ ap (λ (t : Bool). t && leb (position P q) maxPosition) (sym (and-assoc (parentRule q (patternParent P q)) (leb edgeOf 1) (ltb 0 q || eqb edgeOf 0)))
 
--- what is asked of all patterns, by the fields where they begin
+-- 8 of all patterns, by the fields where they begin
 module _ (b : List ℕ) (first on : ℕ) (r : Bool) (p : first ≡ firstAt b) (s : on ≡ setAt b) where
-  pub all-asked : (w : Asked) → r ≡ (askedOf w (patternAt b first) && allOf (askedOf w) (setOf b on)) → r ≡ (askedOf w (caseOf b .first) && allOf (askedOf w) (caseOf b .members))
-  all-asked w e = rw (first-pattern b first p, set-members b on s) e
-
   pub positions-asked : (k : ℕ) → k ≡ arity (patternAt b first) → r ≡ (positionsOnce (patternAt b first) && allOf (askedOf (Positions k)) (setOf b on)) → r ≡ positionsKept (caseOf b)
   unfolding positionsKept
   positions-asked k a e = rw (first-pattern b first p, set-members b on s, ← a) e
@@ -90,24 +86,25 @@ module _ (P : Pattern) (k own : ℕ) (e : own ≡ arity P) where
 pub record SeenBefore (P : Pattern) (q : ℕ) (h : Seen) : Type 0 where
   pub seen : SeenIn (take q P) h
   pub inside : q ≤ length P
+  pub few : h .count ≤ q
 
-pub seen-none : (P : Pattern) → SeenBefore P 0 (record { once = 0; twice = 0 })
+pub seen-none : (P : Pattern) → SeenBefore P 0 (record { once = 0; twice = 0; count = 0 })
 unfolding countOf
-seen-none P = record { seen = record { once = λ i l. has-none i; twice = λ i l. has-none i }; inside = omega arith }
+seen-none P = record { seen = record { once = λ i l. has-none i; twice = λ i l. has-none i; count = refl }; inside = omega arith; few = omega arith }
 
 -- one more holder, or none
-one-more : (n : ℕ) (t : Bool) → leb 1 (n + (elim t as (λ _. ℕ) [ true ↦ 1 | false ↦ 0 ])) ≡ (leb 1 n || t)
+one-more : (n : ℕ) (t : Bool) → leb 1 (n + oneIf t) ≡ (leb 1 n || t)
 one-more zero true = refl
 one-more zero false = refl
-one-more (suc n) t = le-leb 1 (suc n + (elim t as (λ _. ℕ) [ true ↦ 1 | false ↦ 0 ])) (omega arith) ∙ sym (ap (λ (b : Bool). b || t) (le-leb 1 (suc n) (omega arith)))
+one-more (suc n) t = le-leb 1 (suc n + oneIf t) (omega arith) ∙ sym (ap (λ (b : Bool). b || t) (le-leb 1 (suc n) (omega arith)))
 
-two-more : (n : ℕ) (t : Bool) → leb 2 (n + (elim t as (λ _. ℕ) [ true ↦ 1 | false ↦ 0 ])) ≡ (leb 2 n || (leb 1 n && t))
+two-more : (n : ℕ) (t : Bool) → leb 2 (n + oneIf t) ≡ (leb 2 n || (leb 1 n && t))
 two-more zero true = refl
 two-more zero false = refl
 two-more (suc zero) true = refl
 two-more (suc zero) false = refl
 two-more (suc (suc n)) t =
-    le-leb 2 (suc (suc n) + (elim t as (λ _. ℕ) [ true ↦ 1 | false ↦ 0 ])) (omega arith)
+    le-leb 2 (suc (suc n) + oneIf t) (omega arith)
     ∙ sym (ap (λ (b : Bool). b || (leb 1 (suc (suc n)) && t)) (le-leb 2 (suc (suc n)) (omega arith)))
 
 -- the masks with position p
@@ -123,31 +120,46 @@ has-here m p i = go (true-or-false (eqb i p))
     go (inl e) = ap (λ (x : ℕ). has m x && eqb i p) (sym (eqb-true i p e))
     go (inr e) = rw (e) (and-no (has m p) ∙ sym (and-no (has m i)))
 
-pub sees-far : (h : Seen) (p : ℕ) → 63 < p → Sees h p h
-sees-far h p l =
+pub sees-far : (h : Seen) (p n : ℕ) → n ≡ h .count + oneIf (ltb 0 p) → 63 < p → Sees h p (record { once = h .once; twice = h .twice; count = n })
+sees-far h p n c l =
     let none : (i : ℕ) → i < 64 → eqb i p ≡ false = λ i u. ne-eqb i p (λ e. absurd (omega arith)) in
     record {
       once = λ i u. rw (none i u) (sym (or-false (has (h .once) i)));
       twice = λ i u. rw (none i u, and-no (has (h .once) i)) (sym (or-false (has (h .twice) i)));
+      count = c;
     }
 
-pub sees-in : (h g : Seen) (p : ℕ) (t : Bool) → g .once ≡ bitOr (h .once) (2 ^ p) → t ≡ has (h .once) p → g .twice ≡ insertIf t (h .twice) p → Sees h p g
-sees-in h g p t o e w =
+pub sees-in : (h g : Seen) (p : ℕ) (t : Bool) → g .count ≡ h .count + oneIf (ltb 0 p) → g .once ≡ bitOr (h .once) (2 ^ p) → t ≡ has (h .once) p → g .twice ≡ insertIf t (h .twice) p → Sees h p g
+sees-in h g p t c o e w =
     record {
       once = λ i u. ap (λ (m : ℕ). has m i) o ∙ has-insert (h .once) p i;
       twice = λ i u.
           ap (λ (m : ℕ). has m i) w ∙ has-insert-if t (h .twice) p i
           ∙ ap (λ (b : Bool). has (h .twice) i || b) (ap (λ (b : Bool). b && eqb i p) e ∙ has-here (h .once) p i);
+      count = c;
     }
 
 pub seen-more : (P : Pattern) (q p : ℕ) (h g : Seen) → SeenBefore P q h → q < length P → p ≡ position P q → Sees h p g → SeenBefore P (q + 1) g
-seen-more P q p h g s u e m = record { seen = record { once = once₁; twice = twice₁ }; inside = omega arith }
+seen-more P q p h g s u e m =
+    let k : g .count ≡ h .count + oneIf (ltb 0 p) = m .count in
+    let o : oneIf (ltb 0 p) ≤ 1 = one-at-most (ltb 0 p) in
+    let f : h .count ≤ q = s .few in
+    record { seen = record { once = once₁; twice = twice₁; count = count₁ }; inside = omega arith; few = omega arith }
   where
     at : ℕ → PatternRecord → Bool
     at i r = eqb (r .position) i
 
-    more : (i : ℕ) → countOf (at i) (take (q + 1) P) ≡ countOf (at i) (take q P) + (elim (eqb i p) as (λ _. ℕ) [ true ↦ 1 | false ↦ 0 ])
+    more : (i : ℕ) → countOf (at i) (take (q + 1) P) ≡ countOf (at i) (take q P) + oneIf (eqb i p)
     more i = count-more (at i) P noPatternRecord q (eqb i p) u (ap (λ (x : ℕ). eqb x i) (sym e) ∙ eqb-sym p i)
+
+    one-at-most : (t : Bool) → oneIf t ≤ 1
+    one-at-most true = omega arith
+    one-at-most false = omega arith
+
+    count₁ : g .count ≡ arity (take (q + 1) P)
+    count₁ =
+        m .count ∙ ap (λ (n : ℕ). n + oneIf (ltb 0 p)) (s .seen .count)
+        ∙ sym (count-more (λ (r : PatternRecord). ltb 0 (r .position)) P noPatternRecord q (ltb 0 p) u (ap (ltb 0) (sym e)))
 
     once₁ : (i : ℕ) → i < 64 → has (g .once) i ≡ leb 1 (countOf (at i) (take (q + 1) P))
     once₁ i l = m .once i l ∙ ap (λ (t : Bool). t || eqb i p) (s .seen .once i l) ∙ sym (one-more (countOf (at i) (take q P)) (eqb i p)) ∙ sym (ap (leb 1) (more i))

@@ -26,6 +26,17 @@ pub asked-all : 0 ≡ refusal []
 unfolding refusal
 asked-all = refl
 
+-- ---- 7 and 17, asked together
+
+pub two-no : (r n m : ℕ) (s t : Bool) (rest : List Question) → r ≡ refusal (ask n s ∷ ask m t ∷ []) → (r ≡ 0 → ⊥) → r ≡ refusal (ask n s ∷ ask m t ∷ rest)
+two-no r n m s t rest e f = e ∙ sym (refusal-kept (ask n s ∷ ask m t ∷ []) rest (λ z. f (e ∙ z)))
+
+pub two-yes : (r refused : ℕ) (s t : Bool) (rest : List Question) → refused ≡ refusal (ask 7 s ∷ ask 17 t ∷ []) → refused ≡ 0 → r ≡ refusal rest
+    → r ≡ refusal (ask 7 s ∷ ask 17 t ∷ rest)
+two-yes r refused s t rest e z after =
+    let qs : List Question = ask 7 s ∷ ask 17 t ∷ [] in
+    after ∙ sym (refusal-after qs rest (accepted-all-yes qs (omega arith, (omega arith, tt)) (sym e ∙ z)))
+
 -- ---- the case questions
 
 pub case-numbered : (b : List ℕ) → Numbered (caseQuestions b)

@@ -1,13 +1,36 @@
--- What is asked of each pattern: question 4 asks its count, 7 its records, 17 its figures, and 8 its positions, 1 to k.
+-- What is asked of one pattern or of all: question 4 asks a member's count, 7 and 17 the records and figures, and 8 a member's positions,
+-- 1 to k.
+use Prim.Native.Nat.{ℕ}
 use mathlib.Core.Bool.{Bool, _&&_}
+use mathlib.Core.List.{List, [], _∷_}
 use lib.Dec.{eqb}
-use Rattle.model.specs.Pattern.{Pattern, arity}
-use Rattle.model.specs.Questions.{countInRange, patternKept, patternFigures, positionsOnce}
+use Rattle.model.specs.Lists.{allOf}
+use Rattle.model.specs.Pattern.{Pattern, patternFigure, arity}
+use Rattle.model.specs.Bytes.{Case}
+use Rattle.model.specs.Questions.{Question, ask, countInRange, patternRecordKept, patternKept, figureInRange, patternFigures, patternsKept, figuresKept, positionsOnce}
 use Rattle.questions.specs.declared.members.Asked.{Asked}
-use Rattle.questions.specs.declared.members.Asked.the-variants.{Count, Records, Figures, Positions}
+use Rattle.questions.specs.declared.members.Asked.the-variants.{Count, Positions}
 
 abbrev pub askedOf : Asked → Pattern → Bool
 askedOf Count = countInRange
-askedOf Records = patternKept
-askedOf Figures = patternFigures
 askedOf (Positions k) = λ Q. positionsOnce Q && eqb k (arity Q)
+
+-- 7 and 17, in their order
+abbrev pub twoQuestions : Bool → Bool → List Question
+twoQuestions kept figures = ask 7 kept ∷ ask 17 figures ∷ []
+
+-- of record q
+abbrev pub recordQuestions : Pattern → ℕ → List Question
+recordQuestions P q = twoQuestions (patternRecordKept P q) (figureInRange (patternFigure P q))
+
+-- of a pattern
+abbrev pub patternQuestions : Pattern → List Question
+patternQuestions P = twoQuestions (patternKept P) (patternFigures P)
+
+-- of the members
+abbrev pub membersQuestions : List Pattern → List Question
+membersQuestions Qs = twoQuestions (allOf patternKept Qs) (allOf patternFigures Qs)
+
+-- of all patterns of a case
+abbrev pub recordsQuestions : Case → List Question
+recordsQuestions c = twoQuestions (patternsKept c) (figuresKept c)

@@ -4,9 +4,8 @@
 use case::case_whole;
 use case::counts_in_range;
 use case::set_in_range;
-use members::figures_kept;
-use members::patterns_kept;
 use members::positions_kept;
+use members::records_refusal;
 use summary::siblings_differ;
 use summary::summary_kept;
 ghost use mathlib.Core.Path.{_≡_};
@@ -38,11 +37,9 @@ pub fn case_refusal(b: &[u8]) -> u64
     if !siblings_differ(b) {
         return 6;
     }
-    if !patterns_kept(b) {
-        return 7;
-    }
-    if !figures_kept(b) {
-        return 17;
+    let of_records = records_refusal(b);
+    if of_records != 0 {
+        return of_records;
     }
     if !positions_kept(b) {
         return 8;

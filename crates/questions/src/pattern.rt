@@ -3,16 +3,17 @@
 
 ghost use mathlib.Core.Path.{_≡_};
 ghost use mathlib.Core.Bool.{_&&_};
-ghost use Prim.Native.Nat.{_<_};
-ghost use lib.Dec.{eqb};
+ghost use Prim.Native.Nat.{_+_, _<_};
+ghost use lib.Dec.{eqb, ltb};
 ghost use lib.ListN.{length};
 ghost use Rattle.model.specs.Limits.{patternWidth};
 ghost use Rattle.model.specs.Lists.{countOf};
 ghost use Rattle.model.specs.Pattern.{PatternRecord, arity as arityOf};
 ghost use Rattle.model.specs.Bytes.{WholeSection};
-ghost use Rattle.model.specs.Questions.{countInRange, patternRecordKept, patternKept, patternFigures, positionsOnce};
+ghost use Rattle.model.specs.Questions.{countInRange, patternRecordKept, positionsOnce, refusal};
 ghost use Rattle.format.specs.Given.{patternAt};
-ghost use Rattle.questions.specs.Positions.{heldOnce, Sees, SeenIn};
+ghost use Rattle.questions.specs.Members.{recordQuestions, patternQuestions};
+ghost use Rattle.questions.specs.Positions.{oneIf, heldOnce, Sees, SeenIn};
 use crate::rules::between;
 use crate::rules::figure_in_range;
 use crate::rules::flag_rule;
@@ -52,32 +53,38 @@ pub fn pattern_record_kept(b: &[u8], at: usize, q: PatternNode) -> bool
     pattern_position(b, at, q) <= MAX_POSITION
 }
 
-// All records of the pattern do.
-pub fn pattern_kept(b: &[u8], at: usize) -> bool
+// 7 and 17 of record q.
+fn record_refusal(b: &[u8], at: usize, q: PatternNode) -> u64
     requires { ⌜ WholeSection patternWidth (now b) at ⌝ }
-    ensures { λ r. ⌜ r ≡ patternKept (patternAt (now (b .entry)) at) ⌝ }
+    requires { ⌜ q .0 < length (patternAt (now b) at) ⌝ }
+    ensures { λ r. ⌜ r ≡ refusal (recordQuestions (patternAt (now (b .entry)) at) (q .0)) ⌝ }
 {
-    let n = pattern_count(b, at);
-    for q in 0..n {
-        if !pattern_record_kept(b, at, PatternNode(q)) {
-            return false;
-        }
+    if !pattern_record_kept(b, at, q) {
+        return 7;
     }
-    true
+    if !figure_in_range(pattern_figure(b, at, q)) {
+        return 17;
+    }
+    0
 }
 
-// All figures of the pattern are at most 2,000.
-pub fn pattern_figures(b: &[u8], at: usize) -> bool
+// 7 and 17 of the pattern, in one pass over its records: 17 is remembered, since a later record may be refused by 7.
+pub fn pattern_refusal(b: &[u8], at: usize) -> u64
     requires { ⌜ WholeSection patternWidth (now b) at ⌝ }
-    ensures { λ r. ⌜ r ≡ patternFigures (patternAt (now (b .entry)) at) ⌝ }
+    ensures { λ r. ⌜ r ≡ refusal (patternQuestions (patternAt (now (b .entry)) at)) ⌝ }
 {
     let n = pattern_count(b, at);
+    let mut r: u64 = 0;
     for q in 0..n {
-        if !figure_in_range(pattern_figure(b, at, PatternNode(q))) {
-            return false;
+        let x = record_refusal(b, at, PatternNode(q));
+        if x == 7 {
+            return 7;
+        }
+        if x != 0 {
+            r = x;
         }
     }
-    true
+    r
 }
 
 // k, the number of nodes that hold a position.
@@ -112,32 +119,52 @@ pub fn holders(b: &[u8], at: usize, position: usize) -> usize
     k
 }
 
-// The positions below 64 that are held, and those that are held more than once, as masks.
+// The positions below 64 that are held, and those that are held more than once, as masks; and how many nodes hold one at all.
 pub struct Seen {
     pub once: u64,
     pub twice: u64,
+    pub count: usize,
 }
 
-// One more node holds position p.
+// One more where the position is one.
+fn count_in(count: usize, p: usize) -> usize
+    requires { ⌜ count < 65536 ⌝ }
+    ensures { λ r. ⌜ r ≡ count + oneIf (ltb 0 p) ⌝ }
+{
+    if 0 < p { count + 1 } else { count }
+}
+
+// One more node, with position p or, by 0, none.
 fn see(h: Seen, p: usize) -> Seen
+    requires { ⌜ h .count < 65536 ⌝ }
     ensures { λ r. ⌜ Sees h p r ⌝ }
 {
+    let count = count_in(h.count, p);
     if 63 < p {
-        return h;
+        return Seen {
+            once: h.once,
+            twice: h.twice,
+            count,
+        };
     }
     Seen {
         once: insert64(h.once, p),
         twice: insert_if64(h.twice, p, has64(h.once, p)),
+        count,
     }
 }
 
 // What the pattern's nodes hold, in one pass.
 pub fn positions_seen(b: &[u8], at: usize) -> Seen
     requires { ⌜ WholeSection patternWidth (now b) at ⌝ }
-    ensures { λ r. ⌜ SeenIn (patternAt (now (b .entry)) at) r ⌝ }
+    ensures { λ r. ⌜ SeenIn (patternAt (now (b .entry)) at) r × (r .count < 65536) ⌝ }
 {
     let n = pattern_count(b, at);
-    let mut h = Seen { once: 0, twice: 0 };
+    let mut h = Seen {
+        once: 0,
+        twice: 0,
+        count: 0,
+    };
     for q in 0..n {
         h = see(h, pattern_position(b, at, PatternNode(q)));
     }
@@ -158,15 +185,15 @@ fn held_once(b: &[u8], at: usize, h: Seen, p: usize) -> bool
     has64(h.once, p)
 }
 
-// The pattern, whose k is told, has the positions 1 to k once each, k at least 1.
-pub fn positions_once(b: &[u8], at: usize, k: usize) -> bool
-    requires { ⌜ WholeSection patternWidth (now b) at × (k ≡ arityOf (patternAt (now b) at)) × (k < 65536) ⌝ }
+// The pattern, whose nodes hold what is told, has the positions 1 to its own k once each, k at least 1.
+pub fn positions_once(b: &[u8], at: usize, h: Seen) -> bool
+    requires { ⌜ WholeSection patternWidth (now b) at × SeenIn (patternAt (now b) at) h × (h .count < 65536) ⌝ }
     ensures { λ r. ⌜ r ≡ positionsOnce (patternAt (now (b .entry)) at) ⌝ }
 {
+    let k = h.count;
     if k < 1 {
         return false;
     }
-    let h = positions_seen(b, at);
     let end = k + 1;
     for p in 1..end {
         if !held_once(b, at, h, p) {
@@ -181,9 +208,9 @@ pub fn positions_to(b: &[u8], at: usize, k: usize) -> bool
     requires { ⌜ WholeSection patternWidth (now b) at ⌝ }
     ensures { λ r. ⌜ r ≡ (positionsOnce (patternAt (now (b .entry)) at) && eqb k (arityOf (patternAt (now (b .entry)) at))) ⌝ }
 {
-    let own = arity(b, at);
-    if k != own {
+    let h = positions_seen(b, at);
+    if k != h.count {
         return false;
     }
-    positions_once(b, at, own)
+    positions_once(b, at, h)
 }

@@ -1,6 +1,6 @@
 -- `questions::case_refusal` meets its contract: each return comes after the questions before it were answered yes. Assumes nothing.
 use Rattle.model.specs.Questions.{caseQuestions}
-use Rattle.questions.proofs.RefusalLaws.{one-by-one, required, asked-whole, asked-summary}
+use Rattle.questions.proofs.RefusalLaws.{one-by-one, two-no, two-yes, required, asked-whole, asked-summary}
 use Rattle.questions.proofs.case_refusal.Statement.{statement}
 use Rattle.questions.proofs.case_refusal.Tie as tie
 
@@ -20,7 +20,6 @@ case-refusal-spec =
     (λ c κs. search required) (λ c. search one-by-one depth 10)
     (λ c κs. search required) (λ c. search one-by-one depth 10)
     siblings-differ-requires (λ c. search one-by-one depth 10)
-    (λ c κs. search required) (λ c. search one-by-one depth 10)
-    (λ c κs. search required) (λ c. search one-by-one depth 10)
-    (λ c κs. search required) (λ c. search one-by-one depth 10)
-    (λ c. search one-by-one depth 10))
+    (λ c κs. search required) (λ c. search (one-by-one, two-no) depth 10)
+    (λ c κs. search required) (λ c. search (two-yes, one-by-one) depth 10 fits 10000)
+    (λ c. search (two-yes, one-by-one) depth 10 fits 10000))

@@ -7,16 +7,8 @@ returns : tie.Need-returns
 returns c = rw (c .before .enum-told .given .1) (c .count-in-range .ensures)
 
 returns-2 : tie.Need-returns-2
-returns-2 c = rw (c .before .enum-told2 .given .1) (c .pattern-kept .ensures)
-
-returns-3 : tie.Need-returns-3
-returns-3 c = rw (c .before .enum-told3 .given .1) (c .pattern-figures .ensures)
-
-returns-4 : tie.Need-returns-4
-returns-4 c = rw (c .before .before .w .given .1) (c .positions-to .ensures)
+returns-2 c = rw (c .before .before .w .given .1) (c .positions-to .ensures)
 
 pub member-kept-spec : {M : Type 1} → statement M
 member-kept-spec =
-    tie.close
-    (tie.spec (λ c. search needs) (λ c κs. search needs) (λ c. search needs) (λ c κs. search needs) (λ c. search needs) (λ c κs. search needs)
-    (λ c. search needs) (λ c κs. search needs) returns returns-2 returns-3 returns-4)
+    tie.close (tie.spec (λ c. search needs) (λ c κs. search needs) (λ c. search needs) (λ c κs. search needs) returns returns-2)

@@ -9,16 +9,16 @@ use Rattle.questions.proofs.pattern.positions_once.Statement.{statement
 use Rattle.questions.proofs.pattern.positions_once.Tie as tie
 
 abbrev Inv-loop : tie.InvT-loop
-Inv-loop b at k h end p₀ p = Passed (heldOnce (patternAt b at)) 1 p
+Inv-loop b at h k end p₀ p = Passed (heldOnce (patternAt b at)) 1 p
 
 abbrev μ-loop : tie.MeasureT-loop
-μ-loop b at k h end p₀ p = end - p
+μ-loop b at h k end p₀ p = end - p
 
 pub positions-once-spec : {M : Type 1} → statement M
 positions-once-spec =
     tie.close
     (tie.spec Inv-loop μ-loop
-    (λ c. search once) (λ c κs. search once)
+    (λ c. search once)
     (λ c. search once) (λ c. search once)
     (λ c κs. search once) (λ c. search once)
     (λ c. search once) (λ c. search once) (λ c. search once)

@@ -17,6 +17,6 @@ positions-seen-spec =
     tie.close
     (tie.spec Inv-loop μ-loop
     (λ c κs. search seen) (λ c. seen-none _)
-    (λ c κs. search seen) (λ c κs. search seen) (λ c. search seen) (λ c. search seen)
+    (λ c κs. search seen) (λ c κs. let f = c .before .before .loop .inv .few in omega arith) (λ c. search seen) (λ c. search seen)
     (λ c. seen-more _ _ _ _ _ (c .before .before .before .loop .inv) (omega arith) (c .before .pattern-position .ensures .0) (c .see .ensures))
-    (λ c. seen-all _ _ _ (c .before .loop .inv) (omega arith)))
+    (λ c. (seen-all _ _ _ (c .before .loop .inv) (omega arith), (let f = c .before .loop .inv .few in omega arith))))

@@ -7,5 +7,5 @@ use Rattle.questions.proofs.pattern.positions_to.Tie as tie
 pub positions-to-spec : {M : Type 1} → statement M
 positions-to-spec =
     tie.close
-    (tie.spec (λ c κs. search needs) (λ c. other-k _ _ _ (c .before .arity .ensures .0) (c .if1 .taken))
-    (λ c κs. search needs) (λ c. same-k _ _ _ (c .before .before .arity .ensures .0) _ (c .before .if1 .left) (c .positions-once .ensures)))
+    (tie.spec (λ c κs. search needs) (λ c. other-k _ _ _ (c .before .before .positions-seen .ensures .0 .count) (c .if1 .taken))
+    (λ c κs. search needs) (λ c. same-k _ _ _ (c .before .before .before .positions-seen .ensures .0 .count) _ (c .before .if1 .left) (c .positions-once .ensures)))

@@ -1,0 +1,20 @@
+-- `questions::pattern::count_in` meets its contract. Assumes nothing.
+use Prim.Native.Nat.{ℕ, _+_}
+use mathlib.Core.Path.{_≡_, refl}
+use mathlib.Core.Bool.{true, false}
+use lib.Dec.{ltb}
+use native.Mathlib.Omega.{arith}
+use borrow.Author.Needs.{needs}
+use borrow.Author.Tests.{lt-ltb, le-ltb}
+use Rattle.questions.specs.Positions.{oneIf}
+use Rattle.questions.proofs.pattern.count_in.Statement.{statement}
+use Rattle.questions.proofs.pattern.count_in.Tie as tie
+
+returns : tie.Need-returns
+returns c = rw (lt-ltb _ _ (c .if1 .taken)) refl
+
+returns-2 : tie.Need-returns-2
+returns-2 c = rw (le-ltb _ _ (c .if1 .left)) (omega arith)
+
+pub count-in-spec : {M : Type 1} → statement M
+count-in-spec = tie.close (tie.spec (λ c. search needs) returns returns-2)
