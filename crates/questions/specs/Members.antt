@@ -15,22 +15,22 @@ abbrev pub askedOf : Asked → Pattern → Bool
 askedOf Count = countInRange
 askedOf (Positions k) = λ Q. positionsOnce Q && eqb k (arity Q)
 
--- 7 and 17, in their order
-abbrev pub twoQuestions : Bool → Bool → List Question
-twoQuestions kept figures = ask 7 kept ∷ ask 17 figures ∷ []
+-- question n on records, 7 of a pattern's and 10 of a document's, and 17 right after it
+abbrev pub twoQuestions : ℕ → Bool → Bool → List Question
+twoQuestions n kept figures = ask n kept ∷ ask 17 figures ∷ []
 
--- of record q
+-- 7 and 17 of record q
 abbrev pub recordQuestions : Pattern → ℕ → List Question
-recordQuestions P q = twoQuestions (patternRecordKept P q) (figureInRange (patternFigure P q))
+recordQuestions P q = twoQuestions 7 (patternRecordKept P q) (figureInRange (patternFigure P q))
 
 -- of a pattern
 abbrev pub patternQuestions : Pattern → List Question
-patternQuestions P = twoQuestions (patternKept P) (patternFigures P)
+patternQuestions P = twoQuestions 7 (patternKept P) (patternFigures P)
 
 -- of the members
 abbrev pub membersQuestions : List Pattern → List Question
-membersQuestions Qs = twoQuestions (allOf patternKept Qs) (allOf patternFigures Qs)
+membersQuestions Qs = twoQuestions 7 (allOf patternKept Qs) (allOf patternFigures Qs)
 
 -- of all patterns of a case
 abbrev pub recordsQuestions : Case → List Question
-recordsQuestions c = twoQuestions (patternsKept c) (figuresKept c)
+recordsQuestions c = twoQuestions 7 (patternsKept c) (figuresKept c)

@@ -1,5 +1,4 @@
 pub mod NumberedLaws
 pub mod DocumentLaws
-pub mod RecordsLaws
 pub mod AcceptedLaws
 pub mod EmbeddingLaws

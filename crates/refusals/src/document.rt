@@ -4,10 +4,9 @@ ghost use mathlib.Core.Path.{_≡_};
 ghost use Prim.Native.Nat.{_<_};
 ghost use lib.ListN.{length};
 ghost use Rattle.model.specs.Limits.{documentWidth};
-ghost use Rattle.model.specs.Tree.{figureOf};
 ghost use Rattle.model.specs.Bytes.{documentOf, isWholeDocument, WholeSection};
-ghost use Rattle.model.specs.Questions.{documentRecordKept, figureInRange, refusal, documentQuestions};
-ghost use Rattle.refusals.specs.Records.{recordsQuestions};
+ghost use Rattle.model.specs.Questions.{documentRecordKept, refusal, documentQuestions};
+ghost use Rattle.refusals.specs.Records.{recordQuestions, recordsQuestions};
 use format::document::document_count;
 use format::document::document_figure;
 use format::document::document_label;
@@ -44,16 +43,22 @@ pub fn document_record_kept(w: &[u8], i: DocumentNode) -> bool
     0 < document_label(w, i)
 }
 
-// Its figure is at most 2,000.
-fn document_figure_kept(w: &[u8], i: DocumentNode) -> bool
+// 10 and 17 of record i.
+fn record_refusal(w: &[u8], i: DocumentNode) -> u64
     requires { ⌜ WholeSection documentWidth (now w) 0 ⌝ }
     requires { ⌜ i .0 < length (documentOf (now w)) ⌝ }
-    ensures { λ r. ⌜ r ≡ figureInRange (figureOf (documentOf (now (w .entry))) (i .0)) ⌝ }
+    ensures { λ r. ⌜ r ≡ refusal (recordQuestions (documentOf (now (w .entry))) (i .0)) ⌝ }
 {
-    figure_in_range(wide(document_figure(w, i)))
+    if !document_record_kept(w, i) {
+        return 10;
+    }
+    if !figure_in_range(wide(document_figure(w, i))) {
+        return 17;
+    }
+    0
 }
 
-// 10 and 17 of the records, in one pass: a figure that is too great is remembered, since a later record may be refused by 10.
+// 10 and 17 of the records, in one pass: 17 is remembered, since a later record may be refused by 10.
 fn records_refusal(w: &[u8]) -> u64
     requires { ⌜ WholeSection documentWidth (now w) 0 ⌝ }
     ensures { λ r. ⌜ r ≡ refusal (recordsQuestions (documentOf (now (w .entry)))) ⌝ }
@@ -61,11 +66,12 @@ fn records_refusal(w: &[u8]) -> u64
     let n = document_count(w);
     let mut r: u64 = 0;
     for i in 0..n {
-        if !document_record_kept(w, DocumentNode(i)) {
+        let x = record_refusal(w, DocumentNode(i));
+        if x == 10 {
             return 10;
         }
-        if !document_figure_kept(w, DocumentNode(i)) {
-            r = 17;
+        if x != 0 {
+            r = x;
         }
     }
     r

@@ -22,9 +22,10 @@ unfolding patternKept patternFigures
 pattern-refusal-spec =
     tie.close
     (tie.spec Inv-loop μ-loop
-    (λ c κs. search kept) (λ c. remembered-none _ _ _)
-    (λ c κs. search kept) (λ c. remembered-stop _ _ _ _ _ (omega arith) (c .before .record-refusal .ensures) (c .if1 .taken))
+    (λ c κs. search kept) (λ c. remembered-none 7 (omega arith) (omega arith) _ _ _)
+    (λ c κs. search kept)
+    (λ c. remembered-stop 7 (omega arith) (omega arith) _ _ _ _ 0 _ (omega arith) (c .before .record-refusal .ensures) (c .if1 .taken))
     (λ c. search kept) (λ c. search kept)
-    (λ c. remembered-more _ _ _ _ _ _ _ (c .before .before .before .before .loop .inv) (omega arith) (c .before .before .record-refusal .ensures) (c .before .if1 .left) (c .if2 .came)
-    (λ w. w .taken) (λ w. w .left))
-    (λ c. remembered-end _ _ _ _ _ (c .before .loop .inv) (omega arith)))
+    (λ c. remembered-more 7 (omega arith) (omega arith) _ _ _ _ _ _ (omega arith) (c .before .before .record-refusal .ensures) _ (c .before .before .before .before .loop .inv)
+    (c .before .if1 .left) (c .if2 .came) (λ w. w .taken) (λ w. w .left))
+    (λ c. remembered-end 7 (omega arith) (omega arith) _ _ _ _ _ (c .before .loop .inv) (omega arith)))
