@@ -1,7 +1,7 @@
 -- Laws of tests on numbers and of their conjunctions. Assumes nothing.
 use Prim.Native.Nat.{ℕ, zero, suc, _+_, _-_, _≤_, _<_}
 use mathlib.Core.Path.{_≡_, refl, sym, ap, ap₂, _∙_}
-use mathlib.Core.Bool.{Bool, true, false, _&&_, not}
+use mathlib.Core.Bool.{Bool, true, false, _&&_, not, and-true}
 use native.Mathlib.Omega.{arith}
 use lib.Dec.{leb, ltb, eqb}
 use borrow.Author.Needs.{needs}
@@ -43,6 +43,15 @@ pub and-yes-left : (r a b : Bool) → true ≡ a → r ≡ b → r ≡ (a && b)
 and-yes-left r a b e g = g ∙ ap (λ (t : Bool). t && b) e
 
 pub ruleset joined = (needs, told-no, told-yes, and-no-left, and-yes-left)
+
+-- the same, asked from the last on: `search rejoined`
+pub and-no-right : (a b : Bool) → false ≡ b → false ≡ (a && b)
+and-no-right a b e = sym (ap (λ (t : Bool). a && t) (sym e) ∙ and-no a)
+
+pub and-yes-right : (r a b : Bool) → true ≡ b → r ≡ a → r ≡ (a && b)
+and-yes-right r a b e g = g ∙ sym (ap (λ (t : Bool). a && t) (sym e) ∙ and-true a)
+
+pub ruleset rejoined = (needs, and-no-left, and-no-right, and-yes-right)
 
 -- a rule of one number, asked of what was read of it
 pub tested : (rule : ℕ → Bool) (x v : ℕ) (answer : Bool) → answer ≡ rule x → x ≡ v → answer ≡ rule v

@@ -46,19 +46,19 @@ pub fn summary_kept(b: &[u8]) -> bool
     true
 }
 
-// Siblings i and j, neither of them the root, have one label.
+// Siblings i and j, neither of them the root, have one label. Labels are compared first: few are equal, and many parents.
 pub fn alike(b: &[u8], i: SummaryNode, j: SummaryNode) -> bool
     requires { ⌜ WholeSection summaryWidth (now b) 0 ⌝ }
     requires { ⌜ (i .0 < length (summaryIn (now b))) × (j .0 < length (summaryIn (now b))) ⌝ }
     ensures { λ r. ⌜ r ≡ areAlike (summaryIn (now (b .entry))) (i .0) (j .0) ⌝ }
 {
-    if i.0 == 0 {
+    if summary_label(b, i) != summary_label(b, j) {
         return false;
     }
     if summary_parent(b, i).0 != summary_parent(b, j).0 {
         return false;
     }
-    summary_label(b, i) == summary_label(b, j)
+    0 < i.0
 }
 
 // No node before j is its sibling with its label. Siblings stand after their parent, so nodes before it need not be looked at.

@@ -1,8 +1,7 @@
--- `questions::summary::alike` meets its contract: the three comparisons are the definition's. Assumes nothing.
+-- `questions::summary::alike` meets its contract: the three comparisons are the definition's, from the last on. Assumes nothing.
 use borrow.Author.Needs.{needs}
-use lib.Dec.{eqb}
 use Rattle.model.specs.Questions.{alike}
-use Rattle.questions.proofs.TestLaws.{joined, compared, ruled-same}
+use Rattle.questions.proofs.TestLaws.{rejoined, compared}
 use Rattle.questions.proofs.summary.alike.Statement.{statement}
 use Rattle.questions.proofs.summary.alike.Tie as tie
 
@@ -11,8 +10,8 @@ unfolding alike
 alike-spec =
     tie.close
     (tie.spec
-    (λ c. search (joined, compared))
     (λ c κs. search needs) (λ c κs. search needs)
-    (λ c. search (joined, compared))
+    (λ c. search (rejoined, compared))
     (λ c κs. search needs) (λ c κs. search needs)
-    (λ c. search (joined, compared, ruled-same eqb)))
+    (λ c. search (rejoined, compared))
+    (λ c. search (rejoined, compared)))
