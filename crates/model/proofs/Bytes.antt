@@ -17,7 +17,7 @@ use Rattle.model.specs.Limits.{maxCaseBytes, summaryWidth, patternWidth,
 use Rattle.model.specs.Tree.{Document, noDocumentRecord}
 use Rattle.model.specs.Summary.{Summary, noSummaryRecord}
 use Rattle.model.specs.Pattern.{Pattern, noPatternRecord}
-use Rattle.model.specs.Bytes.{field, fieldBytes, bytesOf, fieldsAt, countedAt, recordsAt, summaryRecordAt, patternRecordAt, documentRecordAt, section, sectionEnd, memberAt, setEnd, setOf, firstAt, setAt, caseEnd, Case, caseOf, WholeSection, WholeSet, WholeCase, isWholeCase, Decoded, tables, notWhole, decodeCase, documentOf, isWholeDocument, decodeDocument, listOf, summaryFields, patternFields, documentFields, sectionFields, setFields, caseFields, encodeCase, encodeDocument, encodeList, writtenAtFront}
+use Rattle.model.specs.Bytes.{field, fieldBytes, bytesOf, fieldsAt, countedAt, recordsAt, summaryRecordAt, patternRecordAt, documentRecordAt, section, sectionEnd, memberAt, setEnd, setOf, firstAt, setAt, caseEnd, Case, caseOf, WholeSet, WholeCase, isWholeCase, Decoded, tables, notWhole, decodeCase, documentOf, isWholeDocument, decodeDocument, listOf, summaryFields, patternFields, documentFields, sectionFields, setFields, caseFields, encodeCase, encodeDocument, encodeList, writtenAtFront}
 use Rattle.model.specs.OldForm.{oldWidth, oldRecordFields, oldRecordAt}
 use Rattle.model.proofs.ListLaws.{and-intro, and-left, and-right}
 

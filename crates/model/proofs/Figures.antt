@@ -1,7 +1,7 @@
 -- Figures of a canonical document: an own node has its pattern node's least figure, every other node 0. So the least figures of the pattern
 -- fit at its own nodes, and along a map that takes own nodes to images whose figures fit, figures do not fall. Assumes nothing.
 use Prim.Native.Nat.{ℕ, _≤_, _<_}
-use mathlib.Core.Path.{_≡_, refl, sym, ap, _∙_, subst}
+use mathlib.Core.Path.{_≡_, refl, sym, ap, _∙_}
 use mathlib.Core.Bool.{Bool, true, false}
 use mathlib.Core.Logic.{_⊎_, inl, inr}
 use mathlib.Core.List.{List}

@@ -11,7 +11,7 @@ use lib.Seq.{sets}
 use Rattle.model.specs.Limits.{summaryWidth, patternWidth}
 use Rattle.model.specs.Pattern.{Pattern}
 use Rattle.model.specs.Bytes.{field, fieldBytes, bytesOf, fieldsAt, section, summaryRecordAt, summaryFields, sectionFields, firstAt, setAt, setOf, memberAt, caseOf, caseFields, encodeCase, isWholeCase, WholeSection}
-use Rattle.model.specs.OldForm.{oldWidth, oldRecordAt, oldRecordFields, newPattern, oldPattern, secondAt, oldEnd, oldCaseOf, oldFields, encodeOldCase, oneOf, oldOf, oldWhole}
+use Rattle.model.specs.OldForm.{oldWidth, oldRecordAt, oldRecordFields, newPattern, oldPattern, secondAt, oldCaseOf, oldFields, encodeOldCase, oneOf, oldOf, oldWhole}
 use Rattle.model.specs.Moving.{goesBack, upgraded, downgraded}
 use Rattle.model.proofs.Bytes.{length-bytes, whole-case, member-first}
 use Rattle.model.proofs.WriteBack.{summary-again, old-whole-facts, one-fields}

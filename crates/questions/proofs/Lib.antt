@@ -5,5 +5,6 @@ pub mod MemberLaws
 pub mod CaseLaws
 pub mod SummaryLaws
 pub mod PatternLaws
+pub mod PositionLaws
 pub mod RecordLaws
 pub mod RefusalLaws

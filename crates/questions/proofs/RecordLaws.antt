@@ -7,7 +7,6 @@ use mathlib.Core.Logic.{_⊎_, inl, inr}
 use mathlib.Core.List.{List}
 use native.Mathlib.Omega.{arith}
 use lib.ListN.{length}
-use borrow.Author.Needs.{needs}
 use Rattle.model.specs.Limits.{patternWidth}
 use Rattle.model.specs.Lists.{upFrom, allOf}
 use Rattle.model.specs.Bytes.{field, sectionEnd, memberAt, firstAt, setAt, setOf, caseOf, WholeSection, WholeSet}

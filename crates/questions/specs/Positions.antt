@@ -5,7 +5,7 @@ use mathlib.Core.Bool.{Bool, true, false, _&&_, _||_}
 use lib.Dec.{eqb, leb, ltb}
 use Rattle.model.specs.Lists.{has, countOf}
 use Rattle.model.specs.Pattern.{PatternRecord, Pattern, arity}
-use Rattle.questions.specs.declared.pattern.Seen.{Seen}
+use Rattle.questions.specs.declared.positions.Seen.{Seen}
 
 -- how many nodes hold position p
 abbrev pub holdersOf : Pattern → ℕ → ℕ

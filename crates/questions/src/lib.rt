@@ -15,6 +15,7 @@ pub mod case;
 pub mod members;
 pub mod numbers;
 pub mod pattern;
+pub mod positions;
 pub mod rules;
 pub mod summary;
 

@@ -1,6 +1,5 @@
 -- `judging::rows::summary_rows` meets its contract: each row is the definition's. Assumes nothing.
-use Prim.Native.Nat.{ℕ}
-use mathlib.Core.List.{List, [], _∷_}
+use mathlib.Core.List.{[], _∷_}
 use borrow.Author.Needs.{needs}
 use Rattle.judging.proofs.rows.summary_rows.Statement.{statement}
 use Rattle.judging.proofs.rows.summary_rows.Tie as tie

@@ -1,12 +1,12 @@
--- `questions::pattern::held_once` meets its contract: by the masks, or counted. Assumes nothing.
+-- `questions::positions::held_once` meets its contract: by the masks, or counted. Assumes nothing.
 use Prim.Native.Nat.{ℕ}
 use mathlib.Core.Path.{_∙_, sym, ap}
 use native.Mathlib.Omega.{arith}
 use lib.Dec.{eqb}
 use borrow.Author.Needs.{needs}
-use Rattle.questions.proofs.PatternLaws.{held-twice, held-by-mask}
-use Rattle.questions.proofs.pattern.held_once.Statement.{statement}
-use Rattle.questions.proofs.pattern.held_once.Tie as tie
+use Rattle.questions.proofs.PositionLaws.{held-twice, held-by-mask}
+use Rattle.questions.proofs.positions.held_once.Statement.{statement}
+use Rattle.questions.proofs.positions.held_once.Tie as tie
 
 returns : tie.Need-returns
 returns c = ap (λ (n : ℕ). eqb n 1) (c .holders .ensures)

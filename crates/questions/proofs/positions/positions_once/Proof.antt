@@ -1,12 +1,12 @@
--- `questions::pattern::positions_once` meets its contract. The loop's invariant: each position from 1 on, below p, is held once.
+-- `questions::positions::positions_once` meets its contract. The loop's invariant: each position from 1 on, below p, is held once.
 -- Assumes nothing.
 use Prim.Native.Nat.{_-_}
 use Rattle.format.specs.Given.{patternAt}
 use Rattle.questions.proofs.LoopLaws.{Passed}
 use Rattle.questions.specs.Positions.{heldOnce}
-use Rattle.questions.proofs.PatternLaws.{once}
-use Rattle.questions.proofs.pattern.positions_once.Statement.{statement}
-use Rattle.questions.proofs.pattern.positions_once.Tie as tie
+use Rattle.questions.proofs.PositionLaws.{once}
+use Rattle.questions.proofs.positions.positions_once.Statement.{statement}
+use Rattle.questions.proofs.positions.positions_once.Tie as tie
 
 abbrev Inv-loop : tie.InvT-loop
 Inv-loop b at h k end p₀ p = Passed (heldOnce (patternAt b at)) 1 p

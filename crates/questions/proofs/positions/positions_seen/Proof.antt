@@ -1,10 +1,10 @@
--- `questions::pattern::positions_seen` meets its contract. The loop's invariant: the masks are those of the first q nodes. Assumes nothing.
+-- `questions::positions::positions_seen` meets its contract. The loop's invariant: the masks are those of the first q nodes. Assumes nothing.
 use Prim.Native.Nat.{_-_}
 use native.Mathlib.Omega.{arith}
 use Rattle.format.specs.Given.{patternAt}
-use Rattle.questions.proofs.PatternLaws.{SeenBefore, seen, seen-none, seen-more, seen-all}
-use Rattle.questions.proofs.pattern.positions_seen.Statement.{statement}
-use Rattle.questions.proofs.pattern.positions_seen.Tie as tie
+use Rattle.questions.proofs.PositionLaws.{SeenBefore, seen, seen-none, seen-more, seen-all}
+use Rattle.questions.proofs.positions.positions_seen.Statement.{statement}
+use Rattle.questions.proofs.positions.positions_seen.Tie as tie
 
 abbrev Inv-loop : tie.InvT-loop
 Inv-loop b at n h₀ q₀ h q = SeenBefore (patternAt b at) q h

@@ -1,4 +1,4 @@
--- `questions::pattern::holders` meets its contract. The loop's invariant: k of the first q nodes hold the position. Assumes nothing.
+-- `questions::positions::holders` meets its contract. The loop's invariant: k of the first q nodes hold the position. Assumes nothing.
 use Prim.Native.Nat.{_-_}
 use native.Mathlib.Omega.{arith}
 use borrow.Author.Tests.{eq-eqb, ne-eqb}
@@ -6,8 +6,8 @@ use lib.Dec.{eqb}
 use Rattle.model.specs.Pattern.{PatternRecord, noPatternRecord}
 use Rattle.format.specs.Given.{patternAt}
 use Rattle.questions.proofs.LoopLaws.{Counted, kept, counted-none, counted-more, counted-all}
-use Rattle.questions.proofs.pattern.holders.Statement.{statement}
-use Rattle.questions.proofs.pattern.holders.Tie as tie
+use Rattle.questions.proofs.positions.holders.Statement.{statement}
+use Rattle.questions.proofs.positions.holders.Tie as tie
 
 abbrev Inv-loop : tie.InvT-loop
 Inv-loop b at position n k₀ q₀ k q = Counted (λ (r : PatternRecord). eqb (r .position) position) (patternAt b at) q k

@@ -1,14 +1,11 @@
--- `questions::pattern::count_in` meets its contract. Assumes nothing.
-use Prim.Native.Nat.{ℕ, _+_}
-use mathlib.Core.Path.{_≡_, refl}
-use mathlib.Core.Bool.{true, false}
+-- `questions::positions::count_in` meets its contract. Assumes nothing.
+use mathlib.Core.Path.{refl}
 use lib.Dec.{ltb}
 use native.Mathlib.Omega.{arith}
 use borrow.Author.Needs.{needs}
 use borrow.Author.Tests.{lt-ltb, le-ltb}
-use Rattle.questions.specs.Positions.{oneIf}
-use Rattle.questions.proofs.pattern.count_in.Statement.{statement}
-use Rattle.questions.proofs.pattern.count_in.Tie as tie
+use Rattle.questions.proofs.positions.count_in.Statement.{statement}
+use Rattle.questions.proofs.positions.count_in.Tie as tie
 
 returns : tie.Need-returns
 returns c = rw (lt-ltb _ _ (c .if1 .taken)) refl

@@ -1,8 +1,8 @@
--- `questions::pattern::positions_to` meets its contract: its own k is another, or the same. Assumes nothing.
+-- `questions::positions::positions_to` meets its contract: its own k is another, or the same. Assumes nothing.
 use borrow.Author.Needs.{needs}
-use Rattle.questions.proofs.PatternLaws.{other-k, same-k}
-use Rattle.questions.proofs.pattern.positions_to.Statement.{statement}
-use Rattle.questions.proofs.pattern.positions_to.Tie as tie
+use Rattle.questions.proofs.PositionLaws.{other-k, same-k}
+use Rattle.questions.proofs.positions.positions_to.Statement.{statement}
+use Rattle.questions.proofs.positions.positions_to.Tie as tie
 
 pub positions-to-spec : {M : Type 1} → statement M
 positions-to-spec =

@@ -1,8 +1,8 @@
--- `questions::pattern::see` meets its contract: a position that the masks have no room for leaves them as they are. Assumes nothing.
+-- `questions::positions::see` meets its contract: a position that the masks have no room for leaves them as they are. Assumes nothing.
 use borrow.Author.Needs.{needs}
-use Rattle.questions.proofs.PatternLaws.{sees-far, sees-in}
-use Rattle.questions.proofs.pattern.see.Statement.{statement}
-use Rattle.questions.proofs.pattern.see.Tie as tie
+use Rattle.questions.proofs.PositionLaws.{sees-far, sees-in}
+use Rattle.questions.proofs.positions.see.Statement.{statement}
+use Rattle.questions.proofs.positions.see.Tie as tie
 
 pub see-spec : {M : Type 1} → statement M
 see-spec =
