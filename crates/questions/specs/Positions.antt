@@ -15,6 +15,7 @@ holdersOf P p = countOf (λ (r : PatternRecord). eqb (r .position) p) P
 abbrev pub heldOnce : Pattern → ℕ → Bool
 heldOnce P p = eqb (holdersOf P p) 1
 
+-- 1 where it is so, and else 0
 abbrev pub oneIf : Bool → ℕ
 oneIf t = elim t [ true ↦ 1 | false ↦ 0 ]
 

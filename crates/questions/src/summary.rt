@@ -46,7 +46,7 @@ pub fn summary_kept(b: &[u8]) -> bool
     true
 }
 
-// Siblings i and j, neither of them the root, have one label. Labels are compared first: few are equal, and many parents.
+// Siblings i and j, neither of them the root, have one label. Labels are compared first: few are equal, and many parents are.
 pub fn alike(b: &[u8], i: SummaryNode, j: SummaryNode) -> bool
     requires { ⌜ WholeSection summaryWidth (now b) 0 ⌝ }
     requires { ⌜ (i .0 < length (summaryIn (now b))) × (j .0 < length (summaryIn (now b))) ⌝ }
