@@ -1,4 +1,5 @@
 // Sets over all members' nodes that are offered however open nodes are placed: their lists and table, and whether all completions pass.
+#![tactic(auto)]
 
 mod entry;
 mod join;

@@ -1,5 +1,6 @@
 // Sets of small numbers as masks: bit i of a mask says whether i is in the set. 16 bits hold a set of pattern nodes, 64 bits
 // one of summary nodes. A union is `a | b`, an intersection `a & b`.
+#![tactic(auto)]
 
 ghost use Rattle.std.specs.Prelude.{◌≡◌, ◌-◌, ◌^◌, ◌≤◌, ◌<◌, eqb};
 ghost use Rattle.std.specs.Int.Bits.{bit_and, bit_or};

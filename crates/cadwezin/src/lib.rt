@@ -1,5 +1,6 @@
 // The calls, for C and Rust to link: each is exported under its own name. A slice passes as a pointer and a length, a lent struct as a
 // pointer. Any bytes, any numbers and buffers and tables of any length may be given; where a call is refused nothing is altered.
+#![tactic(auto)]
 
 pub mod minimise;
 

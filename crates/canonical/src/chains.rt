@@ -5,7 +5,7 @@ ghost use Rattle.model.specs.Lists.{members};
 ghost use Rattle.model.specs.Tree.{AtOrBelow};
 ghost use Rattle.model.specs.Summary.{as_document};
 ghost use Rattle.model.specs.Bytes.{written_at_front};
-ghost use Rattle.model.specs.Canonical.{chain, chains as chainsOf};
+ghost use Rattle.model.specs.Canonical.{chain, chains as chains_of};
 ghost use Rattle.format.specs.Given.{summary_in, pattern_at, SummaryGiven};
 ghost use Rattle.canonical.specs.Draft.{draft, Roomy, Drafted};
 ghost use Rattle.canonical.specs.Given.{embedding_in, Embedded, Hanging, Hung};
@@ -88,10 +88,10 @@ pub fn chains(
 ) -> LaidOut
     requires { Embedded case.now at images.now × Roomy (draft answer.old on.old kids.old) }
     ensures nodes { Drafted (summary_in case.now)
-        (chainsOf (summary_in case.now) (pattern_at case.now at) (embedding_in case.now at images.now)).spots
+        (chains_of (summary_in case.now) (pattern_at case.now at) (embedding_in case.now at images.now)).spots
         (draft answer.old on.old kids.old) (draft answer.new on.new kids.new) result.count }
     ensures own { result.own ≡ written_at_front
-        (chainsOf (summary_in case.now) (pattern_at case.now at) (embedding_in case.now at images.now)).own
+        (chains_of (summary_in case.now) (pattern_at case.now at) (embedding_in case.now at images.now)).own
         (replicate 16 0) }
 {
     let mut own = [0u16; 16];

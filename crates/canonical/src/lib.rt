@@ -1,4 +1,5 @@
 // The layout of a canonical document (document 01: trial volume), phase by phase, and what "not included" shows of it.
+#![tactic(auto)]
 
 ghost use Rattle.std.specs.Prelude.{◌≡◌, ℕ, ◌+◌, ◌≤◌, ◌<◌, length, replicate};
 ghost use Rattle.model.specs.Limits.{pattern_width, max_position, min_buffer, min_table};

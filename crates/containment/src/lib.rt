@@ -1,4 +1,5 @@
 // Embeddings of the first pattern into the summary (document 01: placements), stepped and judged by masks, nothing laid out.
+#![tactic(auto)]
 
 mod skip;
 mod steps;

@@ -1,4 +1,5 @@
 // The verdict call over plain forms: a case's bytes, a limit, the caller and its tally by value, and a lent answer buffer.
+#![tactic(auto)]
 
 ghost use Rattle.std.specs.Prelude.{◌≡◌, ◌≤◌, length};
 ghost use Rattle.model.specs.Limits.{max_limit, min_buffer};

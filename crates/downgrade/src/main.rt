@@ -1,6 +1,7 @@
 // The program `downgrade`: a case with a set of one from standard input, the old case on standard output; or a refusal on standard
 // error. What it writes, and to which stream, is `filing::downgrade_told`; here is writing alone. A failed read or write is told on standard
 // error: a program here has no exit status.
+#![tactic(auto)]
 
 use filing::downgrade_told;
 use streams::read_all;

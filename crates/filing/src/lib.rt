@@ -1,4 +1,5 @@
 // What the programs that write a case write: the written case's bytes, or a refusal's line, at the front of a lent array.
+#![tactic(auto)]
 
 ghost use Rattle.std.specs.Prelude.{◌≤◌, ◌<◌, length};
 ghost use Rattle.model.specs.Text.{upgrade_told, downgrade_told, normalise_told};

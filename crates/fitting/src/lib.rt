@@ -1,5 +1,6 @@
 // The test of fitting over bytes: one pass gives each document node its summary node and stops where there is none, then the strong
 // edges are tested with masks. Nodes × 64 steps.
+#![tactic(auto)]
 
 mod edges;
 mod paths;

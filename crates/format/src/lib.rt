@@ -1,5 +1,6 @@
 // Bytes in and out. Given data stay bytes: 16-bit fields, and the records of a summary, a pattern, a document and a tree that may be
 // either; lists; the writers.
+#![tactic(auto)]
 
 pub mod document;
 pub mod field;

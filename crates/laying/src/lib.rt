@@ -1,3 +1,4 @@
 // The call "lay out a trial".
+#![tactic(auto)]
 
 pub mod laid;

@@ -1,4 +1,5 @@
 // What the program that strikes prints of a case: the whole text at the front of a lent array.
+#![tactic(auto)]
 
 ghost use Rattle.std.specs.Prelude.{◌≡◌};
 ghost use Rattle.model.specs.Text.{order_printed};

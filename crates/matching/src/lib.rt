@@ -1,4 +1,5 @@
 // Matching tables: which pattern nodes stand at which node of a tree. The tree is a document or a summary read as one.
+#![tactic(auto)]
 
 pub mod masks;
 pub mod outcomes;

@@ -1,6 +1,7 @@
 // The program `minimise`: a case from standard input, its first selection without what the outline grants on standard output. What it
 // prints is `listing::order_text`; here is writing alone. A failed read or write is told on standard error: a program here has no exit
 // status.
+#![tactic(auto)]
 
 use listing::order_text;
 use streams::read_all;

@@ -31,7 +31,7 @@ pub data Way (D : Document) (b : ℕ) : ℕ → List ℕ → Type 0 where
   step : {a x : ℕ} {xs : List ℕ} → Child D a x → Way D b x xs → Way D b a (x ∷ xs)
 
 -- a way goes on below where another ends
-pub way-append : {D : Document} {a b c : ℕ} {xs ys : List ℕ} → Way D b a xs → Way D c b ys → Way D c a (xs ++ ys)
+pub way-append : {D : Document} {b a c : ℕ} {xs ys : List ℕ} → Way D b a xs → Way D c b ys → Way D c a (xs ++ ys)
 way-append {D} {c = c} {ys = ys} (end p) w = subst (λ (x : ℕ). Way D c x ys) (sym p) w
 way-append (step k v) w = step k (way-append v w)
 
@@ -46,7 +46,7 @@ pub at-or-below-way : {D : Document} {a b : ℕ} → AtOrBelow D a b → (xs : L
 at-or-below-way (inl p) = ([], end p)
 at-or-below-way (inr d) = let r = below-way d in (r.0 ∷ r.1, step r.2 r.3)
 
-way-at-or-below : {D : Document} {a b : ℕ} {xs : List ℕ} → Way D b a xs → AtOrBelow D a b
+way-at-or-below : {D : Document} {b a : ℕ} {xs : List ℕ} → Way D b a xs → AtOrBelow D a b
 way-at-or-below (end p) = inl p
 way-at-or-below (step c w) = inr (child-below c (way-at-or-below w))
 
@@ -55,9 +55,9 @@ pub first_step : {W : Document} {a b : ℕ} → Below W a b → (c : ℕ) × Chi
 first_step d = let r = below-way d in (r.0, r.2, way-at-or-below r.3)
 
 -- the lower end has no smaller number
-pub way-bound : {D : Document} {a b : ℕ} {xs : List ℕ} → IsTree D → Way D b a xs → a ≤ b
-way-bound {a = a} {b} t (end p) = omega arith
-way-bound {a = a} {b} t (step {x = x} c w) =
+pub way-bound : {D : Document} {b a : ℕ} {xs : List ℕ} → IsTree D → Way D b a xs → a ≤ b
+way-bound {b = b} {a = a} t (end p) = omega arith
+way-bound {b = b} {a = a} t (step {x = x} c w) =
     let h : a < x = child-lt t c in
     let k : x ≤ b = way-bound t w in
     omega arith
@@ -75,7 +75,7 @@ up-bound {a = a} {b} t (under {c = c} u k) =
     let l : a ≤ c = up-bound t u in
     omega arith
 
-up_way : {D : Document} {a b c : ℕ} {xs ys : List ℕ} → Up D a b xs → Way D c b ys → Up D a c (xs ++ ys)
+up_way : {D : Document} {a c b : ℕ} {xs ys : List ℕ} → Up D a b xs → Way D c b ys → Up D a c (xs ++ ys)
 up_way {D} {a} {c = c} {xs} u (end p) = subst (λ (l : List ℕ). Up D a c l) (sym (append-nil xs)) (subst (λ (x : ℕ). Up D a x xs) p u)
 up_way {D} {a} {c = c} {xs} u (step {x = x} {xs = zs} k w) = subst (λ (l : List ℕ). Up D a c l) (append_assoc xs (x ∷ []) zs) (up_way (under u k) w)
 

@@ -74,7 +74,7 @@ module _ (S : Summary) (f : SummaryFacts S) where
   summary-normal-tree = subst (λ (T : Summary). IsTree (as_document T)) (sym by-subtree) (rooted-summary (as_summary written) tree)
     where
       read : (i : ℕ) → get_or (as_summary written) i no_summary_record ≡ read_back (get_or written i no_pattern_record)
-      read i = ListN.get_or_map read_back written i no_pattern_record
+      read i = ListN.get_or-map read_back written i no_pattern_record
 
       tree : Rooted (length (as_summary written)) (λ i. (get_or (as_summary written) i no_summary_record).parent)
       tree =

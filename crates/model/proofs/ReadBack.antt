@@ -64,6 +64,7 @@ FieldsFit W = (i : ℕ) → i < length W → (parent_of W i < 65_536) × (label_
 
 records-fit : (W : Document) → FieldsFit W → FitFields (flat_map document_fields W)
 unfolding flat_map
+records-fit [] h f m = elim m [ ]
 records-fit (r ∷ W) h f (Memᴰ.head e) = subst (λ (x : ℕ). x < 65_536) (sym e) (h 0 (omega arith)).0
 records-fit (r ∷ W) h f (Memᴰ.tail (Memᴰ.head e)) = subst (λ (x : ℕ). x < 65_536) (sym e) (h 0 (omega arith)).1
 records-fit (r ∷ W) h f (Memᴰ.tail (Memᴰ.tail (Memᴰ.head e))) = subst (λ (x : ℕ). x < 65_536) (sym e) (h 0 (omega arith)).2

@@ -86,6 +86,7 @@ first_small b small asked r m =
 -- the fields of a selection's section fit, if its records do
 records-fit : (P : Pattern) → ((i : ℕ) → i < length P → RecordFits (get_or P i no_pattern_record)) → FitFields (flat_map pattern_fields P)
 unfolding flat_map
+records-fit mathlib.Core.List.[] h f m = elim m [ ]
 records-fit (r ∷ P) h f (Memᴰ.head e) = subst (λ (x : ℕ). x < 65_536) (sym e) (h 0 (omega arith)).parent
 records-fit (r ∷ P) h f (Memᴰ.tail (Memᴰ.head e)) = subst (λ (x : ℕ). x < 65_536) (sym e) (h 0 (omega arith)).label
 records-fit (r ∷ P) h f (Memᴰ.tail (Memᴰ.tail (Memᴰ.head e))) = subst (λ (x : ℕ). x < 65_536) (sym e) (h 0 (omega arith)).edge

@@ -247,6 +247,7 @@ new-fit P h f (Memᴰ.tail m) =
     go : (x : OldRecord) → Memᴰ x P → Memᴰ f (old_record_fields x) ⊎ Memᴰ f (0 ∷ []) → f < 65_536
     go x k (inl n) = h f (Memᴰ.tail (flat-intro old_record_fields x P f k n))
     go x k (inr (Memᴰ.head e)) = omega arith
+    go x k (inr (Memᴰ.tail m)) = elim m [ ]
 
 old-fit : (P : Pattern) → FitFields (section_fields pattern_fields P) → FitFields (section_fields old_record_fields (old_pattern P))
 unfolding section_fields

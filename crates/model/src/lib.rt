@@ -1,1 +1,2 @@
 // Definitions (specs/) and theorems (proofs/) only: the code of the layers above is proved against them.
+#![tactic(auto)]

@@ -4,7 +4,7 @@
 ghost use Rattle.std.specs.Prelude.{◌≡◌, true};
 ghost use Rattle.model.specs.Limits.{pattern_width};
 ghost use Rattle.model.specs.Bytes.{case_of, is_whole_case, WholeSection};
-ghost use Rattle.model.specs.Moving.{figureless as figurelessIn, goes_back, upgrade_refusal, downgrade_refusal};
+ghost use Rattle.model.specs.Moving.{figureless as figureless_in, goes_back, upgrade_refusal, downgrade_refusal};
 ghost use Rattle.format.specs.Given.{pattern_at};
 
 use crate::old::{old_counts_in_range, old_whole};
@@ -20,7 +20,7 @@ use questions::numbers::buffer_large_enough;
 // Every figure of the pattern whose count is field `at` is 0.
 fn figureless(b: &[u8], at: usize) -> bool
     requires { WholeSection pattern_width b.now at }
-    ensures { result ≡ figurelessIn (pattern_at b.now at) }
+    ensures { result ≡ figureless_in (pattern_at b.now at) }
 {
     let n = pattern_count(b, at);
     for q in 0..n {

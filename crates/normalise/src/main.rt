@@ -1,6 +1,7 @@
 // The program `normalise`: a case from standard input, the same case in its one way of writing on standard output; or a refusal on standard
 // error. What it writes, and to which stream, is `filing::normalise_told`; here is writing alone. A failed read or write is told on standard
 // error: a program here has no exit status.
+#![tactic(auto)]
 
 use filing::normalise_told;
 use streams::read_all;

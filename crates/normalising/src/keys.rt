@@ -1,7 +1,7 @@
 // What is written of a node as one number: comparing keys is comparing depth, label, edge, position and figure in turn.
 
 ghost use Rattle.std.specs.Prelude.{◌≡◌, ◌*◌, ◌<◌, length, get_or};
-ghost use Rattle.model.specs.Pattern.{no_pattern_record, position as positionIn};
+ghost use Rattle.model.specs.Pattern.{no_pattern_record, position as position_in};
 ghost use Rattle.model.specs.Bytes.{field as field_of, WholeSection};
 ghost use Rattle.normalising.specs.Keys.{entry_of, all_keys};
 ghost use Rattle.normalising.specs.Tables.{Width, table_at, TableGiven, Loaded, entry_with};
@@ -42,7 +42,7 @@ pub fn depth_of(key: u64) -> u64
 // The key of node i, at that depth.
 fn node_key(b: &[u8], at: usize, width: usize, i: usize, depth: u64) -> u64
     requires width { Width width × WholeSection width b.now at × (i < field_of b.now at) × (depth < 256) }
-    requires i_bound { positionIn (table_at width b.now at) i < 256 }
+    requires i_bound { position_in (table_at width b.now at) i < 256 }
     ensures { entry_of result ≡ entry_with depth (get_or (table_at width b.now at) i no_pattern_record) }
 {
     let label = wide64(record_field(b, at, width, i, 1));

@@ -3,7 +3,7 @@
 ghost use Rattle.std.specs.Prelude.{◌≡◌, ◌+◌, ◌≤◌, ◌<◌, ◌⊎◌, length, take, drop};
 ghost use Rattle.std.proofs.lemmas.List.Edits.{sets};
 ghost use Rattle.model.specs.Normal.{by_subtree};
-ghost use Rattle.model.specs.Gathering.{place_in, opens as opensIn};
+ghost use Rattle.model.specs.Gathering.{place_in, opens as opens_in};
 ghost use Rattle.normalising.specs.Keys.{entries_of, Joinable, Joins};
 
 use crate::keys::{ROW, depth_of};
@@ -29,7 +29,7 @@ fn not_after(a: &[u64], b: &[u64]) -> bool
 // The rest of a row goes on with a subtree as deep as the row's root, which the row does not come after.
 fn opens(row: &[u64], rest: &[u64]) -> bool
     requires { (0 < length row.now) × (0 < length rest.now) }
-    ensures { result ≡ opensIn (entries_of row.now) (entries_of rest.now) }
+    ensures { result ≡ opens_in (entries_of row.now) (entries_of rest.now) }
 {
     if depth_of(rest[0]) != depth_of(row[0]) {
         return false;

@@ -1,4 +1,5 @@
 // What the verdict program prints of a case: the whole text at the front of a lent array.
+#![tactic(auto)]
 
 mod lines;
 

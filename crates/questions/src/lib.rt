@@ -1,5 +1,6 @@
 // The questions that every call asks of its case before it does anything else, with the refusal that they lead to; and the questions on
 // numbers alone.
+#![tactic(auto)]
 
 ghost use Rattle.std.specs.Prelude.{◌≡◌};
 ghost use Rattle.model.specs.Questions.{refusal, case_questions};

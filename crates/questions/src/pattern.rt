@@ -3,7 +3,7 @@
 
 ghost use Rattle.std.specs.Prelude.{◌≡◌, ◌<◌, length};
 ghost use Rattle.model.specs.Limits.{pattern_width};
-ghost use Rattle.model.specs.Pattern.{arity as arityOf};
+ghost use Rattle.model.specs.Pattern.{arity as arity_of};
 ghost use Rattle.model.specs.Bytes.{WholeSection};
 ghost use Rattle.model.specs.Questions.{count_in_range, pattern_record_kept, refusal};
 ghost use Rattle.format.specs.Given.{pattern_at};
@@ -76,7 +76,7 @@ pub fn pattern_refusal(b: &[u8], at: usize) -> u64
 // k, the number of nodes that hold a position.
 pub fn arity(b: &[u8], at: usize) -> usize
     requires { WholeSection pattern_width b.now at }
-    ensures { (result ≡ arityOf (pattern_at b.now at)) × (result < 65536) }
+    ensures { (result ≡ arity_of (pattern_at b.now at)) × (result < 65536) }
 {
     let n = pattern_count(b, at);
     let mut k: usize = 0;

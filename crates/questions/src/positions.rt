@@ -2,7 +2,7 @@
 
 ghost use Rattle.std.specs.Prelude.{◌≡◌, ◌&&◌, ◌+◌, ◌<◌, eqb, ltb};
 ghost use Rattle.model.specs.Limits.{pattern_width};
-ghost use Rattle.model.specs.Pattern.{arity as arityOf};
+ghost use Rattle.model.specs.Pattern.{arity as arity_of};
 ghost use Rattle.model.specs.Bytes.{WholeSection};
 ghost use Rattle.model.specs.Questions.{positions_once};
 ghost use Rattle.format.specs.Given.{pattern_at};
@@ -116,7 +116,7 @@ pub fn positions_once(b: &[u8], at: usize, h: Seen) -> bool
 // The pattern has the positions 1 to k once each, k at least 1.
 pub fn positions_to(b: &[u8], at: usize, k: usize) -> bool
     requires { WholeSection pattern_width b.now at }
-    ensures { result ≡ (positions_once (pattern_at b.now at) && eqb k (arityOf (pattern_at b.now at))) }
+    ensures { result ≡ (positions_once (pattern_at b.now at) && eqb k (arity_of (pattern_at b.now at))) }
 {
     let h = positions_seen(b, at);
     if k != h.count {

@@ -2,14 +2,14 @@
 
 ghost use Rattle.std.specs.Prelude.{◌≡◌};
 ghost use Rattle.model.specs.Fitting.{parent_rule};
-ghost use Rattle.model.specs.Questions.{between as isBetween, figure_in_range};
+ghost use Rattle.model.specs.Questions.{between as is_between, figure_in_range};
 ghost use Rattle.questions.specs.Rules.{flag_rule};
 
 use format::limits::MAX_FIGURE;
 
 // A number from low to high.
 pub fn between(low: u64, high: u64, n: u64) -> bool
-    ensures { result ≡ isBetween low high n }
+    ensures { result ≡ is_between low high n }
 {
     low <= n && n <= high
 }

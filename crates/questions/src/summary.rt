@@ -4,7 +4,7 @@ ghost use Rattle.std.specs.Prelude.{◌≡◌, true, not, ◌<◌, length};
 ghost use Rattle.model.specs.Limits.{summary_width};
 ghost use Rattle.model.specs.Lists.{up_from, all_of};
 ghost use Rattle.model.specs.Bytes.{is_whole_case, WholeSection};
-ghost use Rattle.model.specs.Questions.{summary_record_kept, summary_kept, alike as areAlike, siblings_differ};
+ghost use Rattle.model.specs.Questions.{summary_record_kept, summary_kept, alike as are_alike, siblings_differ};
 ghost use Rattle.format.specs.Given.{summary_in};
 
 use crate::rules::{flag_rule, parent_rule};
@@ -44,7 +44,7 @@ pub fn summary_kept(b: &[u8]) -> bool
 pub fn alike(b: &[u8], i: SummaryNode, j: SummaryNode) -> bool
     requires whole_section { WholeSection summary_width b.now 0 }
     requires i_in_bounds { (i.0 < length (summary_in b.now)) × (j.0 < length (summary_in b.now)) }
-    ensures { result ≡ areAlike (summary_in b.now) i.0 j.0 }
+    ensures { result ≡ are_alike (summary_in b.now) i.0 j.0 }
 {
     if summary_label(b, i) != summary_label(b, j) {
         return false;
@@ -59,7 +59,7 @@ pub fn alike(b: &[u8], i: SummaryNode, j: SummaryNode) -> bool
 pub fn differs_before(b: &[u8], j: SummaryNode) -> bool
     requires whole_section { WholeSection summary_width b.now 0 × (summary_kept (summary_in b.now) ≡ true) }
     requires j_in_bounds { j.0 < length (summary_in b.now) }
-    ensures { result ≡ all_of (λ i. not (areAlike (summary_in b.now) i j.0)) (up_from 0 j.0) }
+    ensures { result ≡ all_of (λ i. not (are_alike (summary_in b.now) i j.0)) (up_from 0 j.0) }
 {
     let n = j.0;
     let first = summary_parent(b, j).0;

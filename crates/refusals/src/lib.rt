@@ -1,5 +1,6 @@
 // The refusal of each of document 01's calls: the number of the first question whose answer is no, in the call's own order, or 0. Any bytes
 // and any numbers may be asked about. The questions on a document, on lists and on a pattern's number, which only some calls ask, are here.
+#![tactic(auto)]
 
 ghost use Rattle.std.specs.Prelude.{◌≡◌};
 ghost use Rattle.model.specs.Questions.{refusal, charged_questions, verdict_refusal, minimise_refusal, fits_refusal, result_refusal, nodes_refusal, paths_refusal, layout_refusal};

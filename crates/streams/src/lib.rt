@@ -1,4 +1,5 @@
 // A program's standard input, read whole; a failed read is told from the input's end.
+#![tactic(auto)]
 
 ghost use Rattle.io.specs.Counts.{IsPrefixLen};
 

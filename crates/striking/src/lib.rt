@@ -1,5 +1,6 @@
 // Striking out what a pattern need not say (document 02, #105): the call over plain forms. Any bytes may be passed: it refuses what its
 // questions refuse.
+#![tactic(auto)]
 
 mod round;
 mod shorten;

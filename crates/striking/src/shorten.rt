@@ -4,7 +4,7 @@ ghost use Rattle.std.specs.Prelude.{◌≡◌, ◌+◌, ◌*◌, ◌≤◌, ◌<
 ghost use Rattle.std.proofs.lemmas.List.Edits.{sets};
 ghost use Rattle.model.specs.Pattern.{no_pattern_record};
 ghost use Rattle.model.specs.Bytes.{bytes_of, pattern_fields, encode_pattern};
-ghost use Rattle.model.specs.Striking.{lowered as loweredOf, raised as raisedOf, relinked, without, childless as childlessIn, may_go};
+ghost use Rattle.model.specs.Striking.{lowered as lowered_of, raised as raised_of, relinked, without, childless as childless_in, may_go};
 ghost use Rattle.format.specs.Given.{pattern_at, PatternGiven};
 
 use format::limits::PATTERN_WIDTH;
@@ -18,7 +18,7 @@ pub type Section = [u8; 162];
 // No node has node q as its parent.
 fn childless(p: &[u8], q: usize) -> bool
     requires { PatternGiven p.now 0 }
-    ensures { result ≡ childlessIn (pattern_at p.now 0) q }
+    ensures { result ≡ childless_in (pattern_at p.now 0) q }
 {
     let n = pattern_count(p, 0);
     for i in 0..n {
@@ -45,7 +45,7 @@ pub fn may_go(p: &[u8], q: usize) -> bool
 
 // The number that node i has when node q is gone.
 fn lowered(q: usize, i: usize) -> usize
-    ensures { result ≡ loweredOf q i }
+    ensures { result ≡ lowered_of q i }
 {
     if q < i {
         return i - 1;
@@ -56,7 +56,7 @@ fn lowered(q: usize, i: usize) -> usize
 // The number that what is now node i had while node q was there.
 pub fn raised(q: usize, i: usize) -> usize
     requires { i < 65536 }
-    ensures { result ≡ raisedOf q i }
+    ensures { result ≡ raised_of q i }
 {
     if i < q {
         return i;

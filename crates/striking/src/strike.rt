@@ -3,7 +3,7 @@
 ghost use Rattle.std.specs.Prelude.{◌≡◌, map, length, get_or, replicate};
 ghost use Rattle.model.specs.Lists.{up_from};
 ghost use Rattle.model.specs.Bytes.{written_at_front};
-ghost use Rattle.model.specs.Striking.{raised as raisedOf, strike_all};
+ghost use Rattle.model.specs.Striking.{raised as raised_of, strike_all};
 ghost use Rattle.format.specs.Given.{summary_in, pattern_at};
 ghost use Rattle.judging.specs.Sets.{summary_rows};
 ghost use Rattle.striking.specs.Present.{Strikable};
@@ -33,7 +33,7 @@ fn own_names() -> Names
 
 // The names when node q is gone; past the last node it has 0.
 fn renamed(names: &Names, q: usize) -> Names
-    ensures { result ≡ written_at_front (map (λ i. get_or names.now (raisedOf q i) 0) (up_from 0 15)) (replicate 16 0) }
+    ensures { result ≡ written_at_front (map (λ i. get_or names.now (raised_of q i) 0) (up_from 0 15)) (replicate 16 0) }
 {
     let mut next = [0u16; 16];
     for i in 0..15 {

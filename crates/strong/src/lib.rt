@@ -1,5 +1,6 @@
 // The strong children of every summary node, gathered once a case. Whatever asks for strong children is lent this table and reads
 // them there alone.
+#![tactic(auto)]
 
 ghost use Rattle.std.specs.Prelude.{◌≡◌, ◌<◌, get_or};
 ghost use Rattle.model.specs.Strong.{strong_table};

@@ -1,7 +1,7 @@
 // Text put into a lent slice from a byte on. Each function answers where its text ends.
 
 ghost use Rattle.std.specs.Prelude.{[], ◌∷◌, ◌≡◌, ◌<◌};
-ghost use Rattle.model.specs.Text.{digit as digitOf, decimal, number as number_of};
+ghost use Rattle.model.specs.Text.{digit as digit_of, decimal, number as number_of};
 ghost use Rattle.text.specs.Put.{Room, Put};
 
 // One byte.
@@ -27,7 +27,7 @@ pub fn word(text: &[u8], out: &mut [u8], at: usize) -> usize
 // The code of a digit.
 fn digit(d: u64) -> u8
     requires { d < 10 }
-    ensures { result ≡ digitOf d }
+    ensures { result ≡ digit_of d }
 {
     48 + d as u8
 }

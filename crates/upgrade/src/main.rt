@@ -1,6 +1,7 @@
 // The program `upgrade`: an old case from standard input, the same case with a set of one on standard output; or a refusal on standard
 // error. What it writes, and to which stream, is `filing::upgrade_told`; here is writing alone. A failed read or write is told on standard
 // error: a program here has no exit status.
+#![tactic(auto)]
 
 use filing::upgrade_told;
 use streams::read_all;

@@ -1,5 +1,6 @@
 // Runs test vectors through the calls, one printed line each; reference/README.md lays out the vectors and the lines. Of an accepted
 // layout the document laid out is tested by two other calls before its line is printed.
+#![tactic(auto)]
 
 mod check;
 mod print;

@@ -1,5 +1,6 @@
 // The verdict program: a case from standard input, its text on standard output. What it prints is `printing::verdict_text`; here is
 // writing alone. A failed read or write is told on standard error: a program here has no exit status.
+#![tactic(auto)]
 
 use printing::verdict_text;
 use streams::read_all;
