@@ -1,0 +1,11 @@
+-- `bits::insert_if16` meets its contract: each branch is the definition's case. Assumes nothing.
+use Rattle.bits.specs.Sets.{insert_if}
+use Rattle.bits.proofs.insert_if16.Goals as goal
+
+pub returns-then-t : goal.returns-then-t
+unfolding insert_if
+returns-then-t c = rw (c.if-t.true, insert_if) c.insert16.ensures
+
+pub returns-else-t : goal.returns-else-t
+unfolding insert_if
+returns-else-t c = rw (c.if-t.false, insert_if)
