@@ -1,0 +1,12 @@
+-- `format::document::document_parent` meets its contract: the field read is the record's first. Assumes nothing.
+use mathlib.Core.Path.{◌∙◌}
+use Rattle.model.specs.Tree.{DocumentRecord}
+use native.Mathlib.Omega.{arith}
+use Rattle.format.proofs.SectionLaws.{document-field, document-below, first_field}
+use Rattle.format.proofs.document.document_parent.Goals as goal
+
+pub record_field-requires : goal.record_field-requires
+record_field-requires c = record { whole_section = c.requires.whole_section; i_bound = (document-below _ _ c.requires.v_in_bounds, omega arith, omega arith) }
+
+pub returns : goal.returns
+returns c = c.record_field.ensures.0 ∙ document-field _ (λ (r : DocumentRecord). r.parent) _ 0 (first_field _) c.requires.v_in_bounds

@@ -1,0 +1,12 @@
+-- `format::summary::summary_strong` meets its contract: the field read is the record's third. Assumes nothing.
+use mathlib.Core.Path.{refl, ◌∙◌}
+use Rattle.model.specs.Summary.{SummaryRecord}
+use native.Mathlib.Omega.{arith}
+use Rattle.format.proofs.SectionLaws.{summary-field, summary-below}
+use Rattle.format.proofs.summary.summary_strong.Goals as goal
+
+pub record_field-requires : goal.record_field-requires
+record_field-requires c = record { whole_section = c.requires.whole_section; i_bound = (summary-below _ _ c.requires.s_in_bounds, omega arith, omega arith) }
+
+pub returns : goal.returns
+returns c = c.record_field.ensures.0 ∙ summary-field _ (λ (r : SummaryRecord). r.strong) _ 2 (λ a. refl) c.requires.s_in_bounds
