@@ -26,14 +26,14 @@ use normalising::normalise_call;
 
 // Counts trials, for each caller apart: a caller's own count grows by tried with each of its verdicts and of its orders to strike.
 #[repr(C)]
-#[derive(Drop)]
+#[derive(Clone, Copy)]
 pub struct Tallies {
     pub counts: [u64; 8],
 }
 
 // The answer of the verdict call: the refusal's number, or 0; the kind: 1 included, 2 not included, 3 stopped; and tried.
 #[repr(C)]
-#[derive(Drop)]
+#[derive(Clone, Copy)]
 pub struct VerdictAnswer {
     pub refused: u64,
     pub kind: u64,

@@ -2,7 +2,7 @@
 
 // Yes is 1, no is 0.
 #[repr(C)]
-#[derive(Drop)]
+#[derive(Clone, Copy)]
 pub struct TestAnswer {
     pub refused: u64,
     pub holds: u64,
@@ -10,7 +10,7 @@ pub struct TestAnswer {
 
 // A count.
 #[repr(C)]
-#[derive(Drop)]
+#[derive(Clone, Copy)]
 pub struct CountAnswer {
     pub refused: u64,
     pub count: u64,

@@ -18,7 +18,7 @@ use format::pattern::{pattern_count, pattern_parent};
 use format::summary::summary_parent;
 
 // What a chain hangs from: a document node and the summary node that it is on.
-#[derive(Drop)]
+#[derive(Clone, Copy)]
 struct Hook {
     node: DocumentNode,
     on: SummaryNode,

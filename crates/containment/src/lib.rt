@@ -6,14 +6,14 @@ mod steps;
 pub mod verdict;
 
 // How many embeddings may still be tried, and how many were and passed.
-#[derive(Drop)]
+#[derive(Clone, Copy)]
 pub struct Budget {
     pub left: u64,
     pub tried: u64,
 }
 
 // How far the trials have come; or one failed, or the limit was met with more to try, each with how many were tried.
-#[derive(Drop)]
+#[derive(Clone, Copy)]
 pub enum Run {
     Going(Budget),
     Failed(u64),
@@ -21,7 +21,7 @@ pub enum Run {
 }
 
 // Document 01's verdict, with how many were tried: included, not included, stopped.
-#[derive(Drop)]
+#[derive(Clone, Copy)]
 pub enum Containment {
     Contained(u64),
     NotContained(u64),

@@ -19,7 +19,7 @@ use refusals::verdict_refusal;
 
 // The answer of the call: refused, with the number; or document 01's verdict with how many were tried: included, not included,
 // stopped.
-#[derive(Drop)]
+#[derive(Clone, Copy)]
 pub enum Answer {
     Refused(u64),
     Contained(u64),

@@ -6,16 +6,16 @@ ghost use Rattle.std.specs.Prelude.{◌≡◌, ◌<◌, length, get_or};
 
 // The number of a summary node (document 01: outline node).
 #[repr(C)]
-#[derive(Drop)]
+#[derive(Clone, Copy)]
 pub struct SummaryNode(pub usize);
 
 // The number of a document node (document 01: volume node).
 #[repr(C)]
-#[derive(Drop)]
+#[derive(Clone, Copy)]
 pub struct DocumentNode(pub usize);
 
 // The number of a pattern node (document 01: selection node).
-#[derive(Drop)]
+#[derive(Clone, Copy)]
 pub struct PatternNode(pub usize);
 
 // Number i of a column.

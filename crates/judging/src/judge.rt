@@ -86,7 +86,7 @@ pub fn join(t: &mut [u16], j: usize, set: u16)
 }
 
 // A node whose turn it is: what hangs from it so far, and whether its turn is passed over.
-#[derive(Drop)]
+#[derive(Clone, Copy)]
 struct Share {
     node: PatternNode,
     set: u16,

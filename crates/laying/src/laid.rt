@@ -16,7 +16,7 @@ use strong::strong_table;
 
 // A record of the lent table: its parent, its summary node (document 01: outline node), its label and its figure.
 #[repr(C)]
-#[derive(Drop)]
+#[derive(Clone, Copy)]
 pub struct NodeRecord {
     pub parent: DocumentNode,
     pub at: SummaryNode,

@@ -14,7 +14,7 @@ use format::sections::{first_at, pattern_end, set_at};
 use format::set::set_count;
 
 // What is asked of each member by itself: its count (4), its positions (8), which are to be 1 to k.
-#[derive(Drop)]
+#[derive(Clone, Copy)]
 pub enum Asked {
     Count,
     Positions(usize),

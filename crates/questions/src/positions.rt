@@ -29,7 +29,7 @@ pub fn holders(b: &[u8], at: usize, position: usize) -> usize
 }
 
 // The positions below 64 that are held, and those that are held more than once, as masks; and how many nodes hold one at all.
-#[derive(Drop)]
+#[derive(Clone, Copy)]
 pub struct Seen {
     pub once: u64,
     pub twice: u64,

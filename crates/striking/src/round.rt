@@ -20,14 +20,14 @@ use judging::rows::SummaryRows;
 pub type Work = [u8; 320];
 
 // Whether a leaf is struck, and how many were tried for it.
-#[derive(Drop)]
+#[derive(Clone, Copy)]
 pub struct Turned {
     pub struck: bool,
     pub tried: u64,
 }
 
 // The leaf that a round strikes, or 0: the root stays; and how many were tried in all.
-#[derive(Drop)]
+#[derive(Clone, Copy)]
 pub struct Rounded {
     pub leaf: usize,
     pub tried: u64,

@@ -5,7 +5,7 @@ ghost use Rattle.std.specs.Prelude.{◌≡◌, ◌+◌, ◌*◌, ◌<◌, ◌≤
 use format::field::{field, wide64};
 
 // The call and its numbers. A call of 0 says that there is no further vector.
-#[derive(Drop)]
+#[derive(Clone, Copy)]
 pub struct Head {
     pub call: u64,
     pub limit: u64,

@@ -1,0 +1,21 @@
+-- `matching::sets::fitting` meets its contract: after p turns r holds what fits of the nodes below p. The measure is what is left of the
+-- count. Assumes nothing.
+use Prim.Native.Nat.{◌-◌}
+use native.Mathlib.Omega.{arith}
+use Rattle.matching.proofs.MaskLoops.{inserting-start, inserting-step, inserting-end}
+use Rattle.matching.proofs.sets.fitting.Goals as goal
+
+pub fits_here-requires : goal.fits_here-requires
+fits_here-requires c = omega (arith, c.requires.1.few, c.requires.1.count)
+
+pub insert_if16-r-requires : goal.insert_if16-r-requires
+insert_if16-r-requires c = omega (arith, c.requires.1.few, c.requires.1.count)
+
+pub loop-p-preserved : goal.loop-p-preserved
+loop-p-preserved c = inserting-step c.fits_here.result c.loop-p.invariant (omega arith) c.fits_here.ensures c.insert_if16-r.ensures
+
+pub returns : goal.returns
+returns c = inserting-end c.loop-p.invariant (omega arith)
+
+pub loop-p-init : goal.loop-p-init
+loop-p-init c = inserting-start

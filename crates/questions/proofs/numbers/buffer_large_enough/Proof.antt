@@ -1,9 +1,0 @@
--- `questions::numbers::buffer_large_enough` meets its contract: the comparison is the definition's. Assumes nothing.
-use mathlib.Core.Path.{refl}
-use Rattle.model.specs.Questions.{buffer_large_enough}
-use Rattle.questions.proofs.numbers.buffer_large_enough.Statement.{statement}
-use Rattle.questions.proofs.numbers.buffer_large_enough.Tie as tie
-
-pub buffer-large-enough-spec : {M : Type 1} → statement M
-unfolding buffer_large_enough
-buffer-large-enough-spec = tie.close (tie.spec (λ c. refl))

@@ -1,0 +1,15 @@
+-- `text::put::number` meets its contract: a space, then the digits. Assumes nothing.
+use Rattle.text.proofs.PutLaws.{room-first, room-rest, put_then}
+use Rattle.text.proofs.LineLaws.{number-parts}
+use Rattle.text.proofs.put.number.Goals as goal
+
+pub put-end-requires : goal.put-end-requires
+put-end-requires c = room-first (number-parts _) c.requires
+
+pub digits-requires : goal.digits-requires
+digits-requires c =
+    room-rest (number-parts _) c.requires c.put-end.ensures
+
+pub returns : goal.returns
+returns c =
+    put_then (number-parts _) c.requires c.put-end.ensures c.digits.ensures
