@@ -1,4 +1,6 @@
 -- `questions::case_refusal` meets its contract: each return comes after the questions before it were answered yes. Assumes nothing.
+use mathlib.Core.Path.{ap}
+use mathlib.Core.Bool.{not}
 use Rattle.model.specs.Questions.{case_questions}
 use Rattle.questions.proofs.RefusalLaws.{one_by_one, two-no, two-yes, required, asked-whole, asked-summary}
 use Rattle.questions.proofs.case_refusal.Goals as goal
@@ -6,7 +8,7 @@ use Rattle.questions.proofs.case_refusal.Goals as goal
 -- 6 is asked of a whole case whose summary keeps 5
 pub siblings_differ-requires : goal.siblings_differ-requires
 siblings_differ-requires c =
-    (asked-whole _ _ c.case_whole.ensures c.if-not-case_whole.false, asked-summary _ _ c.summary_kept.ensures c.if-not-summary_kept.false)
+    (asked-whole _ _ c.case_whole.ensures (ap not c.if-not-case_whole.false), asked-summary _ _ c.summary_kept.ensures (ap not c.if-not-summary_kept.false))
 
 pub case_whole-requires : goal.case_whole-requires
 unfolding case_questions

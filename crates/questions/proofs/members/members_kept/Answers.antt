@@ -2,6 +2,8 @@
 -- and the field is that of the present one. Assumes nothing.
 use Prim.Native.Nat.{◌-◌}
 use native.Mathlib.Omega.{arith}
+use mathlib.Core.Path.{ap}
+use mathlib.Core.Bool.{not}
 use Rattle.questions.proofs.MemberLaws.{members, members-section, members-stops, members-ends}
 use Rattle.questions.proofs.members.members_kept.Goals as goal
 
@@ -9,10 +11,10 @@ pub member_kept-requires : goal.member_kept-requires
 member_kept-requires c = members-section _ _ _ _ _ c.loop.invariant c.requires (omega arith)
 
 pub returns-then-not-member_kept : goal.returns-then-not-member_kept
-returns-then-not-member_kept c = members-stops _ _ _ _ _ c.loop.invariant _ (omega arith) c.member_kept.ensures c.if-not-member_kept.true
+returns-then-not-member_kept c = members-stops _ _ _ _ _ c.loop.invariant _ (omega arith) c.member_kept.ensures (ap not c.if-not-member_kept.true)
 
 pub pattern_end-at-requires : goal.pattern_end-at-requires
-pattern_end-at-requires c = let s = (member-kept-requires (goal.at.pattern_end-at-requires c).In-loop κs).count in omega arith
+pattern_end-at-requires c = let s = (members-section _ _ _ _ _ c.loop.invariant c.requires (omega arith)).count in omega arith
 
 pub returns : goal.returns
 returns c = members-ends _ _ _ _ _ c.loop.invariant (omega arith)

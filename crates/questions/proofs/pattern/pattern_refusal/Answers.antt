@@ -5,6 +5,8 @@ use Rattle.model.specs.Questions.{pattern_kept, pattern_figures}
 use Rattle.questions.proofs.LoopLaws.{kept}
 use Rattle.questions.proofs.RecordLaws.{remembered-none, remembered-stop, remembered-more, remembered-end}
 use Rattle.questions.proofs.pattern.pattern_refusal.Goals as goal
+use Rattle.questions.proofs.pattern.pattern_refusal.Goals.{then-x-ne0, else-x-ne0}
+use mathlib.Core.Logic.{inl, inr}
 
 pub pattern_count-n-requires : goal.pattern_count-n-requires
 unfolding pattern_kept pattern_figures
@@ -32,8 +34,11 @@ loop-q-smaller c = search kept
 
 pub loop-q-preserved : goal.loop-q-preserved
 unfolding pattern_kept pattern_figures
-loop-q-preserved c = remembered-more 7 (omega arith) (omega arith) _ _ _ _ _ _ (omega arith) c.record_refusal-x.ensures _ c.loop-q.invariant
-    c.if-x-eq7.false c.if-x-ne0.branch (λ w. w.taken) (λ w. w.left)
+loop-q-preserved c =
+    elim c.if-x-ne0.branch [
+      | then-x-ne0 w ↦ remembered-more 7 (omega arith) (omega arith) _ _ _ _ _ _ (omega arith) c.record_refusal-x.ensures _ {Yes = Unit {0}} {No = ⊥} c.loop-q.invariant c.if-x-eq7.false (inl (tt, w.r-is)) (λ _. w.if-x-ne0.true) absurd
+      | else-x-ne0 w ↦ remembered-more 7 (omega arith) (omega arith) _ _ _ _ _ _ (omega arith) c.record_refusal-x.ensures _ {Yes = ⊥} {No = Unit {0}} c.loop-q.invariant c.if-x-eq7.false (inr (tt, w.r-is)) absurd (λ _. w.if-x-ne0.false)
+    ]
 
 pub returns : goal.returns
 unfolding pattern_kept pattern_figures
