@@ -48,7 +48,7 @@ set-fits (n ∷ ms) (suc i) m l f zero = f zero
 set-fits (n ∷ ms) (suc i) m l f (suc j) = set-fits ms i m l (λ k. f (suc k)) j
 
 pub counts-set : (ms : List ℕ) (i m : ℕ) → Counts ms → m < 2 ^ 64 → Counts (set ms i m)
-counts-set ms i m c l = record { eight = length-set ms i m ∙ c.eight; fits = set-fits ms i m l c.ranges }
+counts-set ms i m c l = record { eight = length-set ms i m ∙ c.eight; fits = set-fits ms i m l c.fits }
 
 all-owned : (ms : List ℕ) → ((i : ℕ) → get_or ms i 0 < 2 ^ 64) → shadow (each ℕ u64.own_val (map (λ (m : ℕ). m) ms) (map (λ (m : ℕ). vint w64 m) ms))
 all-owned [] f = tt

@@ -43,7 +43,7 @@ climb {D} {a} {b} (inr d) ne = go (below-cases d)
     go (inr r) = (inr r.0, record { not_root = r.1; inside = r.2; is_parent = refl })
 
 -- the nodes of a chain are the summary's
-way-inside : {D : Document} {a b x : ℕ} {xs : List ℕ} → Way D b a xs → Memᴰ x xs → x < length D
+way-inside : {D : Document} {b a x : ℕ} {xs : List ℕ} → Way D b a xs → Memᴰ x xs → x < length D
 way-inside (end p) m = absurd (Memᴰ.not-nil m)
 way-inside {D} {x = x} (step {x = y} {xs = ys} c w) m = go (Memᴰ.cases_cons m) (λ k. way-inside w k)
   where

@@ -231,7 +231,7 @@ module _ {S : Summary} {spots : List Spot} {base now : Draft} {count : ℕ} (c :
       let n = fields-length S spots in
       let l = length-bytes (draft_fields S spots) in
       let q = c.counted in
-      let f = c.ranges in
+      let f = c.fits in
       let r = c.room.bytes in
       record { count = omega arith; size = ap (λ (x : List ℕ). length x) c.bytes ∙ front_length (bytes_of (draft_fields S spots)) base.bytes (omega arith); bytes = c.bytes }
 
@@ -245,7 +245,7 @@ module _ {S : Summary} {spots : List Spot} {base now : Draft} {count : ℕ} (c :
       }
     where
       same : {l : List ℕ} (w b : List ℕ) → l ≡ written_at_front w b → length w ≡ length spots → min_table ≤ length b → length l ≡ length b
-      same w b e n r = ap (λ (x : List ℕ). length x) e ∙ front_length w b (let f = c.ranges in let q = c.counted in omega arith)
+      same w b e n r = ap (λ (x : List ℕ). length x) e ∙ front_length w b (let f = c.fits in let q = c.counted in omega arith)
 
   pub drafted-roomy : Roomy now
   drafted-roomy = roomy-same drafted-lengths c.room

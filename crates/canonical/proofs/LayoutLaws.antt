@@ -75,7 +75,7 @@ module _ {case : List ℕ} {at : ℕ} {images : List ℕ} (h : Embedded case at 
         → bytes ≡ sets now.bytes 0 (field_bytes count) → Figureless S (canonical_spots S P es) P own base.bytes bytes
     unfolding canonical_spots
     written-plain c e =
-        let f = c.ranges in
+        let f = c.fits in
         let q = c.counted in
         let r = c.room.bytes in
         let n = own-size in

@@ -12,8 +12,8 @@ use Rattle.format.specs.Given.{pattern_at}
 use Rattle.canonical.specs.Given.{Embedded}
 
 -- the own nodes at positions 1 to k, by a table of own nodes
-abbrev pub field_own : Pattern → List ℕ → ℕ → List ℕ
-field_own P own k = map (λ i. image_in own (node_at P (i + 1))) (up_from 0 k)
+abbrev pub own_at : Pattern → List ℕ → ℕ → List ℕ
+own_at P own k = map (λ i. image_in own (node_at P (i + 1))) (up_from 0 k)
 
 -- the bytes that are shown (document 01: the volume's section, then the result as a count and k node numbers)
 abbrev pub shown_document : Summary → Pattern → List ℕ → List ℕ

@@ -23,7 +23,7 @@ use Rattle.judging.proofs.SetLaws.{node-mask}
 
 -- ---- chains from the lower end
 
-way-snoc : {D : Document} {a b c : ℕ} {xs : List ℕ} → Way D b a xs → Child D b c → Way D c a (xs ++ c ∷ [])
+way-snoc : {D : Document} {b a c : ℕ} {xs : List ℕ} → Way D b a xs → Child D b c → Way D c a (xs ++ c ∷ [])
 way-snoc {D} {c = c} (end p) k = step (subst (λ (x : ℕ). Child D x c) (sym p) k) (end refl)
 way-snoc (step j w) k = step j (way-snoc w k)
 
