@@ -14,7 +14,7 @@ pub own_of-v-requires : goal.own_of-v-requires
 own_of-v-requires c = omega (arith, c.Node-at.ensures, c.requires.by_index c.loop-i.i c.loop-i-test.true)
 
 pub overflow_cast-result : goal.overflow_cast-result
-overflow_cast-result c = omega (arith, c.own_of-v.ensures, c.shared_slice_known-2-1.given c.Node-at.result.0)
+overflow_cast-result c = omega (arith, c.own_of-v.ensures, c.type_inv.own c.Node-at.result.0)
 
 pub loop-i-preserved : goal.loop-i-preserved
 loop-i-preserved c =

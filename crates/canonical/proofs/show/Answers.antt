@@ -12,7 +12,7 @@ use Rattle.canonical.proofs.show.Goals as goal
 pub own_result-result-requires : goal.own_result-result-requires
 own_result-result-requires c =
     let h = c.requires.showable.0 in
-    ((h.embedded.pattern.whole, h.few), λ i l. omega (arith, held h i l, h.embedded.pattern.few, own-length h c.lay_out-laid.ensures))
+    record { whole_section = (h.embedded.pattern.whole, h.few); by_index = λ i l. omega (arith, held h i l, h.embedded.pattern.few, own-length h c.lay_out-laid.ensures) }
 
 pub overflow_mul-end : goal.overflow_mul-end
 overflow_mul-end c =
@@ -27,15 +27,23 @@ overflow_add-end c =
     omega (arith, few)
 
 pub slice_bounds-write_counted-count : goal.slice_bounds-write_counted-count
-slice_bounds-write_counted-count c = omega (arith, few l, c.requires.showable.1, c.lay_out-laid.auto.answer)
+slice_bounds-write_counted-count c =
+    let few : c.lay_out-laid.result.count ≤ max_canonical =
+    shown-small c.requires.showable.0 c.lay_out-laid.ensures in
+    omega (arith, few, c.requires.showable.1, c.lay_out-laid.auto.answer)
 
 pub slice_bounds-write_counted-start : goal.slice_bounds-write_counted-start
-slice_bounds-write_counted-start c = omega (arith, few l, c.requires.showable.1, c.lay_out-laid.auto.answer)
+slice_bounds-write_counted-start c =
+    let few : c.lay_out-laid.result.count ≤ max_canonical =
+    shown-small c.requires.showable.0 c.lay_out-laid.ensures in
+    omega (arith, few, c.requires.showable.1, c.lay_out-laid.auto.answer)
 
 pub write_counted-requires : goal.write_counted-requires
 write_counted-requires c =
+    let few : c.lay_out-laid.result.count ≤ max_canonical =
+    shown-small c.requires.showable.0 c.lay_out-laid.ensures in
     let h = c.requires.showable.0 in
-    (search rules, omega (arith, h.few), simp (length-take, length-drop) (omega (arith, few l, h.few, c.requires.showable.1, c.lay_out-laid.auto.answer)))
+    (search rules, omega (arith, h.few), simp (length-take, length-drop) (omega (arith, few, h.few, c.requires.showable.1, c.lay_out-laid.auto.answer)))
 
 pub returns : goal.returns
 returns c =

@@ -17,7 +17,7 @@ without64-rest-requires c = first-room c.loop-rest.invariant.fits c.loop-rest-te
 pub append-n-requires : goal.append-n-requires
 append-n-requires c =
     let g = c.loop-rest.invariant in
-    ((c.pre.0.0, roomy-same g.same c.pre.0.1), (g.hangs, chaining-inside g c.loop-rest-test.true c.first64-x.ensures, chaining-room g c.loop-rest-test.true c.first64-x.ensures))
+    record { summary_given = (c.requires.summary_given.0, roomy-same g.same c.requires.summary_given.1); v_lt_count = (g.hangs, chaining-inside g c.loop-rest-test.true c.first64-x.ensures, chaining-room g c.loop-rest-test.true c.first64-x.ensures) }
 
 pub loop-rest-smaller : goal.loop-rest-smaller
 loop-rest-smaller c =
@@ -26,7 +26,7 @@ loop-rest-smaller c =
 pub loop-rest-preserved : goal.loop-rest-preserved
 loop-rest-preserved c =
     let k = c.append-n.auto.1.1.1.1 in
-    chaining-next c.loop-rest.inv c.loop-rest-test.taken c.first64-x.ensures c.pre.0.0.few c.without64-rest.ensures
+    chaining-next c.loop-rest.inv c.loop-rest-test.taken c.first64-x.ensures c.requires.summary_given.0.few c.without64-rest.ensures
     c.append-n.ensures.counted c.append-n.ensures.row (record { bytes = k.0; on = k.1.0; kids = k.1.1.0 })
 
 pub shape_of-answer : goal.shape_of-answer

@@ -10,7 +10,7 @@ use Rattle.format.specs.Given.{summary_in, pattern_at}
 use Rattle.canonical.specs.Draft.{Draft, draft}
 use Rattle.canonical.specs.Given.{embedding_in, Embedded}
 use Rattle.canonical.proofs.DraftLaws.{SameLengths, drafted-roomy, drafted-lengths}
-use Rattle.canonical.proofs.ChainPhaseLaws.{Laying, laying-start, laying-own, laying-end, laying-next, Read, read_next, next-hanging}
+use Rattle.canonical.proofs.ChainPhaseLaws.{Laying, laying-start, laying-own, laying-end, laying-next, parent-earlier, Read, read_next, next-hanging}
 use Rattle.canonical.proofs.chains.chains.Goals as goal
 
 abbrev given : (c : goal.At-loop-q) → Embedded c.args.case.now c.args.at c.args.images.now
@@ -41,17 +41,37 @@ slice_bounds-own_of-end c =
 
 pub own_of-requires : goal.own_of-requires
 own_of-requires c =
+    let inside : c.loop-q.q < length (pattern_at c.args.case.now c.args.at) =
+    omega (arith, c.loop-q-test.true, c.pattern_count-m.ensures) in
+    let earlier : c.pattern_parent-p.result.0 < c.loop-q.q =
+    let laid : LaidAt c (draft c.args.answer.now c.args.on.now c.args.kids.now) =
+    c.loop-q.invariant.laying _ (laying-start _ _ _ c.root-count.ensures) in
+    let inside : c.loop-q.q < length (pattern_at c.args.case.now c.args.at) =
+    omega (arith, c.loop-q-test.true, c.pattern_count-m.ensures) in
+    omega (arith, c.pattern_parent-p.ensures, parent-earlier (given (goal.at.? c).At-loop-q) laid c.loop-q.invariant.positive inside) in
     let own-length : length c.loop-q.own ≡ max_pattern =
     let laid : LaidAt c (draft c.args.answer.now c.args.on.now c.args.kids.now) =
     c.loop-q.invariant.laying _ (laying-start _ _ _ c.root-count.ensures) in
     laying-own laid (omega (arith, c.loop-q.invariant.turns, (given c).pattern.few)) in
-    omega (arith, earlier p, own-length, inside p, (given (goal.at.own_of-requires c).At-loop-q).pattern.few)
+    omega (arith, earlier, own-length, inside, (given (goal.at.own_of-requires c).At-loop-q).pattern.few)
 
 pub image_of-requires : goal.image_of-requires
-image_of-requires c = omega (arith, earlier p, inside p, (given (goal.at.image_of-requires c).At-loop-q).enough)
+image_of-requires c =
+    let inside : c.loop-q.q < length (pattern_at c.args.case.now c.args.at) =
+    omega (arith, c.loop-q-test.true, c.pattern_count-m.ensures) in
+    let earlier : c.pattern_parent-p.result.0 < c.loop-q.q =
+    let laid : LaidAt c (draft c.args.answer.now c.args.on.now c.args.kids.now) =
+    c.loop-q.invariant.laying _ (laying-start _ _ _ c.root-count.ensures) in
+    let inside : c.loop-q.q < length (pattern_at c.args.case.now c.args.at) =
+    omega (arith, c.loop-q-test.true, c.pattern_count-m.ensures) in
+    omega (arith, c.pattern_parent-p.ensures, parent-earlier (given (goal.at.? c).At-loop-q) laid c.loop-q.invariant.positive inside) in
+    omega (arith, earlier, inside, (given (goal.at.image_of-requires c).At-loop-q).enough)
 
 pub image_of-b-requires : goal.image_of-b-requires
-image_of-b-requires c = omega (arith, inside p, (given (goal.at.image_of-b-requires c).At-loop-q).enough)
+image_of-b-requires c =
+    let inside : c.loop-q.q < length (pattern_at c.args.case.now c.args.at) =
+    omega (arith, c.loop-q-test.true, c.pattern_count-m.ensures) in
+    omega (arith, inside, (given (goal.at.image_of-b-requires c).At-loop-q).enough)
 
 read : (c : goal.After-image_of-b) {base : Draft} (l : LaidAt (goal.at.? c).At-loop-q base)
     → Read (given (goal.at.? c).At-loop-q) l c.loop-q.invariant.positive (inside (goal.at.? c).After-pattern_parent-p) c.image_of.result.0 c.image_of-b.result.0 c.own_of.result.0
@@ -61,15 +81,17 @@ read c l =
 
 pub append_chain-count-requires : goal.append_chain-count-requires
 append_chain-count-requires c =
+    let laid : LaidAt c (draft c.args.answer.now c.args.on.now c.args.kids.now) =
+    c.loop-q.invariant.laying _ (laying-start _ _ _ c.root-count.ensures) in
     let inside : c.loop-q.q < length (pattern_at c.args.case.now c.args.at) =
     omega (arith, c.loop-q-test.true, c.pattern_count-m.ensures) in
-    (((given h).summary, drafted-roomy (laid h).drafted), next-hanging (given h) (laid h) c.loop-q.inv.positive inside (read b (laid h)))
+    record { summary_given = ((given c).summary, drafted-roomy laid.drafted); hanging = next-hanging (given c) laid c.loop-q.inv.positive inside (read c laid) }
 
 next : (c : goal.After-append_chain-count) (base : Draft) → LaidAt (goal.at.? c).At-loop-q base
     → LaidUpTo (goal.at.? c).Start base (draft c.append_chain-count.new.1.1.1.1.0 c.append_chain-count.new.1.1.1.1.1.0 c.append_chain-count.new.1.1.1.1.1.1.0)
     (set c.loop-q.own c.loop-q.q (c.append_chain-count.result - 1)) (c.loop-q.q + 1) c.append_chain-count.result
 next c base l =
-    laying-next (given h) l c.loop-q.inv.positive (inside (goal.at.? c).After-pattern_parent-p) (read b l) c.append_chain-count.ensures
+    laying-next (given c) l c.loop-q.inv.positive (inside (goal.at.? c).After-pattern_parent-p) (read c l) c.append_chain-count.ensures
 
 pub overflow_sub-own : goal.overflow_sub-own
 overflow_sub-own c =
@@ -97,7 +119,7 @@ pub loop-q-preserved : goal.loop-q-preserved
 loop-q-preserved c =
     let inside : c.loop-q.q < length (pattern_at c.args.case.now c.args.at) =
     omega (arith, c.loop-q-test.true, c.pattern_count-m.ensures) in
-    record { positive = omega arith; turns = omega (arith, inside); laying = λ base l. next a base (c.loop-q.inv.laying base l) }
+    record { positive = omega arith; turns = omega (arith, inside); laying = λ base l. next c base (c.loop-q.inv.laying base l) }
 
 pub shape_of-answer : goal.shape_of-answer
 shape_of-answer c =

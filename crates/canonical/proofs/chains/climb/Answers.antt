@@ -11,7 +11,7 @@ pub insert64-nodes-requires : goal.insert64-nodes-requires
 insert64-nodes-requires c = omega (arith, climbing-inside c.loop-x.invariant c.loop-x-test.true, c.requires.0.few)
 
 pub summary_parent-x-requires : goal.summary_parent-x-requires
-summary_parent-x-requires c = (c.requires.0.whole, climbing-inside c.loop-x.invariant c.loop-x-test.true)
+summary_parent-x-requires c = record { whole_section = c.requires.0.whole; s_in_bounds = climbing-inside c.loop-x.invariant c.loop-x-test.true }
 
 pub loop-x-smaller : goal.loop-x-smaller
 loop-x-smaller c =

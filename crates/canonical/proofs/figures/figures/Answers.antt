@@ -14,25 +14,25 @@ pub own_of-v-requires : goal.own_of-v-requires
 own_of-v-requires c =
     let inside : c.loop-q.q < length (pattern_at c.args.case.now c.args.at) =
     omega (arith, c.loop-q-test.true, c.pattern_count-m.ensures.0) in
-    omega (arith, inside, c.pre.1.3.enough)
+    omega (arith, inside, c.requires.by_index.3.enough)
 
 pub overflow_mul-v : goal.overflow_mul-v
 overflow_mul-v c =
     let small : c.own_of-v.result.0 < 65536 =
-    omega (arith, c.own_of-v.ensures, c.shared_slice_known-2-1.given c.loop-q.q) in
+    omega (arith, c.own_of-v.ensures, c.type_inv.own c.loop-q.q) in
     omega (arith, small)
 
 pub overflow_add-v : goal.overflow_add-v
 overflow_add-v c =
     let small : c.own_of-v.result.0 < 65536 =
-    omega (arith, c.own_of-v.ensures, c.shared_slice_known-2-1.given c.loop-q.q) in
+    omega (arith, c.own_of-v.ensures, c.type_inv.own c.loop-q.q) in
     omega (arith, small)
 
 pub pattern_figure-requires : goal.pattern_figure-requires
 pattern_figure-requires c =
     let inside : c.loop-q.q < length (pattern_at c.args.case.now c.args.at) =
     omega (arith, c.loop-q-test.true, c.pattern_count-m.ensures.0) in
-    record { whole_section = c.pre.0; q_in_bounds = inside }
+    record { whole_section = c.requires.whole_section; q_in_bounds = inside }
 
 pub put_field-requires : goal.put_field-requires
 put_field-requires c =

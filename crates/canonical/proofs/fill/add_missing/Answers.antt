@@ -13,23 +13,23 @@ bounds-kids-above c =
 
 pub returns-then-has64 : goal.returns-then-has64
 returns-then-has64 c = λ spots base k.
-    there-drafted c.pre.0.0.few k _ _ c.pre.1.2.inside c.pre.0.1 (sym c.has64.ensures ∙ c.if-has64.true)
+    there-drafted c.requires.summary_given.0.few k _ _ c.requires.missing.2.inside c.requires.summary_given.1 (sym c.has64.ensures ∙ c.if-has64.true)
 
 pub append-requires : goal.append-requires
 append-requires c =
-    let m = c.pre.1.2 in record {
-      summary_given = (c.pre.0.0, drafted-roomy m.drafted);
+    let m = c.requires.missing.2 in record {
+      summary_given = (c.requires.summary_given.0, drafted-roomy m.drafted);
       v_lt_count = (
         m.inside,
-        c.pre.0.1,
-        new-room c.pre.0.0.few m.drafted _ _ m.inside c.pre.0.1 (sym c.has64.ensures ∙ c.if-has64.false) m.room,
+        c.requires.summary_given.1,
+        new-room c.requires.summary_given.0.few m.drafted _ _ m.inside c.requires.summary_given.1 (sym c.has64.ensures ∙ c.if-has64.false) m.room,
       );
     }
 
 pub returns : goal.returns
 returns c = λ spots base k.
-    let m = c.pre.1.2 in
-    let few = c.pre.0.0.few in
+    let m = c.requires.missing.2 in
+    let few = c.requires.summary_given.0.few in
     let missing = sym c.has64.ensures ∙ c.if-has64.false in
     drafted-by c.append.ensures.row c.append.ensures.counted
-    (new-drafted few k _ _ m.inside c.pre.0.1 missing (new-room few m.drafted _ _ m.inside c.pre.0.1 missing m.room))
+    (new-drafted few k _ _ m.inside c.requires.summary_given.1 missing (new-room few m.drafted _ _ m.inside c.requires.summary_given.1 missing m.room))

@@ -16,7 +16,7 @@ fill_node-total-requires c =
     let going : Filling (summary_in c.args.case.now) c.requires.by_index.0 c.requires.by_index.1 (draft c.loop-v.answer c.loop-v.on c.loop-v.kids) c.requires.by_index.2
     c.loop-v.v c.loop-v.total =
     c.loop-v.invariant _ _ _ c.requires.by_index.3 in
-    (c.pre.0, (going.spots, c.pre.1.1, filling-visitable c.pre.1.3 going c.loop-v-test.true))
+    record { summary_given = c.requires.summary_given; visitable = (going.spots, c.requires.by_index.1, filling-visitable c.requires.by_index.3 going c.loop-v-test.true) }
 
 pub overflow_add-v : goal.overflow_add-v
 overflow_add-v c =

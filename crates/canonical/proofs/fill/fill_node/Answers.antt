@@ -25,7 +25,7 @@ pub loop-rest-init : goal.loop-rest-init
 loop-rest-init c =
     let inside : c.summary_of.result.0 < length (summary_in c.args.case.now) =
     visitable-on c.requires.visitable.2 _ c.summary_of.ensures in
-    let given = c.pre.0 in
+    let given = c.requires.summary_given in
     visiting-start given.0.few inside c.summary_of.ensures given.1 c.strong_of-rest.ensures c.strong_of-rest.type_inv
 
 pub without64-rest-requires : goal.without64-rest-requires
@@ -34,8 +34,8 @@ without64-rest-requires c = first-room c.loop-rest.invariant.fits c.loop-rest-te
 pub add_missing-total-requires : goal.add_missing-total-requires
 add_missing-total-requires c =
     let g = c.loop-rest.invariant in
-    let m = c.pre.1.2 in
-    ((c.pre.0.0, visiting-inside g c.loop-rest-test.true c.first64-t.ensures), (_, c.pre.1.1, visiting-missing g c.loop-rest-test.true c.first64-t.ensures m))
+    let m = c.requires.visitable.2 in
+    record { summary_given = (c.requires.summary_given.0, visiting-inside g c.loop-rest-test.true c.first64-t.ensures); missing = (_, c.requires.visitable.1, visiting-missing g c.loop-rest-test.true c.first64-t.ensures m) }
 
 pub loop-rest-smaller : goal.loop-rest-smaller
 loop-rest-smaller c =
@@ -49,20 +49,20 @@ loop-rest-preserved c =
 pub shape_of-answer : goal.shape_of-answer
 shape_of-answer c =
     let kept : SameLengths (draft c.loop-rest.answer c.loop-rest.on c.loop-rest.kids) (draft c.args.answer.now c.args.on.now c.args.kids.now) =
-    let m = c.pre.1.2 in drafted-same m.drafted (c.loop-rest.invariant.drafted _ _ m.drafted) in
+    let m = c.requires.visitable.2 in drafted-same m.drafted (c.loop-rest.invariant.drafted _ _ m.drafted) in
     kept.bytes
 
 pub shape_of-on : goal.shape_of-on
 shape_of-on c =
     let kept : SameLengths (draft c.loop-rest.answer c.loop-rest.on c.loop-rest.kids) (draft c.args.answer.now c.args.on.now c.args.kids.now) =
-    let m = c.pre.1.2 in drafted-same m.drafted (c.loop-rest.invariant.drafted _ _ m.drafted) in
+    let m = c.requires.visitable.2 in drafted-same m.drafted (c.loop-rest.invariant.drafted _ _ m.drafted) in
     kept.on
 
 pub shape_of-kids : goal.shape_of-kids
 shape_of-kids c =
     let kept : SameLengths (draft c.loop-rest.answer c.loop-rest.on c.loop-rest.kids) (draft c.args.answer.now c.args.on.now c.args.kids.now) =
-    let m = c.pre.1.2 in drafted-same m.drafted (c.loop-rest.invariant.drafted _ _ m.drafted) in
+    let m = c.requires.visitable.2 in drafted-same m.drafted (c.loop-rest.invariant.drafted _ _ m.drafted) in
     kept.kids
 
 pub returns : goal.returns
-returns c = visiting-end c.loop-rest.invariant c.pre.1.2.inside c.loop-rest-test.false
+returns c = visiting-end c.loop-rest.invariant c.requires.visitable.2.inside c.loop-rest-test.false

@@ -11,7 +11,7 @@ loop-v-init c = filling-start (omega arith)
 
 pub path_of-s-requires : goal.path_of-s-requires
 path_of-s-requires c =
-    ((c.requires.0, c.requires.1), (search rules, c.loop-v.invariant.on))
+    record { summary_given = (c.requires.0, c.requires.1); v_in_bounds = search rules; on_paths = c.loop-v.invariant.on }
 
 pub returns-then-s-n : goal.returns-then-s-n
 returns-then-s-n c =

@@ -9,7 +9,7 @@ use Rattle.fitting.proofs.paths.root_path.Goals as goal
 
 pub summary_label-label-requires : goal.summary_label-label-requires
 summary_label-label-requires c =
-    (c.requires.0.whole, omega (arith, c.requires.0.tree.inhabited, length-as_document (summary_in c.args.case.now)))
+    record { whole_section = c.requires.0.whole; s_in_bounds = omega (arith, c.requires.0.tree.inhabited, length-as_document (summary_in c.args.case.now)) }
 
 pub returns-then-own-label : goal.returns-then-own-label
 returns-then-own-label c =

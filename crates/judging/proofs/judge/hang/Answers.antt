@@ -15,4 +15,4 @@ loop-x-preserved c =
 
 pub returns : goal.returns
 returns c =
-    hang-end c.pre.0 c.args.n c.args.g c.loop-x.invariant c.loop-x-test.false c.pre.1 c.node-h.ensures c.up-x.ensures
+    hang-end c.requires.0 c.args.n c.args.g c.loop-x.invariant c.loop-x-test.false c.requires.1 c.node-h.ensures c.up-x.ensures

@@ -26,7 +26,7 @@ bounds-hangs-c c = let i = c.loop-c.invariant in omega (arith, i.0.base.pattern.
 
 pub folded-set-requires : goal.folded-set-requires
 folded-set-requires c =
-    (c.loop-c.invariant.0, (omega (arith, c.loop-c-test.true), omega (arith, c.loop-c.invariant.1.top)))
+    record { judgeable = c.loop-c.invariant.0; node_nonzero = (omega (arith, c.loop-c-test.true), omega (arith, c.loop-c.invariant.1.top)) }
 
 pub slice_bounds-join-end : goal.slice_bounds-join-end
 slice_bounds-join-end c = let i = c.loop-c.invariant in sym (i.1.long ∙ i.2)

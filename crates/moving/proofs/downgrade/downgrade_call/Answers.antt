@@ -8,13 +8,17 @@ use Rattle.moving.proofs.downgrade.downgrade_call.Goals as goal
 pub returns-then-refused-ne0 : goal.returns-then-refused-ne0
 returns-then-refused-ne0 c =
     let small : AreBytes c.args.case.now =
-    (λ i. omega (arith, c.shared_slice_known-1.given i)) in
+    (λ i. omega (arith, c.type_inv.case i)) in
     downgrade-no _ small _ c.downgrade_refusal-refused.ensures c.if-refused-ne0.true
 
 pub write_old-count-requires : goal.write_old-count-requires
 write_old-count-requires c =
-    downgrade-fits _ (small asked) c.args.answer.now c.downgrade_refusal-refused.ensures c.if-refused-ne0.false
+    let small : AreBytes c.args.case.now =
+    (λ i. omega (arith, c.type_inv.case i)) in
+    let both = downgrade-fits _ small c.args.answer.now c.downgrade_refusal-refused.ensures c.if-refused-ne0.false in record { b_value = both.0; b_value_2 = both.1.0; b_in_bounds = both.1.1 }
 
 pub returns : goal.returns
 returns c =
-    downgrade-yes _ (small asked) _ c.downgrade_refusal-refused.ensures c.if-refused-ne0.false c.write_old-count.ensures
+    let small : AreBytes c.args.case.now =
+    (λ i. omega (arith, c.type_inv.case i)) in
+    downgrade-yes _ small _ c.downgrade_refusal-refused.ensures c.if-refused-ne0.false (c.write_old-count.ensures.end, c.write_old-count.ensures.buffer)

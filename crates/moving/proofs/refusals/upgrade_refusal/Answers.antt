@@ -6,8 +6,10 @@ use native.Mathlib.Omega.{arith}
 use lib.ListN.{replicate}
 use lib.Seq.{length-take-le}
 use borrow.Author.Rules.{rules}
-use Rattle.model.specs.OldForm.{old_case_of, old_counts_in_range, old_questions}
+use Rattle.model.specs.Questions.{buffer_large_enough}
+use Rattle.model.specs.OldForm.{old_case_of, old_whole, old_counts_in_range, old_questions}
 use Rattle.model.specs.Moving.{upgrade_refusal}
+use Rattle.model.specs.Bytes.{AreBytes}
 use Rattle.model.proofs.Moving.{upgraded-small}
 use Rattle.questions.proofs.TestLaws.{said-yes}
 use Rattle.questions.proofs.RefusalLaws.{asked}
@@ -16,32 +18,50 @@ use Rattle.moving.proofs.refusals.upgrade_refusal.Goals as goal
 
 pub write_new-end-requires : goal.write_new-end-requires
 write_new-end-requires c =
+    let small : AreBytes c.args.b.now =
+    (λ i. omega (arith, c.type_inv.b i)) in
+    let whole : old_whole c.args.b.now ≡ true =
+    search (rules, said-yes) in
     let counts : old_counts_in_range (old_case_of c.args.b.now) ≡ true =
     search (rules, said-yes) in
-    (whole d, upgraded-small _ (small d) (whole d) counts)
+    record { b_value = whole; b_in_bounds = upgraded-small _ small whole counts }
 
 pub slice_bounds-moved-end : goal.slice_bounds-moved-end
 slice_bounds-moved-end c =
+    let small : AreBytes c.args.b.now =
+    (λ i. omega (arith, c.type_inv.b i)) in
+    let whole : old_whole c.args.b.now ≡ true =
+    search (rules, said-yes) in
     let counts : old_counts_in_range (old_case_of c.args.b.now) ≡ true =
     search (rules, said-yes) in
-    let room = upgraded-small _ (small d) (whole d) counts in
+    let room = upgraded-small _ small whole counts in
     let end = c.write_new-end.ensures.end in
     omega arith
 
 pub slice_bounds-case_refusal-end : goal.slice_bounds-case_refusal-end
 slice_bounds-case_refusal-end c =
+    let small : AreBytes c.args.b.now =
+    (λ i. omega (arith, c.type_inv.b i)) in
+    let whole : old_whole c.args.b.now ≡ true =
+    search (rules, said-yes) in
     let counts : old_counts_in_range (old_case_of c.args.b.now) ≡ true =
     search (rules, said-yes) in
-    let room = upgraded-small _ (small d) (whole d) counts in
+    let room = upgraded-small _ small whole counts in
     let end = c.write_new-end.ensures.end in
     sym (length-take-le _ _ (omega arith))
 
 pub returns : goal.returns
 returns c =
+    let small : AreBytes c.args.b.now =
+    (λ i. omega (arith, c.type_inv.b i)) in
+    let large : buffer_large_enough c.args.buffer ≡ true =
+    search (rules, said-yes) in
+    let whole : old_whole c.args.b.now ≡ true =
+    search (rules, said-yes) in
     let counts : old_counts_in_range (old_case_of c.args.b.now) ≡ true =
     search (rules, said-yes) in
-    asked-as-new _ (small d) (whole d) counts _ (large d) (replicate 712 0)
-    c.write_new-end.ensures c.case_refusal.ensures
+    asked-as-new _ small whole counts _ large (replicate 712 0)
+    (c.write_new-end.ensures.end, c.write_new-end.ensures.buffer) c.case_refusal.ensures
 
 pub buffer_large_enough-requires : goal.buffer_large_enough-requires
 unfolding upgrade_refusal old_questions

@@ -47,7 +47,7 @@ overflow_mul-result c =
     record { fits = omega (arith, r.few, e, f) }
 
 pub returns : goal.returns
-returns c = let both = new-written _ c.pre.0 c.first_at-first.ensures c.second_at-second.ensures _ c.pre.1 c.copy_fields.ensures c.write_wider-set.ensures.end c.write_wider-set.ensures.buffer
+returns c = let both = new-written _ c.requires.b_value c.first_at-first.ensures c.second_at-second.ensures _ c.requires.b_in_bounds c.copy_fields.ensures c.write_wider-set.ensures.end c.write_wider-set.ensures.buffer
     c.put_field.ensures c.write_wider-end.ensures.end c.write_wider-end.ensures.buffer in record { end = both.0; buffer = both.1 }
 
 pub first_at-first-requires : goal.first_at-first-requires

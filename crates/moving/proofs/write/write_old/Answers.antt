@@ -42,7 +42,7 @@ overflow_mul-result c =
     record { fits = omega (arith, r.few, e, f) }
 
 pub returns : goal.returns
-returns c = let both = old-written _ c.pre.0 c.pre.1.0 c.first_at-first.ensures c.set_at-set.ensures _ c.pre.1.1 c.copy_fields.ensures
+returns c = let both = old-written _ c.requires.b_value c.requires.b_value_2 c.first_at-first.ensures c.set_at-set.ensures _ c.requires.b_in_bounds c.copy_fields.ensures
     c.write_narrower-second.ensures.end c.write_narrower-second.ensures.buffer c.write_narrower-old_end.ensures.end c.write_narrower-old_end.ensures.buffer in record { end = both.0; buffer = both.1 }
 
 pub first_at-first-requires : goal.first_at-first-requires
