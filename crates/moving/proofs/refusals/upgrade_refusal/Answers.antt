@@ -81,7 +81,7 @@ returns-then-not-old_whole c = search asked
 
 pub old_counts_in_range-requires : goal.old_counts_in_range-requires
 unfolding upgrade_refusal old_questions
-old_counts_in_range-requires c = whole c
+old_counts_in_range-requires c = search (rules, said-yes)
 
 pub returns-then-not-old_counts_in_range : goal.returns-then-not-old_counts_in_range
 unfolding upgrade_refusal old_questions

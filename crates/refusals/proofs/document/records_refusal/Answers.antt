@@ -5,6 +5,8 @@ use Rattle.model.specs.Questions.{document_figures}
 use Rattle.questions.proofs.LoopLaws.{kept}
 use Rattle.questions.proofs.RecordLaws.{remembered-none, remembered-stop, remembered-more, remembered-end}
 use Rattle.refusals.proofs.document.records_refusal.Goals as goal
+use Rattle.refusals.proofs.document.records_refusal.Goals.{then-x-ne0, else-x-ne0}
+use mathlib.Core.Logic.{inl, inr}
 
 pub document_count-n-requires : goal.document_count-n-requires
 unfolding document_figures
@@ -32,8 +34,11 @@ loop-i-smaller c = search kept
 
 pub loop-i-preserved : goal.loop-i-preserved
 unfolding document_figures
-loop-i-preserved c = remembered-more 10 (omega arith) (omega arith) _ _ _ _ _ _ (omega arith) c.record_refusal-x.ensures _ c.loop-i.invariant
-    c.if-x-eq10.false c.if-x-ne0.branch (λ w. w.taken) (λ w. w.left)
+loop-i-preserved c =
+    elim c.if-x-ne0.branch [
+      then-x-ne0 w ↦ remembered-more 10 (omega arith) (omega arith) _ _ _ _ _ _ (omega arith) c.record_refusal-x.ensures _ {Yes = Unit {0}} {No = ⊥} c.loop-i.invariant c.if-x-eq10.false (inl (tt, w.r-is)) (λ _. w.if-x-ne0.true) absurd
+      | else-x-ne0 w ↦ remembered-more 10 (omega arith) (omega arith) _ _ _ _ _ _ (omega arith) c.record_refusal-x.ensures _ {Yes = ⊥} {No = Unit {0}} c.loop-i.invariant c.if-x-eq10.false (inr (tt, w.r-is)) absurd (λ _. w.if-x-ne0.false)
+    ]
 
 pub returns : goal.returns
 unfolding document_figures
