@@ -123,7 +123,7 @@ module _ (b : List ℕ) where
           few = subst (λ (P : Pattern). length P ≤ 64) (sym table-summary) (omega (arith, a.facts.summary_size, length-map (summary_in b) read_as));
           positions =
               subst (λ (P : Pattern). (i : ℕ) → i < length P → position P i < 256) (sym table-summary)
-              (λ i h. let z : position (as_pattern (summary_in b)) i ≡ 0 = ap (λ (r : PatternRecord). r.position) (ListN.get_or_map read_as (summary_in b) i no_summary_record) in omega arith);
+              (λ i h. let z : position (as_pattern (summary_in b)) i ≡ 0 = ap (λ (r : PatternRecord). r.position) (ListN.get_or-map read_as (summary_in b) i no_summary_record) in omega arith);
         }
 
     narrow-fields : (Q : Pattern) → flat_map (fields_of summary_width) Q ≡ flat_map summary_fields (as_summary Q)

@@ -21,13 +21,12 @@ append-n-requires c =
 
 pub loop-rest-smaller : goal.loop-rest-smaller
 loop-rest-smaller c =
-    rest-less c.loop-rest.inv.fits c.loop-rest-test.taken c.first64-x.ensures c.without64-rest.ensures
+    rest-less c.loop-rest.invariant.fits c.loop-rest-test.true c.first64-x.ensures c.without64-rest.ensures
 
 pub loop-rest-preserved : goal.loop-rest-preserved
 loop-rest-preserved c =
-    let k = c.append-n.auto.1.1.1.1 in
-    chaining-next c.loop-rest.inv c.loop-rest-test.taken c.first64-x.ensures c.requires.summary_given.0.few c.without64-rest.ensures
-    c.append-n.ensures.counted c.append-n.ensures.row (record { bytes = k.0; on = k.1.0; kids = k.1.1.0 })
+    chaining-next c.loop-rest.invariant c.loop-rest-test.true c.first64-x.ensures c.requires.summary_given.0.few c.without64-rest.ensures
+    c.append-n.ensures.counted c.append-n.ensures.row (record { bytes = c.append-n.auto.answer; on = c.append-n.auto.on; kids = c.append-n.auto.kids })
 
 pub shape_of-answer : goal.shape_of-answer
 shape_of-answer c = c.loop-rest.invariant.same.bytes

@@ -85,13 +85,13 @@ append_chain-count-requires c =
     c.loop-q.invariant.laying _ (laying-start _ _ _ c.root-count.ensures) in
     let inside : c.loop-q.q < length (pattern_at c.args.case.now c.args.at) =
     omega (arith, c.loop-q-test.true, c.pattern_count-m.ensures) in
-    record { summary_given = ((given c).summary, drafted-roomy laid.drafted); hanging = next-hanging (given c) laid c.loop-q.inv.positive inside (read c laid) }
+    record { summary_given = ((given c).summary, drafted-roomy laid.drafted); hanging = next-hanging (given c) laid c.loop-q.invariant.positive inside (read c laid) }
 
 next : (c : goal.After-append_chain-count) (base : Draft) → LaidAt (goal.at.? c).At-loop-q base
-    → LaidUpTo (goal.at.? c).Start base (draft c.append_chain-count.new.1.1.1.1.0 c.append_chain-count.new.1.1.1.1.1.0 c.append_chain-count.new.1.1.1.1.1.1.0)
+    → LaidUpTo (goal.at.? c).Start base (draft c.append_chain-count.new.answer c.append_chain-count.new.on c.append_chain-count.new.kids)
     (set c.loop-q.own c.loop-q.q (c.append_chain-count.result - 1)) (c.loop-q.q + 1) c.append_chain-count.result
 next c base l =
-    laying-next (given c) l c.loop-q.inv.positive (inside (goal.at.? c).After-pattern_parent-p) (read c l) c.append_chain-count.ensures
+    laying-next (given c) l c.loop-q.invariant.positive (inside (goal.at.? c).After-pattern_parent-p) (read c l) c.append_chain-count.ensures
 
 pub overflow_sub-own : goal.overflow_sub-own
 overflow_sub-own c =
@@ -119,7 +119,7 @@ pub loop-q-preserved : goal.loop-q-preserved
 loop-q-preserved c =
     let inside : c.loop-q.q < length (pattern_at c.args.case.now c.args.at) =
     omega (arith, c.loop-q-test.true, c.pattern_count-m.ensures) in
-    record { positive = omega arith; turns = omega (arith, inside); laying = λ base l. next c base (c.loop-q.inv.laying base l) }
+    record { positive = omega arith; turns = omega (arith, inside); laying = λ base l. next c base (c.loop-q.invariant.laying base l) }
 
 pub shape_of-answer : goal.shape_of-answer
 shape_of-answer c =

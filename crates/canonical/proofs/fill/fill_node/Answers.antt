@@ -39,11 +39,11 @@ add_missing-total-requires c =
 
 pub loop-rest-smaller : goal.loop-rest-smaller
 loop-rest-smaller c =
-    rest-less c.loop-rest.inv.fits c.loop-rest-test.taken c.first64-t.ensures c.without64-rest.ensures
+    rest-less c.loop-rest.invariant.fits c.loop-rest-test.true c.first64-t.ensures c.without64-rest.ensures
 
 pub loop-rest-preserved : goal.loop-rest-preserved
 loop-rest-preserved c =
-    visiting-next c.loop-rest.inv c.loop-rest-test.taken c.first64-t.ensures c.without64-rest.ensures
+    visiting-next c.loop-rest.invariant c.loop-rest-test.true c.first64-t.ensures c.without64-rest.ensures
     c.add_missing-total.ensures
 
 pub shape_of-answer : goal.shape_of-answer

@@ -1,0 +1,17 @@
+-- `normalising::rows::place` meets its contract: the place is not before m. Assumes nothing.
+use Prim.Native.Nat.{◌-◌}
+use mathlib.Core.Path.{refl}
+use Rattle.normalising.proofs.KeyLaws.{placing-start, placing-step, placing-here, placing-end}
+use Rattle.normalising.proofs.rows.place.Goals as goal
+
+pub loop-m-init : goal.loop-m-init
+loop-m-init c = placing-start
+
+pub returns-then-opens : goal.returns-then-opens
+returns-then-opens c = placing-here c.loop-m.invariant c.loop-m-test.true c.opens.ensures c.if-opens.true
+
+pub loop-m-preserved : goal.loop-m-preserved
+loop-m-preserved c = placing-step c.loop-m.invariant c.loop-m-test.true c.opens.ensures c.if-opens.false
+
+pub returns : goal.returns
+returns c = placing-end c.loop-m.invariant refl c.loop-m-test.false
