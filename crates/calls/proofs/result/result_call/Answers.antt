@@ -1,0 +1,60 @@
+-- `calls::result::result_call` meets its contract: the model's call goes by the same refusal, and its answer is the same test's. Assumes
+-- nothing.
+use Prim.Native.Nat.{ℕ}
+use mathlib.Core.Path.{◌≡◌, sym, ap, ◌∙◌, subst}
+use mathlib.Core.Bool.{Bool, true, false}
+use lib.ListN.{length}
+use Rattle.model.specs.Pattern.{Pattern, arity}
+use Rattle.model.specs.Embeddings.{is_result}
+use Rattle.model.specs.Bytes.{document_of, list_of}
+use Rattle.model.specs.Demands.{ResultAnswered}
+use Rattle.model.specs.Facts.{ListFacts}
+use Rattle.model.proofs.CallFacts.{ResultFacts, accepted-result}
+use Rattle.model.proofs.Calls.{result-refused, result-accepted}
+use Rattle.model.proofs.Demands.{result-answered}
+use Rattle.format.proofs.GivenLaws.{given-document}
+use Rattle.refusals.proofs.NumberedLaws.{numbered-pattern}
+use Rattle.refusals.proofs.AcceptedLaws.{accepted-whole, numbered-facts, given-numbered}
+use Rattle.calls.proofs.AnswerLaws.{answer-refused, answer-given}
+use Rattle.calls.proofs.result.result_call.Goals as goal
+
+pub returns-then-refused-ne0 : goal.returns-then-refused-ne0
+returns-then-refused-ne0 c =
+    let a = c.args in
+    result-answered _ _ _ _ (answer-refused _ (result-refused a.case.now a.number a.document.now a.list.now) c.result_refusal-refused.ensures c.if-refused-ne0.true)
+
+pub numbered_at-requires : goal.numbered_at-requires
+numbered_at-requires c =
+    let facts : (let a = c.args in ResultFacts a.case.now a.number a.document.now a.list.now) =
+    let a = c.args in
+    accepted-result a.case.now a.number a.document.now a.list.now (sym c.result_refusal-refused.ensures ∙ c.if-refused-ne0.false) in
+    let F = facts in record { b_value = accepted-whole F.case; number_value = F.number }
+
+pub is_result-requires : goal.is_result-requires
+is_result-requires c =
+    let facts : (let a = c.args in ResultFacts a.case.now a.number a.document.now a.list.now) =
+    let a = c.args in
+    accepted-result a.case.now a.number a.document.now a.list.now (sym c.result_refusal-refused.ensures ∙ c.if-refused-ne0.false) in
+    let a = c.args in
+    let F = facts in
+    record { pattern_given = (given-numbered F.case a.number F.number c.numbered_at.ensures, numbered-facts F.case a.number F.number c.numbered_at.ensures, given-document F.document); list_facts = subst (λ (P : Pattern). ListFacts (arity P) (length (document_of a.document.now)) a.list.now) (numbered-pattern a.case.now a.number _ F.number c.numbered_at.ensures) F.list }
+
+pub returns-then-is_result : goal.returns-then-is_result
+returns-then-is_result c =
+    let a = c.args in
+    let F = accepted-result a.case.now a.number a.document.now a.list.now (sym c.result_refusal-refused.ensures ∙ c.if-refused-ne0.false) in
+    result-answered _ _ _ _
+    (answer-given _ _ (result-accepted a.case.now a.number a.document.now a.list.now) c.result_refusal-refused.ensures c.if-refused-ne0.false
+    (c.is_result.ensures
+    ∙ ap (λ (P : Pattern). is_result P (document_of a.document.now) (list_of a.list.now)) (sym (numbered-pattern a.case.now a.number _ F.number c.numbered_at.ensures)))
+    c.if-is_result.true)
+
+pub returns : goal.returns
+returns c =
+    let a = c.args in
+    let F = accepted-result a.case.now a.number a.document.now a.list.now (sym c.result_refusal-refused.ensures ∙ c.if-refused-ne0.false) in
+    result-answered _ _ _ _
+    (answer-given _ _ (result-accepted a.case.now a.number a.document.now a.list.now) c.result_refusal-refused.ensures c.if-refused-ne0.false
+    (c.is_result.ensures
+    ∙ ap (λ (P : Pattern). is_result P (document_of a.document.now) (list_of a.list.now)) (sym (numbered-pattern a.case.now a.number _ F.number c.numbered_at.ensures)))
+    c.if-is_result.false)
