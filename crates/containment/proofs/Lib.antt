@@ -1,3 +1,4 @@
 pub mod StepLoop
+pub mod StepReady
 pub mod SkipLoop
 pub mod AnswerLaws

@@ -7,8 +7,6 @@ use mathlib.Core.Logic.{inl, inr}
 use mathlib.Core.List.{List, [], ◌∷◌, ◌++◌, flat_map, Memᴰ}
 use native.Mathlib.Omega.{arith}
 use native.Mathlib.Numerals.{add-one}
-use denote.Enum.Declared.{tag_of}
-use types.Run.{OneOf}
 use lib.Bits.{bit_and}
 use lib.Count.{count_trailing_zeros}
 use lib.Dec.{eqb}
@@ -24,7 +22,6 @@ use Rattle.judging.specs.Stepping.{Candidates, step_from, reach_by, places_by, s
 use Rattle.model.proofs.KeepLaws.{flat-cons}
 use Rattle.bits.proofs.MaskMembers.{members-none, first-left}
 use Rattle.containment.specs.Steps.{going_by, progress_of, Stepped}
-use Rattle.containment.specs.contracts.Run.{the_type}
 use Rattle.containment.specs.declared.Budget.{Budget}
 use Rattle.containment.specs.declared.Run.{Run}
 use Rattle.containment.specs.declared.Run.TheVariants.{Going, Failed, Stopped}
@@ -81,11 +78,6 @@ run-sum test (suc left) tried l t (x ∷ xs) e = go (test x) e (λ a b p. run-su
         → ((a c : ℕ) → run test (going a c) xs ≡ going l t → l + t ≡ a + c) → l + t ≡ suc left + tried
     go true p rest = let k : l + t ≡ left + suc tried = rest left (suc tried) p in omega arith
     go false p rest = let q : failed (suc tried) x ≡ going l t = sym (run-failed test (suc tried) x xs) ∙ p in let z : ◌≡◌ {A = ℕ} 0 1 = cc in absurd (omega arith)
-
--- `Going` has tag 0
-no-tag : OneOf (1 ∷ 2 ∷ []) 0 → ⊥
-no-tag (inl e) = absurd (omega arith)
-no-tag (inr e) = absurd (omega arith)
 
 module _ (test : List ℕ → Bool) (P : Pattern) (M : Candidates) where
   -- what is left to step through with the places of node q in `rest`, after the images es
@@ -184,9 +176,9 @@ module _ {test : List ℕ → Bool} {P : Pattern} {M : Candidates} {q : ℕ} {n 
 
   -- the verdict is known
   pub step-over : {images : List ℕ} {rest v rest' : ℕ} {now : Budget} {images' images'' : List ℕ} (r : Run) → StepInv test P M q n entry images rest now → q < length P → (rest ≡ 0 → ⊥)
-      → v ≡ count_trailing_zeros 64 rest → rest' ≡ rest - 2 ^ v → images' ≡ set images q v → Stepped test P M (q + 1) now images' images'' r → OneOf (1 ∷ 2 ∷ []) (tag_of the_type r)
+      → v ≡ count_trailing_zeros 64 rest → rest' ≡ rest - 2 ^ v → images' ≡ set images q v → Stepped test P M (q + 1) now images' images'' r → ((x : Budget) → r ≡ Going x → ⊥)
       → Stepped test P M q n entry images'' r
-  step-over (Going a) I h ne p p' s S tag = absurd (no-tag tag)
+  step-over (Going a) I h ne p p' s S other = absurd (other a refl)
   step-over {rest' = rest'} {images'' = images''} (Failed a) I h ne p p' s S tag =
       record {
         kept = next-kept I h ne p p' s S;
