@@ -6,8 +6,6 @@ use mathlib.Core.Path.{◌≡◌, refl, sym, ap, ap₂, ◌∙◌, subst}
 use mathlib.Core.Logic.{inl, inr}
 use mathlib.Core.List.{List, [], ◌∷◌}
 use native.Mathlib.Omega.{arith}
-use denote.Enum.Declared.{tag_of}
-use types.Run.{OneOf}
 use lib.ListN.{length, take}
 use Rattle.model.specs.Limits.{max_pattern, max_position}
 use Rattle.model.specs.Summary.{Summary}
@@ -28,25 +26,19 @@ use Rattle.canonical.specs.Shown.{shown_document, Showable}
 use Rattle.containment.specs.Answer.{answer_of, shown_of, case_by, verdict_of, CaseGiven}
 use Rattle.containment.specs.declared.Containment.{Containment}
 use Rattle.containment.specs.declared.Containment.TheVariants.{NotContained}
-use Rattle.containment.specs.contracts.Containment.{the_type}
 use Rattle.deciding.specs.Told.{Told}
 
 -- ---- included and stopped
 
--- `NotContained` has tag 1
-no-tag : OneOf (0 ∷ 2 ∷ []) 1 → ⊥
-no-tag (inl e) = absurd (omega arith)
-no-tag (inr e) = absurd (omega arith)
-
--- a verdict of another tag shows nothing
-pub told-nothing : {c : Case} {limit : ℕ} (buffer : List ℕ) {r : Containment} → r ≡ answer_of (verdict_of c limit) → OneOf (0 ∷ 2 ∷ []) (tag_of the_type r) → Told c limit buffer buffer r
+-- another verdict than "not included" shows nothing
+pub told-nothing : {c : Case} {limit : ℕ} (buffer : List ℕ) {r : Containment} → r ≡ answer_of (verdict_of c limit) → ((n : ℕ) → r ≡ NotContained n → ⊥) → Told c limit buffer buffer r
 unfolding shown
-told-nothing {c} {limit} buffer {r} e tag =
+told-nothing {c} {limit} buffer {r} e other =
     record { verdict = e; buffer = sym (ap (λ (w : List ℕ). written_at_front w buffer) (nothing (verdict_of c limit) e) ∙ front-none buffer) }
   where
     nothing : (v : Verdict) → r ≡ answer_of v → shown c.summary c.first v ≡ []
     nothing (included n) p = refl
-    nothing (not_included n es) p = absurd (no-tag (subst (λ (x : Containment). OneOf (0 ∷ 2 ∷ []) (tag_of the_type x)) p tag))
+    nothing (not_included n es) p = absurd (other n p)
     nothing (stopped n) p = refl
 
 -- ---- not included
