@@ -6,33 +6,33 @@ use Rattle.printing.proofs.answer_text.Goals as goal
 pub line-requires : goal.line-requires
 unfolding refused_text
 line-requires c =
-    told-room _ c.told-1.given.1 c.requires.1
+    told-room _ c.in-Refused.is c.requires.1
 
 pub first_lines-requires : goal.first_lines-requires
 first_lines-requires c =
-    told-room _ c.told-in-Contained-1.given.1 c.requires.1
+    told-room _ c.in-Contained.is c.requires.1
 
 pub shown_text-requires : goal.shown_text-requires
 shown_text-requires c =
-    (told-whole _ c.told-in-NotContained-1.given.1 c.requires.0, told-room _ c.told-in-NotContained-1.given.1 c.requires.1)
+    (told-whole _ c.in-NotContained.is c.requires.0, told-room _ c.in-NotContained.is c.requires.1)
 
 pub first_lines-requires-in-Stopped : goal.first_lines-requires-in-Stopped
 first_lines-requires-in-Stopped c =
-    told-room _ c.told-in-Stopped-1.given.1 c.requires.1
+    told-room _ c.in-Stopped.is c.requires.1
 
 pub returns-in-Refused : goal.returns-in-Refused
 unfolding refused_text
 returns-in-Refused c =
-    told-put _ c.told-1.given.1 c.line.ensures
+    told-put _ c.in-Refused.is c.line.ensures
 
 pub returns-in-Contained : goal.returns-in-Contained
 returns-in-Contained c =
-    told-put _ c.told-in-Contained-1.given.1 c.first_lines.ensures
+    told-put _ c.in-Contained.is c.first_lines.ensures
 
 pub returns-in-NotContained : goal.returns-in-NotContained
 returns-in-NotContained c =
-    told-put _ c.told-in-NotContained-1.given.1 c.shown_text.ensures
+    told-put _ c.in-NotContained.is c.shown_text.ensures
 
 pub returns-in-Stopped : goal.returns-in-Stopped
 returns-in-Stopped c =
-    told-put _ c.told-in-Stopped-1.given.1 c.first_lines-in-Stopped.ensures
+    told-put _ c.in-Stopped.is c.first_lines-in-Stopped.ensures
