@@ -1,57 +1,58 @@
 -- Demands 1, 2 and 3, each sentence a theorem about the outcome of a call, and separation and sum over runs of calls, proved by citing
 -- the layers below; and of each call, that whoever has the model's outcome has the record of its contract. Assumes nothing.
-use Prim.Native.Nat.{ℕ, suc, ◌+◌, ◌*◌, ◌≤◌, ◌<◌}
+use Prim.Native.Nat.{ℕ, ◌≤◌, ◌<◌}
 use mathlib.Core.Path.{◌≡◌, refl, sym, ap, ◌∙◌, subst}
 use mathlib.Core.Bool.{Bool, true, false, not, true≢false}
 use mathlib.Core.Logic.Iff
 use mathlib.Core.Logic.{◌⊎◌, ⊎_elim, ◌↔◌}
 use mathlib.Core.List.Memᴰ
-use mathlib.Core.List.{List, [], ◌++◌, map, Memᴰ}
+use mathlib.Core.List.{List, map, Memᴰ}
 use native.Mathlib.Omega.{arith}
 use native.Mathlib.Nat.{zero-add}
 use lib.Count.{ones}
 use lib.Dec.{eqb}
-use lib.ListN.{length, get_or, take, length-append, length-map}
+use lib.ListN.{length, get_or}
 use lib.Seq.{set-get_or, get_or-set_same, get_or-set_other}
 use borrow.Author.Tests.{lt-ltb, eq-eqb, ne_eqb}
 use Rattle.model.specs.Lists.{up_from}
-use Rattle.model.specs.Limits.{callers, max_verdicts, max_pattern, max_position, max_canonical, min_buffer, max_figure, document_width}
+use Rattle.model.specs.Limits.{callers, max_verdicts, max_pattern, max_canonical, min_buffer, max_figure}
 use Rattle.model.specs.Tree.{Document, label_of, figure_of}
 use Rattle.model.specs.Summary.{Summary}
-use Rattle.model.specs.Pattern.{Pattern, pattern_parent, position, arity, return_nodes, SummaryEmbedding, Contained, CounterExample}
-use Rattle.model.specs.Embeddings.{image_in, summary_embeddings, is_result, nodes_at, path_mask, path_count}
+use Rattle.model.specs.Pattern.{Pattern, pattern_parent, position, SummaryEmbedding}
+use Rattle.model.specs.Embeddings.{image_in, is_result, nodes_at, path_mask, path_count}
 use Rattle.model.specs.Fitting.{fits}
-use Rattle.model.specs.Canonical.{canonical, canonical_spots, own_nodes, own_result, covered, own_figure}
-use Rattle.model.specs.Verdict.{Verdict, included, not_included, stopped, verdict, tried_of}
-use Rattle.model.specs.Bytes.{AreBytes, Case, case_of, document_of, list_of, document_fields, section_fields, encode_document, encode_counted, written_at_front}
+use Rattle.model.specs.Canonical.{canonical, canonical_spots, own_nodes, own_figure}
+use Rattle.model.specs.Verdict.{Verdict, verdict}
+use Rattle.model.specs.Bytes.{AreBytes, Case, case_of, document_of, list_of, document_fields, section_fields, written_at_front}
 use Rattle.model.specs.Questions.{selected, case_questions, verdict_refusal, minimise_refusal, fits_refusal, result_refusal, nodes_refusal, paths_refusal, layout_refusal}
-use Rattle.model.specs.Calls.{kind_included, kind_not_included, kind_stopped, kind_of, shown, Received, OnEight, VerdictOutcome, verdict_accepted, verdict_call, tally_of, charged, tallied_call, TestAnswer, fits_call, result_call, CountOutcome, nodes_accepted, nodes_call, PathsAnswer, paths_accepted, paths_call, LaidRecord, laid_record, LayoutOutcome, layout_accepted, layout_call, laid_records}
+use Rattle.model.specs.Calls.{Received, OnEight, VerdictOutcome, verdict_accepted, verdict_call, tally_of, charged, tallied_call, TestAnswer, fits_call, result_call, CountOutcome, nodes_accepted, nodes_call, PathsAnswer, paths_accepted, paths_call, LaidRecord, laid_record, LayoutOutcome, layout_accepted, layout_call, laid_records}
 use Rattle.model.specs.Striking.{childless, may_go, verdict_without, Struck, strike_all, MinimiseOutcome, minimise_accepted, minimise_call, tallied_minimise}
 use Rattle.model.specs.Runs.{Call, of_one, of_other, given, after, receipts, tallies_after, calls_of, received_by}
 use Rattle.model.specs.Facts.{SummaryFacts, PatternFacts, MemberFacts, CaseFacts}
 use Rattle.model.specs.Moving.{upgrade_refusal, downgrade_refusal, upgraded, downgraded, moved_accepted, moved_call, upgrade_call, downgrade_call}
 use Rattle.model.specs.Normal.{InOrder, normalise_refusal, normalised, normalise_call}
-use Rattle.model.specs.Demands.{TestTold, FitsTold, ResultTold, NodesTold, PathsTold, LayoutTold, SomeCounterExample, AllEmbeddingsPass, SomeEmbeddingFails, Shown, ReadsBack, Demand3, FitsAnswered, ResultAnswered, NodesAnswered, PathsAnswered, LayoutAnswered, ChargedAnswered, VerdictAnswered, TalliedAnswered, MayGo, Shortened, StruckTold, MinimiseAnswered, TalliedMinimised, Separated, Summed, MoveAnswered, UpgradeAnswered, DowngradeAnswered, Normalised, NormaliseAnswered}
+use Rattle.model.specs.Demands.{TestTold, FitsTold, ResultTold, NodesTold, PathsTold, LayoutTold, Shown, ReadsBack, Demand3, FitsAnswered, ResultAnswered, NodesAnswered, PathsAnswered, LayoutAnswered, ChargedAnswered, VerdictAnswered, TalliedAnswered, MayGo, Shortened, StruckTold, MinimiseAnswered, TalliedMinimised, Separated, Summed, MoveAnswered, UpgradeAnswered, DowngradeAnswered, Normalised, NormaliseAnswered}
 use Rattle.model.proofs.Normal.{accepted-normalise, normalise-accepted, normal-bytes, alike-exact, normal-twice, case-order, case-small}
 use Rattle.model.proofs.RenumberedVerdict.{same_kind_lem}
 use Rattle.model.proofs.ListLaws.{and_intro, below_all, length-map-up_from, get_or-map-up_from}
-use Rattle.model.proofs.ReturnNodes.{length-return_nodes}
 use Rattle.model.proofs.Results.{result-exact, nodes-at-exact, nodes-at-ascending, path-mask-exact, path-mask-beyond, path-count-ones}
 use Rattle.model.proofs.Fitting.{fits-exact}
-use Rattle.model.proofs.Decision.{placed as placed-listed, listed-fits, listed-result, listed_small, contained-exact, contained-or-counter, counter-exact, failing-canonical}
-use Rattle.model.proofs.Verdict.{Included, IsIncluded, IsNotIncluded, IsStopped, judge-included, judge-not-included, judge-stopped, few-included, few-not-included, more-stopped, more-never-included, not-included-iff, stopped-iff, included-or-not, not-or-stopped, verdict-judge, verdict-tried, verdict-shown}
+use Rattle.model.proofs.Decision.{placed as placed-listed, listed-fits, listed-result, listed_small, contained-or-counter}
+use Rattle.model.proofs.Verdict.{verdict-tried}
 use Rattle.model.proofs.Refusals.{AllYes}
 use Rattle.model.proofs.CallFacts.{accepted-verdict, accepted-minimise, accepted-fits, accepted-result, accepted-nodes, accepted-paths, accepted-layout}
 use Rattle.model.proofs.CaseFacts.{selected-facts, labels-some, case-accepted, case-all-yes}
-use Rattle.model.proofs.Calls.{verdict-refused, verdict-accepted, minimise-refused, minimise-accepted, fits_refused, fits-accepted, result-refused, result-accepted, nodes-refused, nodes-accepted, paths-refused, paths-accepted, layout-refused, layout-accepted, length-counted, verdict-length}
-use Rattle.model.proofs.Bytes.{FitFields, front-none, length-document}
+use Rattle.model.proofs.Calls.{verdict-refused, verdict-accepted, minimise-refused, minimise-accepted, fits_refused, fits-accepted, result-refused, result-accepted, nodes-refused, nodes-accepted, paths-refused, paths-accepted, layout-refused, layout-accepted, verdict-length}
+use Rattle.model.proofs.Bytes.{FitFields, front-none}
 use Rattle.model.proofs.Runs.{VerdictRun, verdict-joins, MinimiseRun, minimise-joins, separated, summed}
 use Rattle.model.proofs.Removing.{not_root_lem, no-position, no-children}
 use Rattle.model.proofs.StruckBack.{struck-back}
-use Rattle.model.proofs.Striking.{LoopFacts, all-facts, struck-shortened, few-verdicts, each-limited}
+use Rattle.model.proofs.Rounds.{each-limited}
+use Rattle.model.proofs.Striking.{LoopFacts, all-facts, struck-shortened, few-verdicts}
 use Rattle.model.proofs.Moving.{moved-accepted, moved-refused, upgrade-moved, downgrade-moved}
 use Rattle.model.proofs.Canonical.{length-canonical}
 use Rattle.model.proofs.ReadBack.{label_small, canonical-labels, canonical-fields, reads-back, canonical-figures}
+use Rattle.model.proofs.Shown.{kind-included, kind-not-included, kind-stopped, shown-nothing, few-counter, few-contained, more-stops, more-fails, more-never, stops-more, accepted-shows, stops-tried, includes, includes-tried, shown-small}
 
 -- ---- Demand 2: fits, results, nodes at a position and paths are told exactly by the definitions
 
@@ -138,118 +139,6 @@ layout-told b s l table e =
     }
 
 -- ---- Demand 3: the verdict is exact over fitting volumes of any size
-
--- the kind of a verdict tells which it is
-kind-included : (v : Verdict) → (kind_of v ≡ kind_included) ↔ IsIncluded v
-unfolding kind_of
-kind-included (included n) = (λ e. (n, refl), λ k. refl)
-kind-included (not_included n es) = (λ e. absurd (omega arith), λ k. ap kind_of k.1)
-kind-included (stopped n) = (λ e. absurd (omega arith), λ k. ap kind_of k.1)
-
-kind-not-included : (v : Verdict) → (kind_of v ≡ kind_not_included) ↔ IsNotIncluded v
-unfolding kind_of
-kind-not-included (included n) = (λ e. absurd (omega arith), λ k. ap kind_of k.2)
-kind-not-included (not_included n es) = (λ e. (n, es, refl), λ k. refl)
-kind-not-included (stopped n) = (λ e. absurd (omega arith), λ k. ap kind_of k.2)
-
-kind-stopped : (v : Verdict) → (kind_of v ≡ kind_stopped) ↔ IsStopped v
-unfolding kind_of
-kind-stopped (included n) = (λ e. absurd (omega arith), λ k. ap kind_of k.1)
-kind-stopped (not_included n es) = (λ e. absurd (omega arith), λ k. ap kind_of k.1)
-kind-stopped (stopped n) = (λ e. (n, refl), λ k. refl)
-
--- what each verdict writes
-shown-nothing : (S : Summary) (P : Pattern) (v : Verdict) → (kind_of v ≡ kind_not_included → ⊥) → shown S P v ≡ []
-unfolding kind_of shown
-shown-nothing S P (included n) h = refl
-shown-nothing S P (not_included n es) h = absurd (h refl)
-shown-nothing S P (stopped n) h = refl
-
-shown-canonical : (S : Summary) (P : Pattern) (n : ℕ) (es : List ℕ) → shown S P (not_included n es) ≡ encode_document (canonical S P es) ++ encode_counted (own_result S P es)
-unfolding shown
-shown-canonical S P n es = refl
-
-module _ (c : Case) (f : CaseFacts c) (L : ℕ) where
-  abbrev S : Summary
-  S = c.summary
-
-  abbrev P : Pattern
-  P = c.first
-
-  abbrev Qs : List Pattern
-  Qs = c.members
-
-  abbrev listed : List (List ℕ)
-  listed = summary_embeddings S P
-
-  -- at most L placements
-  pub few-counter : length listed ≤ L → IsNotIncluded (verdict S P Qs L) ↔ SomeCounterExample S P Qs
-  few-counter h =
-      rw (verdict-judge S P Qs L)
-      (Iff.trans (few-not-included (covered S P Qs) L listed h) (Iff.symm (counter-exact f.summary f.first f.members)))
-
-  pub few-contained : length listed ≤ L → IsIncluded (verdict S P Qs L) ↔ Contained S P Qs
-  few-contained h =
-      rw (verdict-judge S P Qs L)
-      (Iff.trans (few-included (covered S P Qs) L listed h) (Iff.symm (contained-exact f.summary f.first f.members)))
-
-  -- more than L
-  pub more-stops : L < length listed → IsStopped (verdict S P Qs L) ↔ AllEmbeddingsPass S P Qs (take L listed)
-  more-stops h = rw (verdict-judge S P Qs L) (more-stopped (covered S P Qs) L listed h)
-
-  pub more-fails : IsNotIncluded (verdict S P Qs L) ↔ SomeEmbeddingFails S P Qs (take L listed)
-  more-fails = rw (verdict-judge S P Qs L) (not-included-iff (covered S P Qs) L listed)
-
-  pub more-never : L < length listed → IsIncluded (verdict S P Qs L) → ⊥
-  more-never h k = more-never-included (covered S P Qs) L listed h (rw (← (verdict-judge S P Qs L)) k)
-
-  pub stops-more : IsStopped (verdict S P Qs L) → L < length listed
-  stops-more k = ((stopped-iff (covered S P Qs) L listed).0 (rw (← (verdict-judge S P Qs L)) k)).more
-
-  -- the trial that "not included" shows is a counter-example of at most 1,009 nodes
-  shows : (n : ℕ) (es : List ℕ) → verdict S P Qs L ≡ not_included n es → CounterExample S P Qs (canonical S P es) (own_result S P es) × (length (canonical S P es) ≤ max_canonical)
-  shows n es e =
-      let k = verdict-shown S P Qs L n es e in
-      (failing-canonical f.summary f.first f.members k.0 k.1, listed_small f.summary f.first k.0 f.summary_size f.first_size)
-
-  -- it is the earliest that does not pass, and tried is its rank from 1
-  accepted-shows : (tally : ℕ) (buffer : List ℕ) → kind_of (verdict S P Qs L) ≡ kind_not_included → Shown S P Qs L (tried_of (verdict S P Qs L)) buffer (verdict_accepted c L tally buffer).buffer
-  unfolding verdict_accepted tried_of
-  accepted-shows tally buffer e =
-      let k = (kind-not-included (verdict S P Qs L)).0 e in
-      let es : List ℕ = k.1 in
-      let s = shows k.0 es k.2 in
-      let d = judge-not-included (covered S P Qs) L listed k.0 es (sym (verdict-judge S P Qs L) ∙ k.2) in
-      let n : tried_of (verdict S P Qs L) ≡ suc (length d.0.before) = ap tried_of k.2 ∙ d.1 in
-      record {
-        earlier = d.0.before;
-        placement = es;
-        later = d.0.after;
-        ordered = d.0.split;
-        earlier_pass = d.0.pass;
-        fails = d.0.fails;
-        rank = omega arith;
-        among_first = let w : length d.0.before < L = d.0.within in omega arith;
-        document = canonical S P es;
-        result = own_result S P es;
-        trial = refl;
-        own = refl;
-        counter_example = s.0;
-        small = s.1;
-        written = ap (λ (v : Verdict). written_at_front (shown S P v) buffer) k.2 ∙ ap (λ (w : List ℕ). written_at_front w buffer) (shown-canonical S P k.0 es);
-      }
-
-  -- tried of the other two
-  stops-tried : IsStopped (verdict S P Qs L) → tried_of (verdict S P Qs L) ≡ L
-  unfolding tried_of
-  stops-tried k = ap tried_of k.1 ∙ (judge-stopped (covered S P Qs) L listed k.0 (sym (verdict-judge S P Qs L) ∙ k.1)).0
-
-  includes : (k : IsIncluded (verdict S P Qs L)) → (k.0 ≡ length listed) × Included (covered S P Qs) L listed
-  includes k = judge-included (covered S P Qs) L listed k.0 (sym (verdict-judge S P Qs L) ∙ k.1)
-
-  includes-tried : IsIncluded (verdict S P Qs L) → tried_of (verdict S P Qs L) ≡ length listed
-  unfolding tried_of
-  includes-tried k = ap tried_of k.1 ∙ (includes k).0
 
 -- what is shown of bytes that every question on the case accepts reads back
 shown-back : (b : List ℕ) → AreBytes b → AllYes (case_questions b) → CaseFacts (case_of b) → {L n : ℕ} {before after : List ℕ}
@@ -533,32 +422,6 @@ pub normalise-answered : (b : List ℕ) → AreBytes b → (before : List ℕ) {
 normalise-answered b small before e = move-answered (normalise_refusal b (length before)) (normalised b) before (normalise-demand b small before) e
 
 -- ---- What is lent keeps its length: what a call writes fits
-
--- at most 2 + 6 × 1,009 bytes of a volume and 2 + 2 × 8 of a result
-shown-small : (c : Case) → CaseFacts c → (L : ℕ) → length (shown c.summary c.first (verdict c.summary c.first c.members L)) ≤ min_buffer
-unfolding own_result
-shown-small c f L = go (verdict c.summary c.first c.members L) refl
-  where
-    size : (n : ℕ) (es : List ℕ) → length (canonical c.summary c.first es) ≤ max_canonical → length (shown c.summary c.first (not_included n es)) ≤ min_buffer
-    size n es h =
-        let W : Document = canonical c.summary c.first es in
-        let r : List ℕ = own_result c.summary c.first es in
-        let a : length (encode_document W) ≡ 2 * (1 + document_width * length W) = length-document W in
-        let b : length (encode_counted r) ≡ 2 * suc (length r) = length-counted r in
-        let k : length r ≡ arity c.first = length-map (return_nodes c.first) (image_in (own_nodes c.summary c.first es)) ∙ length-return_nodes c.first in
-        let l : arity c.first ≤ max_position = f.arity_bound in
-        rw (shown-canonical c.summary c.first n es, length-append (encode_document W) (encode_counted r)) (omega arith)
-
-    none : (v : Verdict) → (kind_of v ≡ kind_not_included → ⊥) → length (shown c.summary c.first v) ≤ min_buffer
-    none v h = rw (shown-nothing c.summary c.first v h) (omega arith)
-
-    go : (v : Verdict) → verdict c.summary c.first c.members L ≡ v → length (shown c.summary c.first v) ≤ min_buffer
-    go (included n) e = none (included n) (λ k. not-kind ((kind-not-included (included n)).0 k))
-      where
-        not-kind : IsNotIncluded (included n) → ⊥
-        not-kind k = included-or-not (included n) (n, refl) k
-    go (not_included n es) e = size n es (shows c f L n es e).1
-    go (stopped n) e = none (stopped n) (λ k. not-or-stopped (stopped n) ((kind-not-included (stopped n)).0 k) (n, refl))
 
 pub verdict-keeps-length : (b : List ℕ) (L caller tally : ℕ) (buffer : List ℕ) → length (verdict_call b L caller tally buffer).buffer ≡ length buffer
 verdict-keeps-length b L caller tally buffer =

@@ -44,6 +44,7 @@ pub mod Calls
 pub mod Text
 pub mod Runs
 pub mod Decision
+pub mod Rounds
 pub mod Striking
 pub mod Sets
 pub mod ReadBack
@@ -59,6 +60,7 @@ pub mod Numbering
 pub mod Alike
 pub mod InOrder
 pub mod Normal
+pub mod Shown
 pub mod Demands
 pub mod Printed
 pub mod OrderPrinted

@@ -21,7 +21,8 @@ use Rattle.model.proofs.ListLaws.{length-keep, length-up_from, get_or-up_from}
 use Rattle.model.proofs.Bytes.{Holds, pattern-readable, length-section}
 use Rattle.model.proofs.Verdict.{verdict-tried}
 use Rattle.model.proofs.Removing.{get_or-removed, length_without, not_root_lem, without-carries}
-use Rattle.model.proofs.Striking.{total-append, leaf-may, RoundFacts, round-facts, each-limited, facts-without}
+use Rattle.model.proofs.Rounds.{total-append, RoundFacts, round-facts, each-limited}
+use Rattle.model.proofs.Striking.{leaf-may, facts-without}
 use Rattle.format.specs.Given.{summary_in, pattern_at}
 use Rattle.judging.proofs.TableSets.{table-entry}
 use Rattle.striking.specs.Present.{Strikable}
