@@ -8,7 +8,6 @@ use lib.ListN.{length, get_or}
 use borrow.Author.Tests.{eqb-true}
 use Rattle.model.specs.Limits.{max_summary, max_document, summary_width, document_width}
 use Rattle.model.specs.Tree.{Document, IsTree}
-use Rattle.model.specs.Pattern.{Pattern}
 use Rattle.model.specs.Bytes.{first_at, set_at, member_at, set_of, section_end, case_of, document_of, WholeSection, is_whole_document}
 use Rattle.model.specs.Facts.{MemberFacts, DocumentFacts, AcceptedCase}
 use Rattle.model.proofs.ListLaws.{mem-at}

@@ -1,6 +1,6 @@
 -- The layout by value: the records that are read off a document are the model's, a refusal lays out none, and what is laid out for a
 -- table of 1,024 records is what is laid out for any larger one, since its size is asked only to be large enough. Assumes nothing.
-use Prim.Native.Nat.{ℕ, ◌+◌, ◌≤◌, ◌<◌}
+use Prim.Native.Nat.{ℕ, ◌≤◌, ◌<◌}
 use mathlib.Core.Path.{◌≡◌, sym, ap, ap₂, ◌∙◌, subst}
 use mathlib.Core.Bool.{Bool, true, false}
 use mathlib.Core.List.{List, [], ◌∷◌, ◌++◌, map, map-map, map-id}

@@ -1,7 +1,7 @@
 -- Moving the filed cases over: for every case that a tool accepts, what it writes is accepted by the other, and there and back gives the
 -- same bytes, both ways. Because bytes that are read and written again are the same, tables that are written and read again are the
 -- same, and between the two forms nothing but the count of the set comes and goes. Assumes nothing.
-use Prim.Native.Nat.{ℕ, suc, ◌+◌, ◌-◌, ◌*◌, ◌≤◌, ◌<◌}
+use Prim.Native.Nat.{ℕ, suc, ◌+◌, ◌*◌, ◌≤◌, ◌<◌}
 use mathlib.Core.Path.{◌≡◌, refl, sym, ap, ◌∙◌}
 use mathlib.Core.Bool.{true, ◌&&◌}
 use mathlib.Core.Logic.{◌⊎◌, inl, inr, ◌≢◌}

@@ -13,7 +13,7 @@ use Rattle.model.specs.Limits.{min_buffer, max_pattern, summary_width, pattern_w
 use Rattle.model.specs.Lists.{up_from}
 use Rattle.model.specs.Tree.{Rooted, IsTree}
 use Rattle.model.specs.Summary.{SummaryRecord, Summary, no_summary_record, as_document}
-use Rattle.model.specs.Pattern.{PatternRecord, Pattern, no_pattern_record, position, IsPatternTree}
+use Rattle.model.specs.Pattern.{PatternRecord, Pattern, no_pattern_record, IsPatternTree}
 use Rattle.model.specs.Facts.{SummaryFacts, CaseFacts}
 use Rattle.model.specs.Bytes.{AreBytes, Case, case_of, summary_record_at, pattern_record_at, summary_fields, pattern_fields, section_fields, set_fields, case_fields, encode_case}
 use Rattle.model.specs.Questions.{Question, ask, refusal, buffer_large_enough, case_questions}

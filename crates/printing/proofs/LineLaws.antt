@@ -6,7 +6,7 @@ use native.Mathlib.Omega.{arith}
 use native.Mathlib.Numerals.{add-one}
 use Rattle.model.specs.Lists.{up_from}
 use Rattle.model.specs.Limits.{document_width}
-use Rattle.model.specs.Tree.{Document, no_document_record}
+use Rattle.model.specs.Tree.{no_document_record}
 use Rattle.model.specs.Bytes.{field, fields_at, document_record_at, document_fields, document_of}
 use Rattle.model.specs.Text.{ascii, line, node_line, node_lines, answer_line, first_lines, shown_text}
 use Rattle.text.specs.Records.{record_lines}

@@ -7,7 +7,7 @@ use lib.Dec.{eqb, leb, ltb}
 use lib.ListN.{get_or}
 use Rattle.model.specs.Lists.{all_of}
 use Rattle.model.specs.Limits.{max_position}
-use Rattle.model.specs.Pattern.{PatternRecord, Pattern, no_pattern_record, pattern_parent, position, arity}
+use Rattle.model.specs.Pattern.{Pattern, no_pattern_record, pattern_parent, position, arity}
 use Rattle.model.specs.Fitting.{parent_rule}
 use Rattle.model.specs.Bytes.{first_at, set_at, set_of, case_of}
 use Rattle.model.specs.Questions.{pattern_record_kept, positions_once, positions_kept}

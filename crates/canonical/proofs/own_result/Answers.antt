@@ -1,6 +1,5 @@
 -- `canonical::own_result` meets its contract: before turn i the front has the own nodes at positions 1 to i. The measure is how
 -- many are left. Assumes nothing.
-use Prim.Native.Nat.{◌-◌}
 use mathlib.Core.Path.{refl, ap, ◌∙◌}
 use native.Mathlib.Omega.{arith}
 use Rattle.model.specs.Embeddings.{image_in}

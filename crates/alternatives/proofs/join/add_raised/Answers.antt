@@ -1,6 +1,5 @@
 -- `alternatives::join::add_raised` meets its contract: before turn i the list covers what the sets before i are raised to. The measure is
 -- how many are left. Assumes nothing.
-use Prim.Native.Nat.{◌-◌}
 use mathlib.Core.Logic.{inl, inr}
 use Rattle.alternatives.proofs.JoinLaws.{growing-start, growing-step, added-grown, raised-end}
 use Rattle.alternatives.proofs.join.add_raised.Goals as goal

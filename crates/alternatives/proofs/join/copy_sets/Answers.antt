@@ -1,6 +1,5 @@
 -- `alternatives::join::copy_sets` meets its contract: before turn i the sets before i are copied. The measure is how many are left. Assumes
 -- nothing.
-use Prim.Native.Nat.{◌-◌}
 use native.Mathlib.Omega.{arith}
 use Rattle.alternatives.proofs.JoinLaws.{copying-start, copying-step, copying-end}
 use Rattle.alternatives.proofs.join.copy_sets.Goals as goal

@@ -1,6 +1,5 @@
 -- `alternatives::join::join` meets its contract: before turn i the list covers the unions of the old one with the sets before i, but for
 -- those that need not be kept. The measure is how many are left. Assumes nothing.
-use Prim.Native.Nat.{◌-◌}
 use mathlib.Core.Path.{sym}
 use native.Mathlib.Omega.{arith}
 use lib.Seq.{length-take-le}

@@ -1,6 +1,5 @@
 -- `alternatives::join::join_one` meets its contract: before turn i the list covers the unions with the sets before i, but for those that need
 -- not be kept. The measure is how many are left. Assumes nothing.
-use Prim.Native.Nat.{◌-◌}
 use Rattle.cover.proofs.CoverLaws.{either-covers}
 use Rattle.alternatives.proofs.JoinLaws.{growing-start, growing-step, growing-end}
 use Rattle.alternatives.proofs.join.join_one.Goals as goal

@@ -1,6 +1,5 @@
 -- `alternatives::members::column` meets its contract: before turn i the sets of the members before i are read. The measure is how many are
 -- left. Assumes nothing.
-use Prim.Native.Nat.{◌-◌}
 use mathlib.Core.Path.{refl}
 use Rattle.alternatives.proofs.JoinLaws.{row-to-start, row-to-step, row-to-end}
 use Rattle.alternatives.proofs.members.column.Goals as goal

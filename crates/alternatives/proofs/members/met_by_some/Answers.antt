@@ -1,6 +1,6 @@
 -- `alternatives::members::met_by_some` meets its contract: before turn i no member before i says yes. The measure is how many are left.
 -- Assumes nothing.
-use Prim.Native.Nat.{ℕ, ◌-◌}
+use Prim.Native.Nat.{ℕ}
 use mathlib.Core.Path.{sym, ◌∙◌}
 use mathlib.Core.List.{[]}
 use lib.ListN.{get_or}

@@ -1,6 +1,5 @@
 -- `alternatives::open::begin` meets its contract: before turn j the lists of the nodes before j have begun. The measure is how many are
 -- left. Assumes nothing.
-use Prim.Native.Nat.{◌-◌}
 use native.Mathlib.Omega.{arith}
 use borrow.Author.Rules.{rules}
 use Rattle.alternatives.proofs.OpenLaws.{begun-start, begun-step, begun-end}

@@ -1,6 +1,5 @@
 -- `alternatives::open::pass_list` meets its contract: before turn i the sets before i are passed on. The measure is how many are left.
 -- Assumes nothing.
-use Prim.Native.Nat.{◌-◌}
 use native.Mathlib.Omega.{arith}
 use Rattle.alternatives.proofs.OpenLaws.{list-to-start, list-to-step, list-to-end}
 use Rattle.alternatives.proofs.open.pass_list.Goals as goal

@@ -1,6 +1,5 @@
 -- `alternatives::open::pass_row` meets its contract: before turn i the sets of the members before i are passed on. The measure is how many
 -- are left. Assumes nothing.
-use Prim.Native.Nat.{◌-◌}
 use mathlib.Core.Path.{refl}
 use Rattle.judging.proofs.RoomLaws.{judge-member}
 use Rattle.alternatives.proofs.JoinLaws.{row-to-start, row-to-step, row-to-end}

@@ -1,6 +1,5 @@
 -- `alternatives::table::common_all` meets its contract: before turn k the set is inside each of those before k. The measure is how many
 -- are left. Assumes nothing.
-use Prim.Native.Nat.{◌-◌}
 use native.Mathlib.Omega.{arith}
 use Rattle.cover.proofs.CoverLaws.{common-within}
 use Rattle.alternatives.proofs.FillLaws.{in-all-start, in-all-step}

@@ -1,6 +1,6 @@
 -- `alternatives::table::own_list` meets its contract: the list covers from the start, and each turn keeps that. The measure is how
 -- many nodes are left. Assumes nothing.
-use Prim.Native.Nat.{◌-◌, ◌<◌}
+use Prim.Native.Nat.{◌<◌}
 use native.Mathlib.Omega.{arith}
 use lib.ListN.{length}
 use Rattle.format.specs.Given.{pattern_at}

@@ -1,6 +1,5 @@
 -- `alternatives::table::same_rows` meets its contract: before turn k the rows before k are the list's. The measure is how many are
 -- left. Assumes nothing.
-use Prim.Native.Nat.{◌-◌}
 use mathlib.Core.Bool.{false≢true}
 use native.Mathlib.Omega.{arith}
 use Rattle.alternatives.proofs.FillLaws.{rows-inside-start, rows-inside-step}

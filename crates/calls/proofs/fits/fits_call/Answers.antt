@@ -1,9 +1,6 @@
 -- `calls::fits::fits_call` meets its contract: a refusal is the definition's, and an accepted call answers what the test says. Assumes
 -- nothing.
-use Prim.Native.Nat.{ℕ}
-use mathlib.Core.Path.{◌≡◌, sym, ◌∙◌}
-use mathlib.Core.Bool.{Bool, true, false}
-use Rattle.model.specs.Demands.{FitsAnswered}
+use mathlib.Core.Path.{sym, ◌∙◌}
 use Rattle.model.proofs.CallFacts.{FitsFacts, accepted-fits}
 use Rattle.model.proofs.Calls.{fits_refused, fits-accepted}
 use Rattle.model.proofs.Demands.{fits-answered}

@@ -1,13 +1,10 @@
 -- `calls::result::result_call` meets its contract: the model's call goes by the same refusal, and its answer is the same test's. Assumes
 -- nothing.
-use Prim.Native.Nat.{ℕ}
-use mathlib.Core.Path.{◌≡◌, sym, ap, ◌∙◌, subst}
-use mathlib.Core.Bool.{Bool, true, false}
+use mathlib.Core.Path.{sym, ap, ◌∙◌, subst}
 use lib.ListN.{length}
 use Rattle.model.specs.Pattern.{Pattern, arity}
 use Rattle.model.specs.Embeddings.{is_result}
 use Rattle.model.specs.Bytes.{document_of, list_of}
-use Rattle.model.specs.Demands.{ResultAnswered}
 use Rattle.model.specs.Facts.{ListFacts}
 use Rattle.model.proofs.CallFacts.{ResultFacts, accepted-result}
 use Rattle.model.proofs.Calls.{result-refused, result-accepted}

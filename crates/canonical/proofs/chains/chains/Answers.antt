@@ -1,16 +1,12 @@
 -- `canonical::chains::chains` meets its contract. The loop's invariant: the pattern's first q nodes are laid out, and those left lead
 -- to the whole layout. The measure is how many are left. Assumes nothing.
-use Prim.Native.Nat.{ℕ, ◌+◌, ◌-◌, ◌≤◌, ◌<◌}
-use mathlib.Core.Path.{◌≡◌, sym}
-use mathlib.Core.List.{List}
+use Prim.Native.Nat.{◌<◌}
+use mathlib.Core.Path.{sym}
 use native.Mathlib.Omega.{arith}
-use lib.ListN.{length, set}
-use Rattle.model.specs.Limits.{max_pattern, max_canonical}
-use Rattle.format.specs.Given.{summary_in, pattern_at}
-use Rattle.canonical.specs.Draft.{Draft, draft}
-use Rattle.canonical.specs.Given.{embedding_in, Embedded}
-use Rattle.canonical.proofs.DraftLaws.{SameLengths, drafted-roomy, drafted-lengths}
-use Rattle.canonical.proofs.ChainPhaseLaws.{Laying, laying-start, laying-own, laying-end, laying-next, parent-earlier, Read, read_next, next-hanging}
+use lib.ListN.{length}
+use Rattle.format.specs.Given.{pattern_at}
+use Rattle.canonical.proofs.DraftLaws.{drafted-roomy, drafted-lengths}
+use Rattle.canonical.proofs.ChainPhaseLaws.{laying-start, laying-own, laying-end, laying-next, parent-earlier, read_next, next-hanging}
 use Rattle.canonical.proofs.chains.chains.Goals as goal
 
 pub loop-q-init : goal.loop-q-init

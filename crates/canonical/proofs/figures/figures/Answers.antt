@@ -1,6 +1,6 @@
 -- `canonical::figures::figures` meets its contract: before turn q the figures of the first q pattern nodes are in. The measure is how many
 -- are left. Assumes nothing.
-use Prim.Native.Nat.{◌-◌, ◌<◌}
+use Prim.Native.Nat.{◌<◌}
 use native.Mathlib.Omega.{arith}
 use lib.ListN.{length}
 use Rattle.format.specs.Given.{pattern_at}

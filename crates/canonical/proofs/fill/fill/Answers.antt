@@ -1,6 +1,5 @@
 -- `canonical::fill::fill` meets its contract. The loop's invariant: the nodes below v are visited, and the visits to come reach the
 -- definition's end, where the draft is not too long. The measure is what is left of the most nodes. Assumes nothing.
-use Prim.Native.Nat.{◌-◌}
 use native.Mathlib.Omega.{arith}
 use Rattle.format.specs.Given.{summary_in}
 use Rattle.canonical.specs.Draft.{draft}

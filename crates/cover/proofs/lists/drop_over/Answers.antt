@@ -1,6 +1,5 @@
 -- `cover::lists::drop_over` meets its contract: of the sets that the list had, those that are left and a say as much. The measure is how many
 -- are yet to be asked. Assumes nothing.
-use Prim.Native.Nat.{◌-◌}
 use mathlib.Core.Path.{sym, ◌∙◌}
 use Rattle.cover.proofs.CoverLaws.{inside-within, dropping-start, dropping-step}
 use Rattle.cover.proofs.lists.drop_over.Goals as goal

@@ -1,5 +1,4 @@
 -- `cover::lists::some_inside` meets its contract: the set at which it stops is inside a. The measure is how many are left. Assumes nothing.
-use Prim.Native.Nat.{◌-◌}
 use mathlib.Core.Path.{sym, ◌∙◌}
 use mathlib.Core.Bool.{false≢true}
 use Rattle.cover.proofs.CoverLaws.{inside-within}

@@ -1,6 +1,5 @@
 -- `cover::offers::either` meets its contract: before turn i the masks of the members before i are united. The measure is what is left of
 -- 8. Assumes nothing.
-use Prim.Native.Nat.{◌-◌}
 use mathlib.Core.Path.{refl}
 use Rattle.cover.proofs.CoverLaws.{made-start, made-step, made-end}
 use Rattle.cover.proofs.offers.either.Goals as goal

@@ -1,6 +1,5 @@
 -- `cover::offers::inside` meets its contract: before turn i a is inside b for the members before i. The measure is what is left of 8. Assumes
 -- nothing.
-use Prim.Native.Nat.{◌-◌}
 use mathlib.Core.Path.{sym, ◌∙◌}
 use borrow.Author.Rules.{rules}
 use Rattle.cover.proofs.CoverLaws.{inside-start, inside-step, inside-not, inside-end}

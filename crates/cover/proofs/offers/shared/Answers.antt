@@ -1,6 +1,5 @@
 -- `cover::offers::shared` meets its contract: before turn i the nodes of the members before i are counted. The measure is what is left of 8.
 -- Assumes nothing.
-use Prim.Native.Nat.{◌-◌}
 use Rattle.cover.proofs.CoverLaws.{shared_start, shared_step, shared-end}
 use Rattle.cover.proofs.offers.shared.Goals as goal
 

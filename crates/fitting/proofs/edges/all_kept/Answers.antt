@@ -1,6 +1,6 @@
 -- `fitting::edges::all_kept` meets its contract: every node that was passed keeps its strong edges. The measure is what is left of
 -- count. Assumes nothing.
-use Prim.Native.Nat.{ℕ, ◌-◌}
+use Prim.Native.Nat.{ℕ}
 use mathlib.Core.Path.{◌≡◌, sym, ap, ◌∙◌}
 use native.Mathlib.Omega.{arith}
 use lib.Bits.{bit_and}

@@ -1,6 +1,6 @@
 -- `fitting::edges::child_paths` meets its contract: after the turns below v each of those nodes has put its path into its parent's
 -- row. The measure is what is left of count. Assumes nothing.
-use Prim.Native.Nat.{◌-◌, ◌<◌}
+use Prim.Native.Nat.{◌<◌}
 use native.Mathlib.Omega.{arith}
 use Rattle.fitting.proofs.GatherLaws.{gathering-start, gathering-up, gathering-step, gathering-end}
 use Rattle.fitting.proofs.edges.child_paths.Goals as goal

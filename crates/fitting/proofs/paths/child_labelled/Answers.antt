@@ -1,6 +1,5 @@
 -- `fitting::paths::child_labelled` meets its contract: no number that was passed is the child, so the first that is one is found,
 -- or none is there. The measure is what is left of n. Assumes nothing.
-use Prim.Native.Nat.{◌-◌}
 use mathlib.Core.Path.{sym, ◌∙◌}
 use native.Mathlib.Omega.{arith}
 use borrow.Author.Rules.{rules}

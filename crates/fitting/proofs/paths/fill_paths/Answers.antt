@@ -1,6 +1,5 @@
 -- `fitting::paths::fill_paths` meets its contract: after v turns the table has the summary nodes of the first v document nodes. The
 -- measure is what is left of count. Assumes nothing.
-use Prim.Native.Nat.{◌-◌}
 use native.Mathlib.Omega.{arith}
 use borrow.Author.Rules.{rules}
 use Rattle.fitting.proofs.PathLaws.{filling-start, filling_step, filling-end, filling-stop}

@@ -1,9 +1,8 @@
 -- `format::list::read_list` meets its contract: before turn i the fields before i are read. The measure is how many are left. Assumes
 -- nothing.
-use Prim.Native.Nat.{◌-◌}
 use mathlib.Core.Path.{refl}
 use native.Mathlib.Omega.{arith}
-use Rattle.model.specs.Bytes.{field, list_of}
+use Rattle.model.specs.Bytes.{list_of}
 use Rattle.format.proofs.FrontLoops.{filled-start, filled-step, filled-end}
 use Rattle.format.proofs.list.read_list.Goals as goal
 

@@ -1,6 +1,5 @@
 -- `format::positions::node_at` meets its contract: none of the nodes passed holds the position. The measure is what is left of the
 -- pattern. Assumes nothing.
-use Prim.Native.Nat.{◌-◌}
 use mathlib.Core.Path.{sym, ◌∙◌}
 use borrow.Author.Rules.{rules}
 use borrow.Author.Tests.{eq-eqb, ne_eqb}

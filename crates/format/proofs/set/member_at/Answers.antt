@@ -1,6 +1,5 @@
 -- `format::set::member_at` meets its contract: before turn k the field is that of member k. The measure is how many turns are left.
 -- Assumes nothing.
-use Prim.Native.Nat.{◌-◌}
 use mathlib.Core.Path.{sym, ap, ◌∙◌}
 use native.Mathlib.Omega.{arith}
 use borrow.Author.Rules.{rules}

@@ -1,6 +1,5 @@
 -- `format::write::copy_fields` meets its contract: before turn i the first i fields are copied. The measure is what is left of n.
 -- Assumes nothing.
-use Prim.Native.Nat.{◌-◌}
 use Rattle.format.proofs.WriteLaws.{copying-start, copying-step, copying-end}
 use Rattle.format.proofs.write.copy_fields.Goals as goal
 

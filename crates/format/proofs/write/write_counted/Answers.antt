@@ -1,6 +1,5 @@
 -- `format::write::write_counted` meets its contract: after i turns the count and i numbers stand at the front. The measure is what
 -- is left of k. Assumes nothing.
-use Prim.Native.Nat.{◌-◌}
 use mathlib.Core.Path.{◌∙◌}
 use mathlib.Core.List.{[], ◌∷◌}
 use borrow.Author.Rules.{rules}

@@ -5,7 +5,6 @@ use native.Mathlib.Omega.{arith}
 use mathlib.Core.Bool.{not}
 use lib.Dec.{eqb}
 use borrow.Author.Rules.{rules}
-use Rattle.model.specs.Pattern.{pattern_parent}
 use Rattle.judging.specs.Settling.{folded_row}
 use Rattle.judging.proofs.GivenLoop.{gathering-start, gathering-step, gathering-end, join-turn}
 use Rattle.judging.proofs.RoomLaws.{parent-lt}

@@ -1,6 +1,5 @@
 -- `laying::laid::records_of` meets its contract: after i turns the first i records stand at the front. The measure is what is left of
 -- count. Assumes nothing.
-use Prim.Native.Nat.{◌-◌}
 use mathlib.Core.Path.{◌∙◌}
 use borrow.Author.Rules.{rules}
 use Rattle.format.proofs.FrontLoops.{filled-start, filled-step, filled-end}

@@ -1,8 +1,6 @@
 -- `matching::masks::deep_mask` meets its contract: after q turns r holds what hangs deep of the nodes below q. The measure is what is left
 -- of the count. Assumes nothing.
-use Prim.Native.Nat.{◌-◌}
 use native.Mathlib.Omega.{arith}
-use Rattle.matching.specs.Matching.{hangs_deep}
 use Rattle.matching.proofs.MaskLoops.{inserting-start, inserting-step, inserting-end}
 use Rattle.matching.proofs.masks.deep_mask.Goals as goal
 

@@ -1,8 +1,6 @@
 -- `matching::outcomes::nodes_with` meets its contract: after v turns the nodes below v whose mask has q stand at the front. The measure is
 -- what is left of n. Assumes nothing.
-use Prim.Native.Nat.{◌-◌}
 use native.Mathlib.Omega.{arith}
-use Rattle.matching.specs.Outcomes.{in_mask}
 use Rattle.matching.proofs.ReadLoops.{listing_start, listing_step, listing-end}
 use Rattle.matching.proofs.outcomes.nodes_with.Goals as goal
 

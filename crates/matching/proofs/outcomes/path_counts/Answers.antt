@@ -1,6 +1,5 @@
 -- `matching::outcomes::path_counts` meets its contract: after q turns the first q counts stand. The measure is what is left of 16. Assumes
 -- nothing.
-use Prim.Native.Nat.{◌-◌}
 use mathlib.Core.Path.{refl, ◌∙◌}
 use native.Mathlib.Omega.{arith}
 use borrow.Author.Rules.{rules}

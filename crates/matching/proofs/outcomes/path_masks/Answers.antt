@@ -1,6 +1,5 @@
 -- `matching::outcomes::path_masks` meets its contract: a node's paths are where it stands. After q turns the first q masks stand; the
 -- measure is what is left of the count. Assumes nothing.
-use Prim.Native.Nat.{◌-◌}
 use mathlib.Core.Path.{refl, ◌∙◌}
 use native.Mathlib.Omega.{arith}
 use Rattle.model.specs.Limits.{max_summary, summary_width}

@@ -1,7 +1,5 @@
 -- `matching::outcomes::stand_mask` meets its contract: after v turns r holds what passes of the nodes below v. The measure is what is left
 -- of n. Assumes nothing.
-use Prim.Native.Nat.{◌-◌}
-use Rattle.matching.specs.Outcomes.{in_mask}
 use Rattle.matching.proofs.MaskLoops.{inserting-start, inserting-step, inserting-end}
 use Rattle.matching.proofs.outcomes.stand_mask.Goals as goal
 

@@ -1,6 +1,5 @@
 -- `matching::sets::fitting` meets its contract: after p turns r holds what fits of the nodes below p. The measure is what is left of the
 -- count. Assumes nothing.
-use Prim.Native.Nat.{◌-◌}
 use native.Mathlib.Omega.{arith}
 use Rattle.matching.proofs.MaskLoops.{inserting-start, inserting-step, inserting-end}
 use Rattle.matching.proofs.sets.fitting.Goals as goal

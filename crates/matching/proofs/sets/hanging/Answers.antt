@@ -1,6 +1,5 @@
 -- `matching::sets::hanging` meets its contract: after q turns r holds what hangs from the set of the nodes below q. The measure is what
 -- is left of the count. Assumes nothing.
-use Prim.Native.Nat.{◌-◌}
 use native.Mathlib.Omega.{arith}
 use Rattle.matching.proofs.MaskLoops.{inserting-start, inserting-step, inserting-end}
 use Rattle.matching.proofs.sets.hanging.Goals as goal

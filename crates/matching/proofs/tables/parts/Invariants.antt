@@ -1,4 +1,3 @@
-use Prim.Native.Nat.{◌-◌}
 use Rattle.model.specs.Pattern.{Pattern}
 use Rattle.format.specs.Given.{tree_of, third_in}
 use Rattle.matching.specs.Wanted.{Wants, block_pin}

@@ -1,6 +1,5 @@
 -- `matching::tables::stands` meets its contract: before turn v the nodes before v hold what stands there and what they leave to their
 -- children. The measure is what is left of the nodes. Assumes nothing.
-use Prim.Native.Nat.{◌-◌}
 use mathlib.Core.Path.{◌∙◌}
 use native.Mathlib.Omega.{arith}
 use Rattle.format.specs.Given.{third_in}

@@ -1,6 +1,5 @@
 -- `matching::wanted::ask_figures` meets its contract: after q turns the least figures of the nodes below q are in. The measure is what is left
 -- of the count. Assumes nothing.
-use Prim.Native.Nat.{◌-◌}
 use native.Mathlib.Omega.{arith}
 use Rattle.matching.proofs.WantedLaws.{asking-start, asking-step, asking-end}
 use Rattle.matching.proofs.wanted.ask_figures.Goals as goal

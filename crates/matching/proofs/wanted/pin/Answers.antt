@@ -1,6 +1,6 @@
 -- `matching::wanted::pin` meets its contract: after q turns the nodes below q are pinned. The measure is what is left of the count.
 -- Assumes nothing.
-use Prim.Native.Nat.{◌-◌, ℕ}
+use Prim.Native.Nat.{ℕ}
 use mathlib.Core.Path.{ap, ◌∙◌}
 use native.Mathlib.Omega.{arith}
 use Rattle.model.specs.Bytes.{list_of}

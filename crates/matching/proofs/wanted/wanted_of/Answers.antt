@@ -1,6 +1,5 @@
 -- `matching::wanted::wanted_of` meets its contract: after q turns what is wanted of the nodes below q is in. The measure is what is left of
 -- the count. Assumes nothing.
-use Prim.Native.Nat.{◌-◌}
 use native.Mathlib.Omega.{arith}
 use Rattle.matching.proofs.WantedLaws.{making-start, making-step, making-end}
 use Rattle.matching.proofs.wanted.wanted_of.Goals as goal

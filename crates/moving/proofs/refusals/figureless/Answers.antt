@@ -1,5 +1,4 @@
 -- `moving::refusals::figureless` meets its contract. The loop's invariant: every figure before q's is 0. Assumes nothing.
-use Prim.Native.Nat.{◌-◌}
 use Rattle.questions.proofs.LoopLaws.{kept}
 use Rattle.moving.proofs.BackLaws.{figure-stops, figure-more, figures-end}
 use Rattle.moving.proofs.refusals.figureless.Goals as goal

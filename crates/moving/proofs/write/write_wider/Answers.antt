@@ -1,6 +1,6 @@
 -- `moving::write::write_wider` meets its contract: before turn i the count and the first i records are written. The measure is how many are
 -- left. Assumes nothing.
-use Prim.Native.Nat.{◌*◌, ◌-◌}
+use Prim.Native.Nat.{◌*◌}
 use mathlib.Core.Path.{refl}
 use native.Mathlib.Omega.{arith}
 use borrow.Author.Rules.{rules}

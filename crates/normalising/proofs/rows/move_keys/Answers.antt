@@ -1,6 +1,5 @@
 -- `normalising::rows::move_keys` meets its contract: before turn j the last j keys are moved, and none that is still to move is written
 -- over. Assumes nothing.
-use Prim.Native.Nat.{◌-◌}
 use mathlib.Core.Path.{refl}
 use Rattle.normalising.proofs.RowLaws.{moving-start, moving-step, moving-end}
 use Rattle.normalising.proofs.rows.move_keys.Goals as goal

@@ -1,5 +1,4 @@
 -- `normalising::rows::not_after` meets its contract: before turn i the rows agree, and what follows decides. Assumes nothing.
-use Prim.Native.Nat.{◌-◌}
 use Rattle.normalising.proofs.KeyLaws.{comparing-start, comparing-step, comparing-short, comparing-other, comparing-end}
 use Rattle.normalising.proofs.rows.not_after.Goals as goal
 

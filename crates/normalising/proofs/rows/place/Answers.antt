@@ -1,5 +1,4 @@
 -- `normalising::rows::place` meets its contract: the place is not before m. Assumes nothing.
-use Prim.Native.Nat.{◌-◌}
 use mathlib.Core.Path.{refl}
 use Rattle.normalising.proofs.KeyLaws.{placing-start, placing-step, placing-here, placing-end}
 use Rattle.normalising.proofs.rows.place.Goals as goal

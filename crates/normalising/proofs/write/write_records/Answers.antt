@@ -1,6 +1,6 @@
 -- `normalising::write::write_records` meets its contract: before turn k the first k records are written, and the table holds the last entry
 -- of each depth. Assumes nothing.
-use Prim.Native.Nat.{◌+◌, ◌*◌, ◌-◌, ◌≤◌, ◌<◌}
+use Prim.Native.Nat.{◌+◌, ◌*◌, ◌≤◌, ◌<◌}
 use native.Mathlib.Omega.{arith}
 use lib.ListN.{length}
 use Rattle.normalising.proofs.RecordLaws.{writing_start, record-room, depth-inside, writing_step, writing-end}

@@ -1,6 +1,5 @@
 -- `questions::case::set_ends` meets its contract. The loop's invariant: the field is that of the present member. Where it lies at or past
 -- the end of the bytes, the set ends further on. Assumes nothing.
-use Prim.Native.Nat.{◌-◌}
 use Rattle.questions.proofs.MemberLaws.{walked}
 use Rattle.questions.proofs.case.set_ends.Goals as goal
 

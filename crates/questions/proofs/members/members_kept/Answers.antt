@@ -1,6 +1,5 @@
 -- `questions::members::members_kept` meets its contract. The loop's invariant: every member before the present one is as it is asked to be,
 -- and the field is that of the present one. Assumes nothing.
-use Prim.Native.Nat.{◌-◌}
 use native.Mathlib.Omega.{arith}
 use mathlib.Core.Path.{ap}
 use mathlib.Core.Bool.{not}

@@ -1,6 +1,5 @@
 -- `questions::members::members_refusal` meets its contract. The loop's invariant: r is what the members before the present one lead to, and
 -- the field is that of the present one. Assumes nothing.
-use Prim.Native.Nat.{◌-◌}
 use native.Mathlib.Omega.{arith}
 use Rattle.questions.proofs.RecordLaws.{asked-none, asked-section, asked-stop, asked-more, asked-end}
 use Rattle.questions.proofs.members.members_refusal.Goals as goal

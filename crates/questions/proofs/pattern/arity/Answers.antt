@@ -1,5 +1,4 @@
 -- `questions::pattern::arity` meets its contract. The loop's invariant: k of the first q nodes hold a position. Assumes nothing.
-use Prim.Native.Nat.{◌-◌}
 use native.Mathlib.Omega.{arith}
 use borrow.Author.Tests.{lt-ltb, le-ltb}
 use Rattle.model.specs.Pattern.{no_pattern_record}

@@ -1,5 +1,4 @@
 -- `questions::pattern::pattern_refusal` meets its contract. The loop's invariant: r is what the records before q lead to. Assumes nothing.
-use Prim.Native.Nat.{◌-◌}
 use native.Mathlib.Omega.{arith}
 use Rattle.model.specs.Questions.{pattern_kept, pattern_figures}
 use Rattle.questions.proofs.LoopLaws.{kept}

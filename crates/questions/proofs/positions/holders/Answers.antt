@@ -1,5 +1,4 @@
 -- `questions::positions::holders` meets its contract. The loop's invariant: k of the first q nodes hold the position. Assumes nothing.
-use Prim.Native.Nat.{◌-◌}
 use native.Mathlib.Omega.{arith}
 use borrow.Author.Tests.{eq-eqb, ne_eqb}
 use Rattle.model.specs.Pattern.{no_pattern_record}

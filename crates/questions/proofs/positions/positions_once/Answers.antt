@@ -1,6 +1,5 @@
 -- `questions::positions::positions_once` meets its contract. The loop's invariant: each position from 1 on, below p, is held once.
 -- Assumes nothing.
-use Prim.Native.Nat.{◌-◌}
 use Rattle.questions.proofs.PositionLaws.{once}
 use Rattle.questions.proofs.positions.positions_once.Goals as goal
 

@@ -1,5 +1,4 @@
 -- `questions::positions::positions_seen` meets its contract. The loop's invariant: the masks are those of the first q nodes. Assumes nothing.
-use Prim.Native.Nat.{◌-◌}
 use native.Mathlib.Omega.{arith}
 use Rattle.questions.proofs.PositionLaws.{seen, seen_none, seen_more, seen_all}
 use Rattle.questions.proofs.positions.positions_seen.Goals as goal

@@ -1,6 +1,5 @@
 -- `questions::summary::differs_before` meets its contract. The loop's invariant: no node before i is alike; it holds where the loop begins,
 -- since parents come first. Assumes nothing.
-use Prim.Native.Nat.{◌-◌}
 use native.Mathlib.Omega.{arith}
 use Rattle.questions.proofs.LoopLaws.{kept}
 use Rattle.questions.proofs.SummaryLaws.{alike-stops, alike-more, unlike-start}

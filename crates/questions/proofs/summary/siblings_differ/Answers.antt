@@ -1,5 +1,4 @@
 -- `questions::summary::siblings_differ` meets its contract. The loop's invariant: no two siblings before j have one label. Assumes nothing.
-use Prim.Native.Nat.{◌-◌}
 use Rattle.model.specs.Questions.{siblings_differ}
 use Rattle.questions.proofs.LoopLaws.{kept}
 use Rattle.questions.proofs.summary.siblings_differ.Goals as goal

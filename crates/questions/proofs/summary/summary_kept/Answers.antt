@@ -1,5 +1,4 @@
 -- `questions::summary::summary_kept` meets its contract. The loop's invariant: every record before i keeps the rules. Assumes nothing.
-use Prim.Native.Nat.{◌-◌}
 use Rattle.model.specs.Questions.{summary_kept}
 use Rattle.questions.proofs.LoopLaws.{kept}
 use Rattle.questions.proofs.summary.summary_kept.Goals as goal

@@ -1,5 +1,4 @@
 -- `refusals::document::records_refusal` meets its contract. The loop's invariant: r is what the records before i lead to. Assumes nothing.
-use Prim.Native.Nat.{◌-◌}
 use native.Mathlib.Omega.{arith}
 use Rattle.model.specs.Questions.{document_figures}
 use Rattle.questions.proofs.LoopLaws.{kept}
@@ -36,7 +35,7 @@ pub loop-i-preserved : goal.loop-i-preserved
 unfolding document_figures
 loop-i-preserved c =
     elim c.if-x-ne0.branch [
-      then-x-ne0 w ↦ remembered-more 10 (omega arith) (omega arith) _ _ _ _ _ _ (omega arith) c.record_refusal-x.ensures _ {Yes = Unit {0}} {No = ⊥} c.loop-i.invariant c.if-x-eq10.false (inl (tt, w.r-is)) (λ _. w.if-x-ne0.true) absurd
+      | then-x-ne0 w ↦ remembered-more 10 (omega arith) (omega arith) _ _ _ _ _ _ (omega arith) c.record_refusal-x.ensures _ {Yes = Unit {0}} {No = ⊥} c.loop-i.invariant c.if-x-eq10.false (inl (tt, w.r-is)) (λ _. w.if-x-ne0.true) absurd
       | else-x-ne0 w ↦ remembered-more 10 (omega arith) (omega arith) _ _ _ _ _ _ (omega arith) c.record_refusal-x.ensures _ {Yes = ⊥} {No = Unit {0}} c.loop-i.invariant c.if-x-eq10.false (inr (tt, w.r-is)) absurd (λ _. w.if-x-ne0.false)
     ]
 

@@ -1,5 +1,4 @@
 -- `refusals::embedding::images_kept` meets its contract. The loop's invariant: every node before q stands well. Assumes nothing.
-use Prim.Native.Nat.{◌-◌}
 use Rattle.questions.proofs.LoopLaws.{kept}
 use Rattle.refusals.proofs.embedding.images_kept.Goals as goal
 

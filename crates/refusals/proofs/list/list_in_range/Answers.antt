@@ -1,6 +1,5 @@
 -- `refusals::list::list_in_range` meets its contract. The loop's invariant: every field before i is below the count. Assumes
 -- nothing.
-use Prim.Native.Nat.{◌-◌}
 use Rattle.questions.proofs.TestLaws.{joined, compared}
 use Rattle.questions.proofs.LoopLaws.{kept}
 use Rattle.refusals.proofs.DocumentLaws.{list-asked, entry-stops, entry_more, entry-ends}

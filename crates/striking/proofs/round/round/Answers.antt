@@ -1,6 +1,6 @@
 -- `striking::round::round` meets its contract: before the turn of node q the round over all is what was tried and the round over those from q
 -- on. The measure is how many are left. Assumes nothing.
-use Prim.Native.Nat.{ℕ, ◌-◌, ◌<◌}
+use Prim.Native.Nat.{ℕ, ◌<◌}
 use mathlib.Core.Path.{◌≡◌}
 use native.Mathlib.Omega.{arith}
 use Rattle.striking.proofs.RoundLaws.{going_start, turn-few, going_on, going-struck, going-none}

@@ -1,5 +1,5 @@
 -- `striking::shorten::childless` meets its contract. The loop's invariant: no node before i has q as its parent. Assumes nothing.
-use Prim.Native.Nat.{ℕ, ◌-◌}
+use Prim.Native.Nat.{ℕ}
 use mathlib.Core.Path.{sym, ap, ◌∙◌}
 use mathlib.Core.Bool.{not}
 use native.Mathlib.Omega.{arith}

@@ -1,6 +1,6 @@
 -- `striking::strike::strike` meets its contract: before turn k, what is struck and tried and the rest of the model's loop from the present
 -- pattern are what striking comes to. The measure is how many turns are left; the loop returns before they run out. Assumes nothing.
-use Prim.Native.Nat.{◌-◌, ◌<◌}
+use Prim.Native.Nat.{◌<◌}
 use native.Mathlib.Omega.{arith}
 use lib.ListN.{length}
 use Rattle.format.specs.Given.{pattern_at}

@@ -1,8 +1,6 @@
 -- `text::fields::fields` meets its contract: before turn i the fields before it are put. The measure is how many are left. Assumes nothing.
-use Prim.Native.Nat.{◌-◌}
 use mathlib.Core.Path.{sym, ap, ◌∙◌}
 use borrow.Author.Rules.{rules}
-use Rattle.model.specs.Bytes.{field}
 use Rattle.model.specs.Text.{number}
 use Rattle.text.proofs.PutLaws.{room-same, put_same}
 use Rattle.text.proofs.ListedLaws.{listed_start, listed-room, listed-step, listed-end, fields-listed}

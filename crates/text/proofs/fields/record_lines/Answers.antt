@@ -1,6 +1,6 @@
 -- `text::fields::record_lines` meets its contract: before turn i the lines of the records before it are put. The measure is how many are
 -- left. Assumes nothing.
-use Prim.Native.Nat.{◌-◌, ◌<◌}
+use Prim.Native.Nat.{◌<◌}
 use mathlib.Core.Path.{sym}
 use native.Mathlib.Omega.{arith}
 use Rattle.model.specs.Bytes.{field}

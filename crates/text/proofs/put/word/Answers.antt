@@ -1,5 +1,4 @@
 -- `text::put::word` meets its contract: byte by byte. The measure is how many bytes are left. Assumes nothing.
-use Prim.Native.Nat.{◌-◌}
 use mathlib.Core.Path.{refl}
 use Rattle.text.proofs.PutLaws.{copy_start, copy_step, copy-end}
 use Rattle.text.proofs.put.word.Goals as goal
