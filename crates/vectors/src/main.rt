@@ -17,6 +17,7 @@ use moving::downgrade::downgrade_call;
 use moving::upgrade::upgrade_call;
 use normalising::normalise_call;
 use read::Head;
+use std::io::Read;
 use striking::minimise_call;
 
 // A number of the vector as a length.
@@ -24,110 +25,110 @@ fn size(n: u64) -> usize {
     n as usize
 }
 
-fn print_verdict(refused: u64, kind: u64, tried: u64) {
-    print::word(b"verdict refused");
-    print::number(refused);
-    print::word(b" kind");
-    print::number(kind);
-    print::word(b" tried");
-    print::number(tried);
+fn print_verdict(rt: &impl Print, refused: u64, kind: u64, tried: u64) {
+    print::word(rt, b"verdict refused");
+    print::number(rt, refused);
+    print::word(rt, b" kind");
+    print::number(rt, kind);
+    print::word(rt, b" tried");
+    print::number(rt, tried);
 }
 
 // The number and values of an answer, as document 01 gives them.
-fn print_answer(a: Answer) {
+fn print_answer(rt: &impl Print, a: Answer) {
     match a {
-        Answer::Refused(number) => print_verdict(number, 0, 0),
-        Answer::Contained(tried) => print_verdict(0, 1, tried),
-        Answer::NotContained(tried) => print_verdict(0, 2, tried),
-        Answer::Stopped(tried) => print_verdict(0, 3, tried),
+        Answer::Refused(number) => print_verdict(rt, number, 0, 0),
+        Answer::Contained(tried) => print_verdict(rt, 0, 1, tried),
+        Answer::NotContained(tried) => print_verdict(rt, 0, 2, tried),
+        Answer::Stopped(tried) => print_verdict(rt, 0, 3, tried),
     }
 }
 
-fn run_verdict(h: Head, case: &[u8], answer: &mut [u8]) {
+fn run_verdict(rt: &impl Print, h: Head, case: &[u8], answer: &mut [u8]) {
     let r = verdict_call(case, h.limit, h.caller, h.tally, answer);
-    print_answer(r);
-    print::lent(wide64(answer.len()), print::hash(answer));
+    print_answer(rt, r);
+    print::lent(rt, wide64(answer.len()), print::hash(answer));
 }
 
-fn run_minimise(h: Head, case: &[u8], answer: &mut [u8]) {
+fn run_minimise(rt: &impl Print, h: Head, case: &[u8], answer: &mut [u8]) {
     let r = minimise_call(case, h.limit, h.caller, h.tally, answer);
-    print::word(b"minimise refused");
-    print::number(r.refused);
-    print::word(b" struck");
-    print::number(r.struck);
-    print::word(b" tried");
-    print::number(r.tried);
-    print::lent(wide64(answer.len()), print::hash(answer));
+    print::word(rt, b"minimise refused");
+    print::number(rt, r.refused);
+    print::word(rt, b" struck");
+    print::number(rt, r.struck);
+    print::word(rt, b" tried");
+    print::number(rt, r.tried);
+    print::lent(rt, wide64(answer.len()), print::hash(answer));
 }
 
-fn run_fits(case: &[u8], document: &[u8]) {
+fn run_fits(rt: &impl Print, case: &[u8], document: &[u8]) {
     let r = fits_call(case, document);
-    print::word(b"fits refused");
-    print::number(r.refused);
-    print::word(b" holds");
-    print::number(r.holds);
-    print::word(b"\n");
+    print::word(rt, b"fits refused");
+    print::number(rt, r.refused);
+    print::word(rt, b" holds");
+    print::number(rt, r.holds);
+    print::word(rt, b"\n");
 }
 
-fn run_result(h: Head, case: &[u8], document: &[u8], list: &[u8]) {
+fn run_result(rt: &impl Print, h: Head, case: &[u8], document: &[u8], list: &[u8]) {
     let r = result_call(case, h.number, document, list);
-    print::word(b"result refused");
-    print::number(r.refused);
-    print::word(b" holds");
-    print::number(r.holds);
-    print::word(b"\n");
+    print::word(rt, b"result refused");
+    print::number(rt, r.refused);
+    print::word(rt, b" holds");
+    print::number(rt, r.holds);
+    print::word(rt, b"\n");
 }
 
 // An answer that is a count, and the answer buffer.
-fn print_count(refused: u64, count: u64, answer: &[u8]) {
-    print::word(b" refused");
-    print::number(refused);
-    print::word(b" count");
-    print::number(count);
-    print::lent(wide64(answer.len()), print::hash(answer));
+fn print_count(rt: &impl Print, refused: u64, count: u64, answer: &[u8]) {
+    print::word(rt, b" refused");
+    print::number(rt, refused);
+    print::word(rt, b" count");
+    print::number(rt, count);
+    print::lent(rt, wide64(answer.len()), print::hash(answer));
 }
 
-fn run_nodes(h: Head, case: &[u8], document: &[u8], answer: &mut [u8]) {
+fn run_nodes(rt: &impl Print, h: Head, case: &[u8], document: &[u8], answer: &mut [u8]) {
     let r = nodes_call(case, h.number, document, h.position, answer);
-    print::word(b"nodes");
-    print_count(r.refused, r.count, answer);
+    print::word(rt, b"nodes");
+    print_count(rt, r.refused, r.count, answer);
 }
 
-fn run_upgrade(case: &[u8], answer: &mut [u8]) {
+fn run_upgrade(rt: &impl Print, case: &[u8], answer: &mut [u8]) {
     let r = upgrade_call(case, answer);
-    print::word(b"upgrade");
-    print_count(r.refused, r.count, answer);
+    print::word(rt, b"upgrade");
+    print_count(rt, r.refused, r.count, answer);
 }
 
-fn run_downgrade(case: &[u8], answer: &mut [u8]) {
+fn run_downgrade(rt: &impl Print, case: &[u8], answer: &mut [u8]) {
     let r = downgrade_call(case, answer);
-    print::word(b"downgrade");
-    print_count(r.refused, r.count, answer);
+    print::word(rt, b"downgrade");
+    print_count(rt, r.refused, r.count, answer);
 }
 
-fn run_normalise(case: &[u8], answer: &mut [u8]) {
+fn run_normalise(rt: &impl Print, case: &[u8], answer: &mut [u8]) {
     let r = normalise_call(case, answer);
-    print::word(b"normalise");
-    print_count(r.refused, r.count, answer);
+    print::word(rt, b"normalise");
+    print_count(rt, r.refused, r.count, answer);
 }
 
-fn print_all(numbers: &[u64]) {
+fn print_all(rt: &impl Print, numbers: &[u64]) {
     for i in 0..numbers.len() {
-        print::number(numbers[i]);
+        print::number(rt, numbers[i]);
     }
 }
 
-fn run_paths(h: Head, case: &[u8]) {
+fn run_paths(rt: &impl Print, h: Head, case: &[u8]) {
     let r = paths_call(case, h.number);
     let masks = r.masks;
     let counts = r.counts;
-    print::word(b"paths refused");
-    print::number(r.refused);
-    print::word(b" masks");
-    print_all(&masks);
-    print::word(b" counts");
-    print_all(&counts);
-    print::word(b"\n");
+    print::word(rt, b"paths refused");
+    print::number(rt, r.refused);
+    print::word(rt, b" masks");
+    print_all(rt, &masks);
+    print::word(rt, b" counts");
+    print_all(rt, &counts);
+    print::word(rt, b"\n");
 }
 
 // Number i of a column becomes x, where there is one.
@@ -162,6 +163,7 @@ fn fill_table(
 // The word "unchecked" makes the line another than the reference's: what was laid out does not fit, or the pattern's own nodes are
 // no result in it.
 fn run_layout(
+    rt: &impl Print,
     h: Head,
     case: &[u8],
     list: &[u8],
@@ -173,58 +175,59 @@ fn run_layout(
     let r = laid_out(case, h.number, list, parent.len());
     let nodes = r.nodes;
     fill_table(nodes, r.count, parent, at, label, figure);
-    print::word(b"layout");
+    print::word(rt, b"layout");
     let kept = check::layout_kept(case, h.number, list, parent, at, label, figure, r.count);
-    print::word_unless(kept, b" unchecked");
-    print::word(b" refused");
-    print::number(r.refused);
-    print::word(b" count");
-    print::number(wide64(r.count));
+    print::word_unless(rt, kept, b" unchecked");
+    print::word(rt, b" refused");
+    print::number(rt, r.refused);
+    print::word(rt, b" count");
+    print::number(rt, wide64(r.count));
     print::lent(
+        rt,
         wide64(parent.len()),
         print::hash_table(parent, at, label, figure),
     );
 }
 
 // A call that is lent an answer buffer.
-fn with_buffer(h: Head, case: &[u8], document: &[u8], answer: &mut [u8]) {
+fn with_buffer(rt: &impl Print, h: Head, case: &[u8], document: &[u8], answer: &mut [u8]) {
     let call = h.call;
     if call == 1 {
-        run_verdict(h, case, answer);
+        run_verdict(rt, h, case, answer);
         return;
     }
     if call == 4 {
-        run_nodes(h, case, document, answer);
+        run_nodes(rt, h, case, document, answer);
         return;
     }
     if call == 7 {
-        run_upgrade(case, answer);
+        run_upgrade(rt, case, answer);
         return;
     }
     if call == 8 {
-        run_downgrade(case, answer);
+        run_downgrade(rt, case, answer);
         return;
     }
     if call == 9 {
-        run_minimise(h, case, answer);
+        run_minimise(rt, h, case, answer);
         return;
     }
-    run_normalise(case, answer);
+    run_normalise(rt, case, answer);
 }
 
 // A buffer filled with a pattern is lent. A length beyond the room here is cut to it.
-fn with_answer(h: Head, case: &[u8], document: &[u8]) {
+fn with_answer(rt: &impl Print, h: Head, case: &[u8], document: &[u8]) {
     let mut answer = [170u8; 70000];
     let n = size(h.length);
     if n <= 70000 {
-        with_buffer(h, case, document, &mut answer[..n]);
+        with_buffer(rt, h, case, document, &mut answer[..n]);
         return;
     }
-    with_buffer(h, case, document, &mut answer);
+    with_buffer(rt, h, case, document, &mut answer);
 }
 
 // A table whose fields are filled with the same pattern is lent, in four columns; it is cut likewise.
-fn with_table(h: Head, case: &[u8], list: &[u8]) {
+fn with_table(rt: &impl Print, h: Head, case: &[u8], list: &[u8]) {
     let mut parent = [43690u16; 8192];
     let mut at = [43690u16; 8192];
     let mut label = [43690u16; 8192];
@@ -232,6 +235,7 @@ fn with_table(h: Head, case: &[u8], list: &[u8]) {
     let n = size(h.length);
     if n <= 8192 {
         run_layout(
+            rt,
             h,
             case,
             list,
@@ -242,68 +246,81 @@ fn with_table(h: Head, case: &[u8], list: &[u8]) {
         );
         return;
     }
-    run_layout(h, case, list, &mut parent, &mut at, &mut label, &mut figure);
+    run_layout(
+        rt,
+        h,
+        case,
+        list,
+        &mut parent,
+        &mut at,
+        &mut label,
+        &mut figure,
+    );
 }
 
 // The line of one vector.
-fn line(h: Head, case: &[u8], document: &[u8], list: &[u8]) {
+fn line(rt: &impl Print, h: Head, case: &[u8], document: &[u8], list: &[u8]) {
     let call = h.call;
     if call == 2 {
-        run_fits(case, document);
+        run_fits(rt, case, document);
         return;
     }
     if call == 3 {
-        run_result(h, case, document, list);
+        run_result(rt, h, case, document, list);
         return;
     }
     if call == 5 {
-        run_paths(h, case);
+        run_paths(rt, h, case);
         return;
     }
     if call == 6 {
-        with_table(h, case, list);
+        with_table(rt, h, case, list);
         return;
     }
-    with_answer(h, case, document);
+    with_answer(rt, h, case, document);
 }
 
 // One vector; false where there is no further one.
-fn vector(case: &mut [u8], document: &mut [u8], list: &mut [u8]) -> bool {
-    let h = read::read_head();
-    let call = h.call;
-    if call == 0 {
+fn vector<R: Read>(
+    rt: &impl Print,
+    input: &mut R,
+    case: &mut [u8],
+    document: &mut [u8],
+    list: &mut [u8],
+) -> bool {
+    let Some(head) = read::read_head(input) else {
         return false;
-    }
-    let c = read::read_bytes(case);
-    let d = read::read_bytes(document);
-    let l = read::read_bytes(list);
-    if case.len() < c {
+    };
+    let case_length = read::read_bytes(input, case);
+    let document_length = read::read_bytes(input, document);
+    let list_length = read::read_bytes(input, list);
+    let Some(c) = case_length else {
         return false;
-    }
-    if document.len() < d {
+    };
+    let Some(d) = document_length else {
         return false;
-    }
-    if list.len() < l {
+    };
+    let Some(l) = list_length else {
         return false;
-    }
-    line(h, &case[..c], &document[..d], &list[..l]);
+    };
+    line(rt, head, &case[..c], &document[..d], &list[..l]);
     true
 }
 
 // The same, with room for its byte strings.
-fn turn() -> bool {
+fn turn<R: Read>(rt: &impl Print, input: &mut R) -> bool {
     let mut case = [0u8; 70000];
     let mut document = [0u8; 70000];
     let mut list = [0u8; 70000];
-    vector(&mut case, &mut document, &mut list)
+    vector(rt, input, &mut case, &mut document, &mut list)
 }
 
-fn main() {
-    let mut left: usize = 1000000;
-    while 0 < left {
-        if !turn() {
+// The input is read as it is needed, and so no memory grows with it.
+fn main(rt: HostRuntime) {
+    let mut input = rt.stdin();
+    for _ in 0..1000000 {
+        if !turn(&rt, &mut input) {
             return;
         }
-        left -= 1;
     }
 }

@@ -1,43 +1,35 @@
 // What a vector's line is made of: words, numbers and the hash of a buffer or table afterwards.
 
 use format::field::{wide, wide64};
-use std::num::wrapping_add_u64;
 
 // FNV-1a of no bytes.
 const HASH_OF_NOTHING: u64 = 14695981039346656037;
 
-pub fn word(text: &[u8]) {
-    io::write_all(1, text);
+// A failed write is not told: the lines are compared with the reference's, and one that is missing or cut shows.
+pub fn word(rt: &impl Print, text: &[u8]) {
+    let _ = rt.write_all(text);
 }
 
 // A word that is printed where something does not hold.
-pub fn word_unless(holds: bool, text: &[u8]) {
+pub fn word_unless(rt: &impl Print, holds: bool, text: &[u8]) {
     if !holds {
-        word(text);
+        word(rt, text);
     }
 }
 
 // A space and a number.
-pub fn number(n: u64) {
-    io::write_all(1, b" ");
-    io::print_decimal(1, n);
+pub fn number(rt: &impl Print, n: u64) {
+    let _ = print!(rt; " {n}");
 }
 
 // The length and the hash of what was lent, and the line's end.
-pub fn lent(length: u64, hash: u64) {
-    word(b" length");
-    number(length);
-    word(b" hash ");
-    io::print_hex(1, hash, 16);
-    word(b"\n");
+pub fn lent(rt: &impl Print, length: u64, hash: u64) {
+    let _ = println!(rt; " length {length} hash {hash:016x}");
 }
 
 // h times 2^40 + 435, wrapping.
 fn times_prime(h: u64) -> u64 {
-    let a = wrapping_add_u64(h << 40, h << 8);
-    let b = wrapping_add_u64(h << 7, h << 5);
-    let c = wrapping_add_u64(h << 4, h << 1);
-    wrapping_add_u64(wrapping_add_u64(a, b), wrapping_add_u64(c, h))
+    h.wrapping_mul(1099511628211)
 }
 
 // FNV-1a, one byte further.

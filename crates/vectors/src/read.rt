@@ -1,10 +1,12 @@
 // Vectors from standard input: one call's numbers and byte strings after another.
 
-ghost use Rattle.std.specs.Prelude.{◌≡◌, ◌+◌, ◌*◌, ◌<◌, ◌≤◌, length};
+ghost use Rattle.std.specs.Prelude.{◌+◌, ◌*◌, ◌<◌, ◌≤◌, length, IfSome};
+ghost use Rattle.std.specs.Counts.{IsPrefixLen};
 
 use format::field::{field, wide64};
+use std::io::Read;
 
-// The call and its numbers. A call of 0 says that there is no further vector.
+// The call and its numbers.
 #[derive(Clone, Copy)]
 pub struct Head {
     pub call: u64,
@@ -39,22 +41,17 @@ fn head_of(bytes: &[u8; 52]) -> Head {
     }
 }
 
-// The next vector's head.
-pub fn read_head() -> Head {
+// The next vector's head; none where the input ends before it, or where its call is 0.
+pub fn read_head<R: Read>(input: &mut R) -> Option<Head> {
     let mut bytes = [0u8; 52];
-    let got = io::read_full(0, &mut bytes);
-    if got < 52 {
-        return Head {
-            call: 0,
-            limit: 0,
-            tally: 0,
-            caller: 0,
-            number: 0,
-            position: 0,
-            length: 0,
-        };
+    if input.read_exact(&mut bytes).is_err() {
+        return None;
     }
-    head_of(&bytes)
+    let head = head_of(&bytes);
+    if head.call == 0 {
+        return None;
+    }
+    Some(head)
 }
 
 // A 32-bit number, low byte first.
@@ -64,21 +61,20 @@ fn size_of(bytes: &[u8; 4]) -> usize
     field(bytes, 0) + 65536 * field(bytes, 1)
 }
 
-// The next byte string, to the front of the buffer, and its length; the largest number where it is cut short or too long.
-pub fn read_bytes(buffer: &mut [u8]) -> usize {
-    let all = buffer.len();
+// The next byte string, to the front of the buffer, and its length; none where it is cut short or too long.
+pub fn read_bytes<R: Read>(input: &mut R, buffer: &mut [u8]) -> Option<usize>
+    ensures { IfSome result (λ n. IsPrefixLen n buffer.new) }
+{
     let mut size = [0u8; 4];
-    let got = io::read_full(0, &mut size);
-    if got < 4 {
-        return 18446744073709551615;
+    if input.read_exact(&mut size).is_err() {
+        return None;
     }
     let n = size_of(&size);
-    if all < n {
-        return 18446744073709551615;
+    if buffer.len() < n {
+        return None;
     }
-    let had = io::read_full(0, &mut buffer[..n]);
-    if had < n {
-        return 18446744073709551615;
+    if input.read_exact(&mut buffer[..n]).is_err() {
+        return None;
     }
-    n
+    Some(n)
 }
