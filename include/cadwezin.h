@@ -1,6 +1,6 @@
 /* Tree pattern containment under a path summary: the ten calls of the proved library, for C99 and C++ on x86-64.
  *
- * Link with libcadwezin.a, which `rt staticlib cadwezin` writes to target/staticlib/. It needs memcpy and memset and nothing else.
+ * Link with libcadwezin.a, which `tools/archive` writes to target/staticlib/. It needs memcpy and memset and nothing else.
  *
  * Bytes. Every field is 16 bits, low byte first. A section is a count and as many records. A case is the section of the summary
  * (document 01: outline), records (parent, label, strong 0 or 1); the section of the first pattern (document 01: selection), records

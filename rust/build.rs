@@ -1,4 +1,4 @@
-//! Finds the archive that `rt staticlib cadwezin` writes: in the directory that CADWEZIN_LIB_DIR
+//! Finds the archive that `tools/archive` writes: in the directory that CADWEZIN_LIB_DIR
 //! names, or else in target/staticlib of the repository.
 
 use std::env;
@@ -22,8 +22,8 @@ fn main() {
     println!("cargo:rerun-if-changed={}", archive.display());
     if !archive.is_file() {
         missing(&format!(
-            "there is no {}: build it with `rt staticlib cadwezin` in the repository, or set \
-             {VARIABLE} to the absolute path of the directory that has it",
+            "there is no {}: build it with `tools/archive` in the repository, or set {VARIABLE} to \
+             the absolute path of the directory that has it",
             archive.display()
         ));
     }

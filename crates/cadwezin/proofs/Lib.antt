@@ -1,11 +1,5 @@
-pub mod ArrayPart
 pub mod ChargeLaws
-pub mod Charging
-pub mod ChargingWalk
-pub mod Elements
-pub mod Locals
 pub mod MinimiseLaws
 pub mod TableLaws
 pub mod TallyLaws
-pub mod Tests
 pub mod VerdictLaws

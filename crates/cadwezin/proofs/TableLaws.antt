@@ -11,7 +11,7 @@ use Rattle.model.specs.Limits.{min_table}
 use Rattle.model.specs.Bytes.{written_at_front}
 use Rattle.model.specs.Calls.{LaidRecord, LayoutOutcome}
 use Rattle.model.specs.Demands.{LayoutAnswered}
-use Rattle.model.proofs.Bytes.{front_length, front-none}
+use Rattle.model.proofs.Bytes.{front-none}
 use Rattle.format.proofs.FrontLaws.{front-set}
 use Rattle.laying.specs.declared.laid.NodeRecord.{NodeRecord}
 use Rattle.laying.specs.declared.laid.Laid.{Laid}
@@ -38,9 +38,6 @@ pub record Filling (xs ys : List NodeRecord) (count : ℕ) : Type 0 where
 module _ {xs ys : List NodeRecord} {count : ℕ} (f : Filling xs ys count) where
   front-count : (i : ℕ) → i ≤ count → length (take i xs) ≡ i
   front-count i h = let k = f.in_nodes in length-take-le i xs (omega arith)
-
-  pub filled-length : (i : ℕ) → i ≤ count → length (filled xs ys i) ≡ length ys
-  filled-length i h = let k = f.in_table in let n = front-count i h in front_length (take i xs) ys (omega arith)
 
   -- a turn
   pub filled_next : (i : ℕ) → i < count → set (filled xs ys i) i (get_or xs i blank) ≡ filled xs ys (i + 1)

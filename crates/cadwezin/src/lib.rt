@@ -18,6 +18,7 @@ use calls::nodes::nodes_call;
 use calls::paths::paths_call;
 use calls::result::result_call;
 use deciding::{Answer, verdict_call};
+use format::limits::CALLERS;
 use laying::laid::{NodeRecord, laid_out};
 use moving::answers::Moved;
 use moving::downgrade::downgrade_call;
@@ -90,7 +91,7 @@ pub extern "C" fn cadwezin_verdict(
 {
     let at = caller as usize;
     let mut tally = 0;
-    if caller < 8 {
+    if caller < CALLERS {
         tally = tallies.counts[at];
     }
     let r = told(case, limit, caller, tally, answer);

@@ -4,6 +4,7 @@ ghost use Rattle.model.specs.Demands.{TalliedMinimised};
 ghost use Rattle.cadwezin.specs.Minimise.{exported_strikes};
 
 use crate::Tallies;
+use format::limits::CALLERS;
 use striking::{Minimised, minimise_call};
 
 // Strike from the first pattern what it need not say, by verdicts within the limit. The shortened pattern's section, then a count and the
@@ -22,7 +23,7 @@ pub extern "C" fn cadwezin_minimise(
 {
     let at = caller as usize;
     let mut tally = 0;
-    if caller < 8 {
+    if caller < CALLERS {
         tally = tallies.counts[at];
     }
     let r = minimise_call(case, limit, caller, tally, answer);
