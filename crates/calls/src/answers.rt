@@ -18,7 +18,7 @@ pub struct CountAnswer {
 
 // The paths of sixteen pattern nodes, bit i for summary node i, and how many each has. Entries past the last node are 0.
 #[repr(C)]
-#[derive(Drop)]
+#[derive(Clone, Copy)]
 pub struct PathsAnswer {
     pub refused: u64,
     pub masks: [u64; 16],

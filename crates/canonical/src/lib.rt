@@ -24,7 +24,7 @@ mod figures;
 mod fill;
 
 // How many nodes are laid out, and the own node of each pattern node, at the front.
-#[derive(Drop)]
+#[derive(Clone, Copy)]
 pub struct LaidOut {
     pub count: usize,
     pub own: [u16; 16],

@@ -12,7 +12,7 @@ use normalising::normalise_call;
 use text::line::line;
 
 // How many bytes are to be written, and to which stream: 1 is standard output, 2 standard error.
-#[derive(Drop)]
+#[derive(Clone, Copy)]
 pub struct Told {
     pub stream: u64,
     pub count: usize,

@@ -25,7 +25,7 @@ pub struct NodeRecord {
 }
 
 // The refusal's number, or 0; how many nodes are laid out; and their records, at the front.
-#[derive(Drop)]
+#[derive(Clone, Copy)]
 pub struct Laid {
     pub refused: u64,
     pub count: usize,

@@ -16,7 +16,7 @@ use std::io::{Read, Write};
 pub use trouble::Trouble;
 
 // What reading gave: how many bytes stand at the front, and whether a read failed.
-#[derive(Drop)]
+#[derive(Clone, Copy)]
 pub struct Input {
     pub count: usize,
     pub failed: bool,

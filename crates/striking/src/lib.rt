@@ -25,7 +25,7 @@ use strike::strike;
 
 // The answer of the call: the refusal's number, or 0; how many leaves were struck; and the sum of tried over all verdicts made.
 #[repr(C)]
-#[derive(Drop)]
+#[derive(Clone, Copy)]
 pub struct Minimised {
     pub refused: u64,
     pub struck: u64,

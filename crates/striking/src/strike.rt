@@ -18,7 +18,7 @@ use judging::rows::SummaryRows;
 pub type Names = [u16; 16];
 
 // How many leaves were struck, and how many were tried in all.
-#[derive(Drop)]
+#[derive(Clone, Copy)]
 pub struct Strikes {
     pub count: usize,
     pub tried: u64,
