@@ -1,5 +1,5 @@
-// The calls, for C and Rust to link: each is exported under its own name. A slice passes as a pointer and a length, a lent struct as a
-// pointer. Any bytes, any numbers and buffers and tables of any length may be given; where a call is refused nothing is altered.
+// The calls of the public library, which `cadwezin_c` exports for C and Rust to link. Any bytes, any numbers and buffers and tables of any
+// length may be given; where a call is refused nothing is altered.
 #![tactic(auto)]
 
 pub mod minimise;
@@ -18,7 +18,6 @@ use calls::nodes::nodes_call;
 use calls::paths::paths_call;
 use calls::result::result_call;
 use deciding::{Answer, verdict_call};
-use format::limits::CALLERS;
 use laying::laid::{NodeRecord, laid_out};
 use moving::answers::Moved;
 use moving::downgrade::downgrade_call;
@@ -78,8 +77,7 @@ fn told(case: &[u8], limit: u64, caller: u64, tally: u64, answer: &mut [u8]) -> 
 
 // Decide whether the first pattern is contained in the set. What "not included" shows goes to the front of the answer buffer, and
 // the caller's own count grows by tried. A caller above 7 has none: no count is read or altered.
-#[unsafe(no_mangle)]
-pub extern "C" fn cadwezin_verdict(
+pub fn cadwezin_verdict(
     case: &[u8],
     limit: u64,
     caller: u64,
@@ -91,7 +89,7 @@ pub extern "C" fn cadwezin_verdict(
 {
     let at = caller as usize;
     let mut tally = 0;
-    if caller < CALLERS {
+    if caller < 8 {
         tally = tallies.counts[at];
     }
     let r = told(case, limit, caller, tally, answer);
@@ -103,29 +101,21 @@ pub extern "C" fn cadwezin_verdict(
 }
 
 // Fits: does the document conform to the case's summary?
-#[unsafe(no_mangle)]
-pub extern "C" fn cadwezin_fits(case: &[u8], document: &[u8]) -> TestAnswer
+pub fn cadwezin_fits(case: &[u8], document: &[u8]) -> TestAnswer
     ensures { FitsAnswered case.now document.now (test_of result) }
 {
     fits_call(case, document)
 }
 
 // Is the list a result of the pattern that the number names, in the document?
-#[unsafe(no_mangle)]
-pub extern "C" fn cadwezin_result(
-    case: &[u8],
-    number: u64,
-    document: &[u8],
-    list: &[u8],
-) -> TestAnswer
+pub fn cadwezin_result(case: &[u8], number: u64, document: &[u8], list: &[u8]) -> TestAnswer
     ensures { ResultAnswered case.now number document.now list.now (test_of result) }
 {
     result_call(case, number, document, list)
 }
 
 // The nodes at a position in any result, ascending after their count, go to the front of the answer buffer.
-#[unsafe(no_mangle)]
-pub extern "C" fn cadwezin_nodes(
+pub fn cadwezin_nodes(
     case: &[u8],
     number: u64,
     document: &[u8],
@@ -138,16 +128,14 @@ pub extern "C" fn cadwezin_nodes(
 }
 
 // The paths of each node of the pattern that the number names.
-#[unsafe(no_mangle)]
-pub extern "C" fn cadwezin_paths(case: &[u8], number: u64) -> PathsAnswer
+pub fn cadwezin_paths(case: &[u8], number: u64) -> PathsAnswer
     ensures { PathsAnswered case.now number (paths_of result) }
 {
     paths_call(case, number)
 }
 
 // Lay out a canonical document: its nodes fill the front of the lent table, and the node count is the result.
-#[unsafe(no_mangle)]
-pub extern "C" fn cadwezin_layout(
+pub fn cadwezin_layout(
     case: &[u8],
     number: u64,
     list: &[u8],
@@ -170,16 +158,14 @@ pub extern "C" fn cadwezin_layout(
 }
 
 // An old case, in document 01's form, becomes the same case with a set of one, at the front of the answer buffer.
-#[unsafe(no_mangle)]
-pub extern "C" fn cadwezin_upgrade(case: &[u8], answer: &mut [u8]) -> Moved
+pub fn cadwezin_upgrade(case: &[u8], answer: &mut [u8]) -> Moved
     ensures { UpgradeAnswered case.now answer.old (moved_of result answer.new) }
 {
     upgrade_call(case, answer)
 }
 
 // A case with a set of one goes back to the old form, at the front of the answer buffer.
-#[unsafe(no_mangle)]
-pub extern "C" fn cadwezin_downgrade(case: &[u8], answer: &mut [u8]) -> Moved
+pub fn cadwezin_downgrade(case: &[u8], answer: &mut [u8]) -> Moved
     ensures { DowngradeAnswered case.now answer.old (moved_of result answer.new) }
 {
     downgrade_call(case, answer)
@@ -187,8 +173,7 @@ pub extern "C" fn cadwezin_downgrade(case: &[u8], answer: &mut [u8]) -> Moved
 
 // The case in its one way of writing, at the front of the answer buffer: two are written alike exactly when renumbering nodes turns one
 // into the other.
-#[unsafe(no_mangle)]
-pub extern "C" fn cadwezin_normalise(case: &[u8], answer: &mut [u8]) -> Moved
+pub fn cadwezin_normalise(case: &[u8], answer: &mut [u8]) -> Moved
     ensures { NormaliseAnswered case.now answer.old (moved_of result answer.new) }
 {
     normalise_call(case, answer)

@@ -1,17 +1,15 @@
-// Striking out, for C and Rust to link: the other call that goes to its caller's own count.
+// Striking out: the other call that goes to its caller's own count.
 
 ghost use Rattle.model.specs.Demands.{TalliedMinimised};
 ghost use Rattle.cadwezin.specs.Minimise.{exported_strikes};
 
 use crate::Tallies;
-use format::limits::CALLERS;
 use striking::{Minimised, minimise_call};
 
 // Strike from the first pattern what it need not say, by verdicts within the limit. The shortened pattern's section, then a count and the
 // struck numbers, go to the front of the answer buffer, and the caller's own count grows by all that was tried. A caller above 7 has none:
 // no count is read or altered.
-#[unsafe(no_mangle)]
-pub extern "C" fn cadwezin_minimise(
+pub fn cadwezin_minimise(
     case: &[u8],
     limit: u64,
     caller: u64,
@@ -23,7 +21,7 @@ pub extern "C" fn cadwezin_minimise(
 {
     let at = caller as usize;
     let mut tally = 0;
-    if caller < CALLERS {
+    if caller < 8 {
         tally = tallies.counts[at];
     }
     let r = minimise_call(case, limit, caller, tally, answer);
