@@ -29,7 +29,8 @@ use Rattle.format.specs.Given.{bare, tree_of, third_in}
 use Rattle.format.proofs.BareLaws.{bare-length, bare-parent, bare-label, bare-tree}
 use Rattle.format.proofs.SectionLaws.{tree-document, document-third}
 use Rattle.matching.specs.Matching.{part_at, stands_at, result_pin, figure_pin}
-use Rattle.matching.specs.Wanted.{Wants, Unmarked, Unasked, Marked, WantsFigured, block_pin}
+use Rattle.matching.specs.declared.wanted.Wanted.{Wanted}
+use Rattle.matching.specs.Wanted.{Wants, Unmarked, Unasked, Marked, WantsFigured, pin_of}
 use Rattle.matching.specs.Tables.{part_table, stand_table, HoldsParts, HoldsStands}
 use Rattle.matching.specs.Outcomes.{in_mask, Written}
 use Rattle.matching.proofs.Parts.{Pin, part-exact}
@@ -157,7 +158,7 @@ path-stands S Q pin T t free q test h same =
 -- ---- read off the tables
 
 -- the bits of an entry, where the tree in t is W
-module _ {Q : Pattern} {W : Document} {w : List ℕ} (K : Wants Q w) (width : ℕ) (t before : List ℕ) (same : tree_of width t ≡ W) {after : List ℕ} where
+module _ {Q : Pattern} {W : Document} {w : Wanted} (K : Wants Q w) (width : ℕ) (t before : List ℕ) (same : tree_of width t ≡ W) {after : List ℕ} where
   entry-bit : (f : Document → ℕ → ℕ → Bool) → after ≡ written_at_front (map (λ v. mask_below (f (tree_of width t) v) (length Q)) (up_from 0 (length (tree_of width t)))) before
       → (v q : ℕ) → v < length W → q < length Q → in_mask after q v ≡ f W v q
   entry-bit f e v q h l =
@@ -166,23 +167,23 @@ module _ {Q : Pattern} {W : Document} {w : List ℕ} (K : Wants Q w) (width : �
       (e ∙ ap (λ (X : Document). written_at_front (map (λ v. mask_below (f X v) (length Q)) (up_from 0 (length X))) before) same) v h)
       ∙ mask_below_lem (f W v) (length Q) q l
 
-  stand-bit : HoldsStands width t w before after → (v q : ℕ) → v < length W → q < length Q → in_mask after q v ≡ stands_at Q W (block_pin w (third_in width t)) v q
+  stand-bit : HoldsStands width t w before after → (v q : ℕ) → v < length W → q < length Q → in_mask after q v ≡ stands_at Q W (pin_of w (third_in width t)) v q
   unfolding stand_table
-  stand-bit H = entry-bit (λ X. stands_at Q X (block_pin w (third_in width t))) (H Q K)
+  stand-bit H = entry-bit (λ X. stands_at Q X (pin_of w (third_in width t))) (H Q K)
 
-  part-bit : HoldsParts width t w before after → (v q : ℕ) → v < length W → q < length Q → in_mask after q v ≡ part_at Q W (block_pin w (third_in width t)) v q
+  part-bit : HoldsParts width t w before after → (v q : ℕ) → v < length W → q < length Q → in_mask after q v ≡ part_at Q W (pin_of w (third_in width t)) v q
   unfolding part_table
-  part-bit H = entry-bit (λ X. part_at Q X (block_pin w (third_in width t))) (H Q K)
+  part-bit H = entry-bit (λ X. part_at Q X (pin_of w (third_in width t))) (H Q K)
 
 -- over the document in t
-module _ {Q : Pattern} {w₀ w : List ℕ} (B : WantsFigured Q w₀ w) (t before : List ℕ) {after : List ℕ} (F : PatternFacts Q) (T : IsTree (document_of t)) where
+module _ {Q : Pattern} {w₀ w : Wanted} (B : WantsFigured Q w₀ w) (t before : List ℕ) {after : List ℕ} (F : PatternFacts Q) (T : IsTree (document_of t)) where
   -- is it a result
   pub result-read : (list : List ℕ) {r : Bool} → Marked Q list w₀ → length list ≡ arity Q → HoldsParts document_width t w before after
       → r ≡ has (get_or after 0 0) 0 → r ≡ is_result Q (document_of t) list
   result-read list M n H e =
       let K = B.wants in
       e ∙ part-bit K document_width t before (tree-document t) H 0 0 ((to-bare (document_of t)).inside 0 T.inhabited) K.tree.inhabited
-      ∙ sym (result-part Q (document_of t) (block_pin w (third_in document_width t)) K.tree T list F n
+      ∙ sym (result-part Q (document_of t) (pin_of w (third_in document_width t)) K.tree T list F n
       (λ p v h i. marked-pin Q (document_of t) w (third_in document_width t) list (λ q l. B.marks q (omega (arith, K.few)) ∙ M q l) B.asked p v h (document-third t v i)))
 
   -- nodes at a position
@@ -196,18 +197,18 @@ module _ {Q : Pattern} {w₀ w : List ℕ} (B : WantsFigured Q w₀ w) (t before
       here : (v : ℕ) → v < length (document_of t) → in_mask after (node_at Q p) v ≡ is_at Q (document_of t) p v
       here v h =
           stand-bit K document_width t before (tree-document t) H v (node_at Q p) ((to-bare (document_of t)).inside v h) (F.holds p low top)
-          ∙ sym (at-stands Q (document_of t) (block_pin w (third_in document_width t)) K.tree T p v F low top h
+          ∙ sym (at-stands Q (document_of t) (pin_of w (third_in document_width t)) K.tree T p v F low top h
           (λ i x l k. unmarked-pin Q (document_of t) w (third_in document_width t) K.few (λ j m. B.marks j m ∙ U j m) B.asked i x l (document-third t x k)))
 
       listed : keep (in_mask after q) (up_from 0 n) ≡ nodes_at Q (document_of t) p
       listed =
           ap₂ (λ (x y : ℕ). keep (in_mask after x) (up_from 0 y)) e s
-          ∙ nodes-stand Q (document_of t) (block_pin w (third_in document_width t)) K.tree T p (in_mask after (node_at Q p)) here
+          ∙ nodes-stand Q (document_of t) (pin_of w (third_in document_width t)) K.tree T p (in_mask after (node_at Q p)) here
 
 -- paths
-pub path-read : (S : Summary) {Q : Pattern} {w : List ℕ} → Wants Q w → (width : ℕ) (t before : List ℕ) {after : List ℕ} {n q : ℕ} → Unmarked w → Unasked w
+pub path-read : (S : Summary) {Q : Pattern} {w : Wanted} → Wants Q w → (width : ℕ) (t before : List ℕ) {after : List ℕ} {n q : ℕ} → Unmarked w → Unasked w
     → tree_of width t ≡ as_document S → IsTree (as_document S) → HoldsStands width t w before after → n ≡ length S → q < length Q → mask_below (in_mask after q) n ≡ path_mask S Q q
 path-read S {Q} {w} K width t before {after} {n} {q} U A same T H e h =
     ap (mask_below (in_mask after q)) (e ∙ sym (length-as_document S))
-    ∙ path-stands S Q (block_pin w (third_in width t)) K.tree T (λ p v l. free-pin w (third_in width t) U A p v (omega (arith, K.few))) q (in_mask after q) h
+    ∙ path-stands S Q (pin_of w (third_in width t)) K.tree T (λ p v l. free-pin w (third_in width t) U A p v (omega (arith, K.few))) q (in_mask after q) h
     (λ v l. stand-bit K width t before same H v q l h)

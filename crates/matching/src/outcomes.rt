@@ -12,7 +12,7 @@ ghost use Rattle.format.specs.Given.{summary_in, pattern_at, SummaryGiven, Patte
 ghost use Rattle.matching.specs.Outcomes.{in_mask, push_if, count_if, Written};
 
 use crate::tables::{parts, stands};
-use crate::wanted::{ask_figures, pin, wanted_of};
+use crate::wanted::Wanted;
 use bits;
 use format::document::document_count;
 use format::limits::{DOCUMENT_WIDTH, SUMMARY_WIDTH};
@@ -72,11 +72,11 @@ pub fn is_result(case: &[u8], at: usize, w: &[u8], list: &[u8]) -> bool
     requires list_facts { ListFacts (arity (pattern_at case.now at)) (length (document_of w.now)) list.now }
     ensures { result ≡ is_result (pattern_at case.now at) (document_of w.now) (list_of list.now) }
 {
-    let mut block = wanted_of(case, at);
-    pin(case, at, list, &mut block);
-    ask_figures(case, at, &mut block);
+    let mut wanted = Wanted::new(case, at);
+    wanted.pin(case, at, list);
+    wanted.ask_figures(case, at);
     let mut table = [0u16; 1024];
-    parts(w, DOCUMENT_WIDTH, &block, &mut table);
+    parts(w, DOCUMENT_WIDTH, &wanted, &mut table);
     bits::has16(table[0], 0)
 }
 
@@ -86,11 +86,11 @@ pub fn nodes_at(case: &[u8], at: usize, w: &[u8], position: usize, out: &mut [u1
     requires le_position { (1 ≤ position) × (position ≤ arity (pattern_at case.now at)) × (length (document_of w.now) ≤ length out.old) }
     ensures { Written (nodes_at (pattern_at case.now at) (document_of w.now) position) out.old out.new result }
 {
-    let mut block = wanted_of(case, at);
-    ask_figures(case, at, &mut block);
+    let mut wanted = Wanted::new(case, at);
+    wanted.ask_figures(case, at);
     let mut table = [0u16; 1024];
     let mut left = [0u16; 1024];
-    stands(w, DOCUMENT_WIDTH, &block, &mut table, &mut left);
+    stands(w, DOCUMENT_WIDTH, &wanted, &mut table, &mut left);
     nodes_with(&table, document_count(w), node_at(case, at, position), out)
 }
 
@@ -99,10 +99,10 @@ pub fn path_masks(case: &[u8], p: &[u8], at: usize) -> [u64; 16]
     requires { SummaryGiven case.now × PatternGiven p.now at }
     ensures { result ≡ map (path_mask (summary_in case.now) (pattern_at p.now at)) (up_from 0 16) }
 {
-    let block = wanted_of(p, at);
+    let wanted = Wanted::new(p, at);
     let mut table = [0u16; 64];
     let mut left = [0u16; 64];
-    stands(case, SUMMARY_WIDTH, &block, &mut table, &mut left);
+    stands(case, SUMMARY_WIDTH, &wanted, &mut table, &mut left);
     let n = summary_count(case);
     let m = pattern_count(p, at);
     let mut r = [0u64; 16];

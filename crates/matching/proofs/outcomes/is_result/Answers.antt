@@ -10,12 +10,12 @@ use Rattle.matching.proofs.outcomes.is_result.Goals as goal
 
 pub pin-requires : goal.pin-requires
 pin-requires c =
-    record { pattern_given = (c.requires.pattern_given.0, c.requires.pattern_given.1, c.wanted_of-block.ensures.0); list_len = (c.requires.list_facts.count, list-small c.requires.list_facts (omega (arith, c.requires.pattern_given.2.few))) }
+    record { pattern_given = (c.requires.pattern_given.0, c.requires.pattern_given.1, c.new-wanted.ensures.0); list_len = (c.requires.list_facts.count, list-small c.requires.list_facts (omega (arith, c.requires.pattern_given.2.few))) }
 
 pub parts-requires : goal.parts-requires
 parts-requires c =
     let d = document-as-tree c.requires.pattern_given.2 in
-    record { tree_lent = ((max_document, d), (_, c.ask_figures.ensures.wants)); t_in_bounds = (d.few, zeros-at 1024) }
+    record { tree_lent = (max_document, d); t_in_bounds = (d.few, zeros-at 1024) }
 
 pub returns : goal.returns
 returns c =

@@ -10,7 +10,7 @@ use Rattle.matching.proofs.outcomes.nodes_at.Goals as goal
 pub stands-requires : goal.stands-requires
 stands-requires c =
     let d = document-as-tree c.requires.pattern_given.2 in
-    record { tree_lent = ((max_document, d), (_, c.ask_figures.ensures.wants), zeros-at 1024); t_in_bounds = (d.few, d.few) }
+    record { tree_lent = ((max_document, d), zeros-at 1024); t_in_bounds = (d.few, d.few) }
 
 pub nodes_with-requires : goal.nodes_with-requires
 nodes_with-requires c =
@@ -23,6 +23,6 @@ nodes_with-requires c =
 
 pub returns : goal.returns
 returns c =
-    nodes-read c.ask_figures.ensures c.args.w.now _ c.requires.pattern_given.1 c.requires.pattern_given.2.tree c.args.out.now c.wanted_of-block.ensures.1 c.requires.le_position.0
+    nodes-read c.ask_figures.ensures c.args.w.now _ c.requires.pattern_given.1 c.requires.pattern_given.2.tree c.args.out.now c.new-wanted.ensures.1 c.requires.le_position.0
     c.requires.le_position.1 c.stands.ensures c.node_at.ensures c.document_count.ensures.0
     c.nodes_with.ensures

@@ -15,7 +15,7 @@ use Rattle.matching.proofs.outcomes.path_masks.Goals as goal
 pub stands-requires : goal.stands-requires
 stands-requires c =
     let d = summary-as-tree c.requires.0 in
-    record { tree_lent = ((max_summary, d), (_, c.wanted_of-block.ensures.0), zeros-at 64); t_in_bounds = (d.few, d.few) }
+    record { tree_lent = ((max_summary, d), zeros-at 64); t_in_bounds = (d.few, d.few) }
 
 pub loop-q-init : goal.loop-q-init
 loop-q-init c = filled-start refl
@@ -31,7 +31,7 @@ bounds-r-q c = omega (arith, c.requires.1.few)
 pub loop-q-preserved : goal.loop-q-preserved
 loop-q-preserved c =
     filled-step c.loop-q.invariant (omega arith) c.requires.1.few
-    (c.stand_mask.ensures ∙ path-read _ c.wanted_of-block.ensures.0 summary_width c.args.case.now _ c.wanted_of-block.ensures.1 c.wanted_of-block.ensures.2 (tree-summary c.args.case.now)
+    (c.stand_mask.ensures ∙ path-read _ c.new-wanted.ensures.0 summary_width c.args.case.now _ c.new-wanted.ensures.1 c.new-wanted.ensures.2 (tree-summary c.args.case.now)
     c.requires.0.tree c.stands.ensures c.summary_count-n.ensures.0 (omega arith))
 
 pub returns : goal.returns

@@ -1,5 +1,5 @@
 -- `matching::tables::settle` meets its contract: the table is stored to as the definition says. Assumes nothing.
-use mathlib.Core.Path.{◌∙◌}
+use mathlib.Core.Path.{refl, ◌∙◌}
 use native.Mathlib.Omega.{arith}
 use lib.ListN.{length-set}
 use Rattle.format.specs.Given.{tree_of, third_in}
@@ -19,4 +19,4 @@ pub returns : goal.returns
 returns c =
     let s = c.args in
     settle-stored (tree_of s.width s.t.now) s.wanted.now (third_in s.width s.t.now s.v) s.v s.table.now c.offer_up.ensures c.fitting-fit.ensures
-    c.tree_label.ensures c.tree_third.ensures c.wanted_deep.ensures
+    c.tree_label.ensures c.tree_third.ensures refl
