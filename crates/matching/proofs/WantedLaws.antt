@@ -82,23 +82,23 @@ mark-pin p v list = go (eqb p 0) refl
         ap (λ (y : ℕ). eqb y 0 || eqb y (v + 1)) (mark-some p list (eqb-false p 0 e))
         ∙ ap₂ (λ (a b : Bool). a || b) (ne_eqb (x + 1) 0 (λ q. omega arith)) (same_next x v)
 
-module _ (Q : Pattern) (W : Document) (w : Wanted) (figure : ℕ → ℕ) where
-  pub marked-pin : (list : List ℕ) → Marked Q list w → Asked Q w → (p v : ℕ) → p < length Q → figure v ≡ figure_of W v
-      → pin_of w figure p v ≡ (result_pin Q list p v && figure_pin Q W p v)
+module _ (Q : Pattern) (W : Document) (w : Wanted) where
+  pub marked-pin : (list : List ℕ) → Marked Q list w → Asked Q w → (p v : ℕ) → p < length Q → pin_of w W p v ≡ (result_pin Q list p v && figure_pin Q W p v)
   unfolding pin_of pin_by result_pin figure_pin
-  marked-pin list M A p v h e =
-      ap₂ (λ (a b : Bool). a && b) (ap (λ (x : ℕ). mark_fits x (v + 1)) (M p h) ∙ mark-pin (position Q p) v list) (ap₂ figure_fits (A p h) e)
+  marked-pin list M A p v h =
+      ap₂ (λ (a b : Bool). a && b) (ap (λ (x : ℕ). mark_fits x (v + 1)) (M p h) ∙ mark-pin (position Q p) v list) (ap (λ (x : ℕ). figure_fits x (figure_of W v)) (A p h))
 
   -- no mark: the least figures alone
-  pub unmarked-pin : length Q ≤ 16 → Unmarked w → Asked Q w → (p v : ℕ) → p < length Q → figure v ≡ figure_of W v → pin_of w figure p v ≡ figure_pin Q W p v
+  pub unmarked-pin : length Q ≤ 16 → Unmarked w → Asked Q w → (p v : ℕ) → p < length Q → pin_of w W p v ≡ figure_pin Q W p v
   unfolding pin_of pin_by mark_fits figure_pin
-  unmarked-pin few U A p v h e = ap (λ (x : ℕ). (eqb x 0 || eqb x (v + 1)) && figure_fits (get_or w.least p 0) (figure v)) (U p (omega arith)) ∙ ap₂ figure_fits (A p h) e
+  unmarked-pin few U A p v h =
+      ap (λ (x : ℕ). (eqb x 0 || eqb x (v + 1)) && figure_fits (get_or w.least p 0) (figure_of W v)) (U p (omega arith)) ∙ ap (λ (x : ℕ). figure_fits x (figure_of W v)) (A p h)
 
 -- no mark and no figure asked: no pin
-pub free-pin : (w : Wanted) (figure : ℕ → ℕ) → Unmarked w → Unasked w → (p v : ℕ) → p < 16 → pin_of w figure p v ≡ true
+pub free-pin : (w : Wanted) (W : Document) → Unmarked w → Unasked w → (p v : ℕ) → p < 16 → pin_of w W p v ≡ true
 unfolding pin_of pin_by mark_fits figure_fits
-free-pin w figure U A p v h =
-    ap₂ (λ (x y : ℕ). (eqb x 0 || eqb x (v + 1)) && leb y (figure v)) (U p h) (A p h) ∙ le-leb 0 (figure v) (omega arith)
+free-pin w W U A p v h =
+    ap₂ (λ (x y : ℕ). (eqb x 0 || eqb x (v + 1)) && leb y (figure_of W v)) (U p h) (A p h) ∙ le-leb 0 (figure_of W v) (omega arith)
 
 -- ---- the sets
 
@@ -111,13 +111,13 @@ module _ {Q : Pattern} {w : Wanted} (K : Wants Q w) (W : Document) (v : ℕ) whe
       ∙ subset-all (hangs_from Q p) f (length Q) (mask_below f (length Q)) (mask_below_lem f (length Q))
 
   -- what may stand at v, which is offered f
-  pub fits_mask : (figure : ℕ → ℕ) (f : ℕ → Bool)
-      → mask_below (fits_by w (label_of W v) (figure v) (v + 1) (mask_below f (length Q))) w.count ≡ mask_below (fits_at Q W (pin_of w figure) v f) (length Q)
+  pub fits_mask : (f : ℕ → Bool)
+      → mask_below (fits_by w (label_of W v) (figure_of W v) (v + 1) (mask_below f (length Q))) w.count ≡ mask_below (fits_at Q W (pin_of w W) v f) (length Q)
   unfolding fits_by fits_at pin_of
-  fits_mask figure f =
-      ap (mask_below (fits_by w (label_of W v) (figure v) (v + 1) (mask_below f (length Q)))) K.count
-      ∙ mask-agree (fits_by w (label_of W v) (figure v) (v + 1) (mask_below f (length Q))) (fits_at Q W (pin_of w figure) v f) (length Q)
-      (λ p l. ap₂ (λ (a b : Bool). (a && pin_by w (figure v) (v + 1) p) && b) (ap (λ (x : ℕ). label_fits x (label_of W v)) (K.labels p l)) (children-mask f p l))
+  fits_mask f =
+      ap (mask_below (fits_by w (label_of W v) (figure_of W v) (v + 1) (mask_below f (length Q)))) K.count
+      ∙ mask-agree (fits_by w (label_of W v) (figure_of W v) (v + 1) (mask_below f (length Q))) (fits_at Q W (pin_of w W) v f) (length Q)
+      (λ p l. ap₂ (λ (a b : Bool). (a && pin_by w (figure_of W v) (v + 1) p) && b) (ap (λ (x : ℕ). label_fits x (label_of W v)) (K.labels p l)) (children-mask f p l))
 
   -- what v then offers
   pub offers-mask : (pin : ℕ → ℕ → Bool) (f : ℕ → Bool)

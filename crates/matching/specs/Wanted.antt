@@ -3,6 +3,7 @@
 use Rattle.std.specs.Prelude.{ℕ, ◌+◌, ◌-◌, ◌≤◌, ◌<◌, ◌≡◌, Bool, true, false, ◌&&◌, ◌||◌, List, eqb, ltb, length, get_or}
 use Rattle.std.specs.Int.Bits.{bit_and}
 use Rattle.model.specs.Lists.{mask_below, has}
+use Rattle.model.specs.Tree.{Document, figure_of}
 use Rattle.model.specs.Pattern.{Pattern, IsPatternTree, pattern_parent, pattern_label, position, pattern_figure, label_fits, figure_fits}
 use Rattle.model.specs.Quick.{hangs_from}
 use Rattle.model.specs.Bytes.{list_of}
@@ -29,9 +30,9 @@ mark_fits own mark = eqb own 0 || eqb own mark
 unfoldable pub pin_by : Wanted → ℕ → ℕ → ℕ → Bool
 pin_by w figure mark p = mark_fits (get_or w.marks p 0) mark && figure_fits (get_or w.least p 0) figure
 
--- the pins, in a tree whose nodes have these figures
-unfoldable pub pin_of : Wanted → (ℕ → ℕ) → ℕ → ℕ → Bool
-pin_of w figure p v = pin_by w (figure v) (v + 1) p
+-- the pins in a tree
+unfoldable pub pin_of : Wanted → Document → ℕ → ℕ → Bool
+pin_of w W p v = pin_by w (figure_of W v) (v + 1) p
 
 -- no node is marked
 abbrev pub Unmarked : Wanted → Type 0

@@ -6,4 +6,5 @@ pub mod masks;
 pub mod outcomes;
 mod sets;
 mod tables;
+mod tree;
 mod wanted;

@@ -4,16 +4,14 @@ ghost use Rattle.std.specs.Prelude.{◌≡◌, ◌≤◌, length};
 ghost use Rattle.model.specs.Pattern.{arity};
 ghost use Rattle.model.specs.Bytes.{list_of};
 ghost use Rattle.model.specs.Facts.{PatternFacts};
-ghost use Rattle.format.specs.Given.{pattern_at, PatternGiven};
+ghost use Rattle.format.specs.Given.{PatternKept};
 ghost use Rattle.matching.specs.Wanted.{Wants, Unmarked, Unasked, WantsPinned, WantsFigured, mark_at, SmallNumbers};
 
 use crate::masks::{deep_mask, kid_masks};
 use crate::wanted::Wanted;
 use format::field::field;
 use format::nodes::PatternNode;
-use format::pattern::{
-    pattern_count, pattern_figure, pattern_label, pattern_parent, pattern_position,
-};
+use format::pattern::Pattern;
 
 // The mark of a node with this position: one more than its own number in the list.
 fn mark_at(position: usize, list: &[u8]) -> u16
@@ -28,46 +26,46 @@ fn mark_at(position: usize, list: &[u8]) -> u16
 
 impl Wanted {
     // What is wanted of the pattern, with no node marked and no figure asked.
-    pub fn new(b: &[u8], at: usize) -> Self
-        requires { PatternGiven b.now at }
-        ensures { Wants (pattern_at b.now at) result × Unmarked result × Unasked result }
+    pub fn new(pattern: &Pattern) -> Self
+        requires { PatternKept pattern.now }
+        ensures { Wants pattern.now result × Unmarked result × Unasked result }
     {
-        let count = pattern_count(b, at);
+        let count = pattern.count();
         let mut labels = [0u16; 16];
         let mut parents = [0u16; 16];
         for q in 0..count {
-            labels[q] = pattern_label(b, at, PatternNode(q));
-            parents[q] = pattern_parent(b, at, PatternNode(q)).0 as u16;
+            labels[q] = pattern.label(PatternNode(q));
+            parents[q] = pattern.parent(PatternNode(q)).0 as u16;
         }
         Wanted {
-            deep: deep_mask(b, at),
+            deep: deep_mask(pattern),
             count,
             labels,
             marks: [0; 16],
-            kids: kid_masks(b, at),
+            kids: kid_masks(pattern),
             parents,
             least: [0; 16],
         }
     }
 
     // The return nodes are pinned to the list, by their marks.
-    pub fn pin(&mut self, b: &[u8], at: usize, list: &[u8])
-        requires pattern_given { PatternGiven b.now at × PatternFacts (pattern_at b.now at) × Wants (pattern_at b.now at) self.old }
-        requires list_len { (length (list_of list.now) ≡ arity (pattern_at b.now at)) × SmallNumbers list.now }
-        ensures { WantsPinned (pattern_at b.now at) (list_of list.now) self.new }
+    pub fn pin(&mut self, pattern: &Pattern, list: &[u8])
+        requires pattern_given { PatternKept pattern.now × PatternFacts pattern.now × Wants pattern.now self.old }
+        requires list_len { (length (list_of list.now) ≡ arity pattern.now) × SmallNumbers list.now }
+        ensures { WantsPinned pattern.now (list_of list.now) self.new }
     {
         for q in 0..self.count {
-            self.marks[q] = mark_at(pattern_position(b, at, PatternNode(q)), list);
+            self.marks[q] = mark_at(pattern.position(PatternNode(q)), list);
         }
     }
 
     // The nodes' least figures are asked.
-    pub fn ask_figures(&mut self, b: &[u8], at: usize)
-        requires { PatternGiven b.now at × Wants (pattern_at b.now at) self.old }
-        ensures { WantsFigured (pattern_at b.now at) self.old self.new }
+    pub fn ask_figures(&mut self, pattern: &Pattern)
+        requires { PatternKept pattern.now × Wants pattern.now self.old }
+        ensures { WantsFigured pattern.now self.old self.new }
     {
         for q in 0..self.count {
-            self.least[q] = pattern_figure(b, at, PatternNode(q)) as u16;
+            self.least[q] = pattern.figure(PatternNode(q)) as u16;
         }
     }
 }
