@@ -72,7 +72,7 @@ pub descending-step : {Q : Pattern} {W : Document} {w : Wanted} {left₀ t₀ t 
     → may ≡ left_at (parent_of W v) v left → t' ≡ set t v (bit_and may (get_or t v 0)) → left' ≡ set left v (leave_at w may (bit_and may (get_or t v 0)))
     → Descending Q W (pin_of w W) t₀ left₀ t' left' (v + 1)
 unfolding part_table stands_at
-descending-step {Q} {W} {w} {left₀} {t₀} {t} {left} {t'} {left'} {v} figure may b K T room left_room front d inside m new left_new =
+descending-step {Q} {W} {w} {left₀} {t₀} {t} {left} {t'} {left'} {v} may b K T room left_room front d inside m new left_new =
     subst₂ (λ (k l : List ℕ). Descending Q W pin t₀ left₀ k l (v + 1)) (sym new) (sym left_new)
     (descending-next d inside (omega (arith, front-size parts (length W) b room front)) left_room (bit_and may (get_or t v 0)) (leave_at w may (bit_and may (get_or t v 0))) here leave)
   where

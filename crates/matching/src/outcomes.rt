@@ -13,7 +13,7 @@ ghost use Rattle.matching.specs.Outcomes.{in_mask, push_if, count_if, Written};
 
 use crate::tables::{parts, stands};
 use crate::wanted::Wanted;
-use bits::{Mask, count64};
+use bits::{Mask, count64, select};
 use format::document::Document;
 use format::nodes::PatternNode;
 use format::pattern::Pattern;
@@ -24,8 +24,7 @@ fn in_mask(table: &[u16], v: usize, q: PatternNode) -> bool
     requires { (v < length table.now) × (q.0 < 16) }
     ensures { result ≡ in_mask table.now q.0 v }
 {
-    let bit = q.0;
-    table[v].has(bit)
+    table[v].has(q.0)
 }
 
 // v goes after the first count entries where t says so. The result is the new count.
@@ -57,11 +56,7 @@ fn stand_mask(table: &[u16], n: usize, q: PatternNode) -> u64
     requires { (n ≤ 64) × (n ≤ length table.now) × (q.0 < 16) }
     ensures { result ≡ mask_below (in_mask table.now q.0) n }
 {
-    let mut r: u64 = 0;
-    for v in 0..n {
-        r = bits::insert_if64(r, v, in_mask(table, v, q));
-    }
-    r
+    select(n, |v| in_mask(table, v, q))
 }
 
 // A list of k node numbers is a result of the pattern in the document.
@@ -89,7 +84,11 @@ pub fn nodes_at(pattern: &Pattern, w: &Document, position: usize, out: &mut [u16
     let mut table = [0u16; 1024];
     let mut left = [0u16; 1024];
     stands(w, &wanted, &mut table, &mut left);
-    nodes_with(&table, w.count(), pattern.node_at(position), out)
+    // Each position up to the arity has its node.
+    let Some(q) = pattern.node_at(position) else {
+        return 0;
+    };
+    nodes_with(&table, w.count(), q, out)
 }
 
 // The paths of each node of the pattern in the summary, as masks. No figure is asked.

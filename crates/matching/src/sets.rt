@@ -5,7 +5,7 @@ ghost use Rattle.model.specs.Lists.{mask_below};
 ghost use Rattle.matching.specs.Wanted.{mark_fits, pin_by, fits_by, hangs_by};
 
 use crate::wanted::Wanted;
-use bits;
+use bits::{Mask, select};
 use format::labels::{figure_fits, label_fits};
 use format::nodes::PatternNode;
 
@@ -38,7 +38,7 @@ impl Wanted {
     {
         let by_label = label_fits(self.labels[p.0], label);
         let by_pin = self.pin_fits(figure, mark, p);
-        let by_kids = bits::subset16(self.kids[p.0], acc);
+        let by_kids = self.kids[p.0].is_subset(acc);
         by_label & by_pin & by_kids
     }
 
@@ -46,11 +46,7 @@ impl Wanted {
     pub fn fitting(&self, label: u16, figure: usize, mark: usize, acc: u16) -> u16
         ensures { result ≡ mask_below (fits_by self.now label figure mark acc) self.now.count }
     {
-        let mut r: u16 = 0;
-        for p in 0..self.count {
-            r = bits::insert_if16(r, p, self.fits_here(label, figure, mark, acc, PatternNode(p)));
-        }
-        r
+        select(self.count, |p| self.fits_here(label, figure, mark, acc, PatternNode(p)))
     }
 
     // Pattern node q hangs from a node of the set.
@@ -59,17 +55,13 @@ impl Wanted {
         requires { q.0 < self.now.count }
         ensures { result ≡ hangs_by self.now set q.0 }
     {
-        q.0 != 0 && bits::has16(set, usize::from(self.parents[q.0]))
+        q.0 != 0 && set.has(usize::from(self.parents[q.0]))
     }
 
     // The pattern nodes that hang from a node of the set.
     pub fn hanging(&self, set: u16) -> u16
         ensures { result ≡ mask_below (hangs_by self.now set) self.now.count }
     {
-        let mut r: u16 = 0;
-        for q in 0..self.count {
-            r = bits::insert_if16(r, q, self.hangs_from(set, PatternNode(q)));
-        }
-        r
+        select(self.count, |q| self.hangs_from(set, PatternNode(q)))
     }
 }

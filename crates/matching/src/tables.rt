@@ -18,7 +18,7 @@ fn offer_up<T: Tree>(t: &T, v: usize, offer: u16, table: &mut [u16])
         return;
     }
     let u = t.parent(v);
-    table[u] = table[u] | offer;
+    table[u] |= offer;
 }
 
 // Node v takes the place of what its children, all of them settled, offered it, and offers in turn.

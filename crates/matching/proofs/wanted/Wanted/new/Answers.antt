@@ -5,7 +5,6 @@ use mathlib.Core.Path.{refl, ap, ◌∙◌}
 use mathlib.Core.List.{List}
 use native.Mathlib.Omega.{arith}
 use lib.ListN.{length, get_or}
-use Rattle.format.specs.Given.{pattern_at}
 use Rattle.matching.proofs.MaskLoops.{get_or-kid_masks}
 use Rattle.matching.proofs.TurnLaws.{zeros-at}
 use Rattle.matching.proofs.WantedLaws.{rooted-small, columned-start, columned-step, columned-end}
@@ -16,20 +15,20 @@ loop-q-init c = (columned-start refl, columned-start refl)
 
 pub loop-q-preserved : goal.loop-q-preserved
 loop-q-preserved c =
-    (columned-step c.loop-q.invariant.0 (omega arith) c.requires.few c.pattern_label.ensures, columned-step c.loop-q.invariant.1 (omega arith) c.requires.few c.pattern_parent.ensures)
+    (columned-step c.loop-q.invariant.0 (omega arith) c.requires.few c.label.ensures, columned-step c.loop-q.invariant.1 (omega arith) c.requires.few c.parent.ensures)
 
 pub invariant_of-result : goal.invariant_of-result
 invariant_of-result c =
     record {
-      few = omega (arith, c.pattern_count-count.ensures.0, c.requires.few);
+      few = omega (arith, c.count-count.ensures.0, c.requires.few);
       low =
-          λ q h. (let k : q < length (pattern_at c.args.b.now c.args.at) = omega (arith, c.pattern_count-count.ensures.0) in
+          λ q h. (let k : q < length c.args.pattern.now = omega (arith, c.count-count.ensures.0) in
           omega (arith, columned-end c.loop-q.invariant.1 (omega arith) q k, rooted-small c.requires.tree q k, c.requires.few));
     }
 
 pub returns : goal.returns
 returns c =
-    let n = c.pattern_count-count.ensures.0 in
+    let n = c.count-count.ensures.0 in
     (
       record {
         tree = c.requires.tree;
