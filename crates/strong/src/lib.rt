@@ -6,6 +6,8 @@ ghost use Rattle.std.specs.Prelude.{◌≡◌, ◌<◌, get_or};
 ghost use Rattle.model.specs.Strong.{strong_table};
 ghost use Rattle.format.specs.Given.{SummaryKept};
 
+pub mod outline;
+
 use bits::Mask;
 use format::nodes::SummaryNode;
 use format::summary::Summary;
