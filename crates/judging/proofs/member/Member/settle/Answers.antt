@@ -4,6 +4,7 @@ use mathlib.Core.Path.{refl, sym, ap₂, ◌∙◌}
 use native.Mathlib.Omega.{arith}
 use mathlib.Core.Bool.{not}
 use lib.Dec.{eqb}
+use lib.ListN.{length-set}
 use borrow.Author.Rules.{rules}
 use Rattle.judging.specs.Settling.{folded_row}
 use Rattle.judging.proofs.GivenLoop.{gathering-start, gathering-step, gathering-end, join-turn}
@@ -12,7 +13,7 @@ use Rattle.judging.proofs.SettleLaws.{over-folded}
 use Rattle.judging.proofs.member.Member.settle.Goals as goal
 
 pub loop-c-init : goal.loop-c-init
-loop-c-init c = (c.requires, gathering-start c.pattern_count-c.ensures.0 c.requires.base.pattern.tree.inhabited, search rules)
+loop-c-init c = (c.requires, gathering-start c.pattern_count-n.ensures.0 c.requires.base.pattern.tree.inhabited, search rules)
 
 pub last-requires : goal.last-requires
 last-requires c = let i = c.loop-c.invariant in omega (arith, i.0.base.pattern.few, i.1.top)
@@ -27,14 +28,11 @@ pub folded-set-requires : goal.folded-set-requires
 folded-set-requires c =
     record { judgeable = c.loop-c.invariant.0; node_nonzero = (omega (arith, c.loop-c-test.true), omega (arith, c.loop-c.invariant.1.top)) }
 
-pub slice_bounds-join-end : goal.slice_bounds-join-end
-slice_bounds-join-end c = let i = c.loop-c.invariant in sym (i.1.long ∙ i.2)
-
 pub pattern_parent-requires : goal.pattern_parent-requires
 pattern_parent-requires c = let i = c.loop-c.invariant in record { whole_section = i.0.base.pattern.whole; q_in_bounds = omega (arith, i.1.top) }
 
-pub join-requires : goal.join-requires
-join-requires c =
+pub bounds-hangs-pattern_parent : goal.bounds-hangs-pattern_parent
+bounds-hangs-pattern_parent c =
     let l = c.loop-c in
     let h = c.loop-c-test.true in
     let k : c.pattern_parent.result.0 < l.c - 1 = parent-lt l.invariant.0.base.pattern (omega (arith, h)) (omega (arith, l.invariant.1.top, h)) c.pattern_parent.ensures in
@@ -44,9 +42,9 @@ pub loop-c-preserved : goal.loop-c-preserved
 loop-c-preserved c =
     let l = c.loop-c in (
       l.invariant.0,
-      gathering-step (l.c - 1) c.join.new.t l.invariant.1 c.loop-c-test.true refl
+      gathering-step (l.c - 1) _ l.invariant.1 c.loop-c-test.true refl
           (join-turn _ _ _ _ _ _ _ c.pattern_parent.ensures
-          (c.folded-set.ensures ∙ over-folded _ _ _ _ _ _ _ _ (ap₂ (λ (x y : ℕ). not (eqb x y)) c.last.ensures c.wide64.ensures)) c.join.ensures) c.join.auto.t,
+          (c.folded-set.ensures ∙ over-folded _ _ _ _ _ _ _ _ (ap₂ (λ (x y : ℕ). not (eqb x y)) c.last.ensures c.wide64.ensures)) refl) (length-set _ _ _),
       l.invariant.2,
     )
 

@@ -11,4 +11,3 @@ use Rattle.judging.proofs.member.Member.settle.Given as goal
 abbrev pub invariant-loop-c : goal.invariant-loop-c
 invariant-loop-c l =
     Judgeable l.self l.p l.at l.images × Gathering (pattern_parent (pattern_at l.p l.at)) (folded_by (sets_in l.self) (pattern_at l.p l.at) (last_in l.m) l.q.0 l.images) (length (pattern_at l.p l.at)) l.initial.hangs l.c l.hangs × (length l.initial.hangs ≡ 16)
-
