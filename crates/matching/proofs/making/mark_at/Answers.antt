@@ -1,10 +1,10 @@
--- `matching::wanted::mark_at` meets its contract, by cases on whether the node has a position. Assumes nothing.
+-- `matching::making::mark_at` meets its contract, by cases on whether the node has a position. Assumes nothing.
 use Prim.Native.Nat.{ℕ, ◌+◌, ◌-◌}
 use mathlib.Core.Path.{sym, ap, ◌∙◌}
 use native.Mathlib.Omega.{arith}
 use Rattle.matching.proofs.WantedLaws.{mark-none, mark-some}
 use Rattle.format.proofs.ListLaws.{list_count, list-entry}
-use Rattle.matching.proofs.wanted.mark_at.Goals as goal
+use Rattle.matching.proofs.making.mark_at.Goals as goal
 
 pub returns-then-position-eq0 : goal.returns-then-position-eq0
 returns-then-position-eq0 c = sym (mark-none c.args.position _ c.if-position-eq0.true)
