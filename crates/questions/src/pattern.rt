@@ -5,9 +5,8 @@ ghost use Rattle.std.specs.Prelude.{◌≡◌, ◌<◌, length};
 ghost use Rattle.model.specs.Limits.{pattern_width};
 ghost use Rattle.model.specs.Pattern.{arity as arity_of};
 ghost use Rattle.model.specs.Bytes.{WholeSection};
-ghost use Rattle.model.specs.Questions.{count_in_range, pattern_record_kept, refusal};
+ghost use Rattle.model.specs.Questions.{count_in_range, pattern_record_kept, pattern_kept, pattern_figures};
 ghost use Rattle.format.specs.Given.{pattern_at};
-ghost use Rattle.questions.specs.Members.{record_questions, pattern_questions};
 
 use crate::rules::{between, figure_in_range, flag_rule, parent_rule};
 use format::limits::{MAX_PATTERN, MAX_POSITION};
@@ -39,38 +38,32 @@ pub fn pattern_record_kept(b: &[u8], at: usize, q: PatternNode) -> bool
     pattern_position(b, at, q) <= MAX_POSITION
 }
 
-// 7 and 17 of record q.
-fn record_refusal(b: &[u8], at: usize, q: PatternNode) -> u64
-    requires whole_section { WholeSection pattern_width b.now at }
-    requires q_in_bounds { q.0 < length (pattern_at b.now at) }
-    ensures { result ≡ refusal (record_questions (pattern_at b.now at) q.0) }
-{
-    if !pattern_record_kept(b, at, q) {
-        return 7;
-    }
-    if !figure_in_range(pattern_figure(b, at, q)) {
-        return 17;
-    }
-    0
-}
-
-// 7 and 17 of the pattern, in one pass over its records: 17 is remembered, since a later record may be refused by 7.
-pub fn pattern_refusal(b: &[u8], at: usize) -> u64
+// 7 of the pattern: every record does.
+pub fn pattern_kept(b: &[u8], at: usize) -> bool
     requires { WholeSection pattern_width b.now at }
-    ensures { result ≡ refusal (pattern_questions (pattern_at b.now at)) }
+    ensures { result ≡ pattern_kept (pattern_at b.now at) }
 {
     let n = pattern_count(b, at);
-    let mut r: u64 = 0;
     for q in 0..n {
-        let x = record_refusal(b, at, PatternNode(q));
-        if x == 7 {
-            return 7;
-        }
-        if x != 0 {
-            r = x;
+        if !pattern_record_kept(b, at, PatternNode(q)) {
+            return false;
         }
     }
-    r
+    true
+}
+
+// 17 of the pattern: every figure is at most 2,000.
+pub fn figures_in_range(b: &[u8], at: usize) -> bool
+    requires { WholeSection pattern_width b.now at }
+    ensures { result ≡ pattern_figures (pattern_at b.now at) }
+{
+    let n = pattern_count(b, at);
+    for q in 0..n {
+        if !figure_in_range(pattern_figure(b, at, PatternNode(q))) {
+            return false;
+        }
+    }
+    true
 }
 
 // k, the number of nodes that hold a position.
