@@ -1,10 +1,10 @@
 pub mod TestLaws
 pub mod SectionLaws
 pub mod LoopLaws
+pub mod ChainLaws
 pub mod MemberLaws
 pub mod CaseLaws
 pub mod SummaryLaws
 pub mod PatternLaws
 pub mod PositionLaws
-pub mod RecordLaws
 pub mod RefusalLaws

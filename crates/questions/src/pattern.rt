@@ -43,13 +43,7 @@ pub fn pattern_kept(b: &[u8], at: usize) -> bool
     requires { WholeSection pattern_width b.now at }
     ensures { result ≡ pattern_kept (pattern_at b.now at) }
 {
-    let n = pattern_count(b, at);
-    for q in 0..n {
-        if !pattern_record_kept(b, at, PatternNode(q)) {
-            return false;
-        }
-    }
-    true
+    (0..pattern_count(b, at)).all(|q| pattern_record_kept(b, at, PatternNode(q)))
 }
 
 // 17 of the pattern: every figure is at most 2,000.
@@ -57,13 +51,7 @@ pub fn figures_in_range(b: &[u8], at: usize) -> bool
     requires { WholeSection pattern_width b.now at }
     ensures { result ≡ pattern_figures (pattern_at b.now at) }
 {
-    let n = pattern_count(b, at);
-    for q in 0..n {
-        if !figure_in_range(pattern_figure(b, at, PatternNode(q))) {
-            return false;
-        }
-    }
-    true
+    (0..pattern_count(b, at)).all(|q| figure_in_range(pattern_figure(b, at, PatternNode(q))))
 }
 
 // k, the number of nodes that hold a position.
