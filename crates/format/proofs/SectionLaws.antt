@@ -49,6 +49,19 @@ module _ {A : Type 0} (read : List ℕ → ℕ → A) (width : ℕ) (b : List �
       → field b (at + 1 + width * i + j) ≡ get (get_or (section read width b at) i d)
   section-field d get i j e h = sym (ap get (section-record i d (section-below i h)) ∙ e (at + 1 + width * i))
 
+  -- the same of a list that is known to be the section
+  module _ {xs : List A} (e : section read width b at ≡ xs) where
+    pub viewed-count : field b at ≡ length xs
+    viewed-count = sym section-length ∙ ap length e
+
+    pub viewed-below : (i : ℕ) → i < length xs → i < field b at
+    viewed-below i h = section-below i (subst (λ (l : List A). i < length l) (sym e) h)
+
+    pub viewed-field : (d : A) (get : A → ℕ) (i j : ℕ) → ((a : ℕ) → get (read b a) ≡ field b (a + j)) → i < length xs
+        → field b (at + 1 + width * i + j) ≡ get (get_or xs i d)
+    viewed-field d get i j q h =
+        section-field d get i j q (subst (λ (l : List A). i < length l) (sym e) h) ∙ ap (λ (l : List A). get (get_or l i d)) e
+
 -- a maker's first field
 pub first_field : (b : List ℕ) (a : ℕ) → field b a ≡ field b (a + 0)
 first_field b a = ap (field b) (sym (add-zero a))
