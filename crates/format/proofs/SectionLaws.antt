@@ -80,6 +80,11 @@ pub summary-field : (b : List ℕ) (get : SummaryRecord → ℕ) (i j : ℕ) →
 unfolding case_of
 summary-field b get i j e h = section-field summary_record_at summary_width b 0 no_summary_record get i j e h
 
+-- it is a section's table
+pub summary-section : (b : List ℕ) {S : List SummaryRecord} → summary_in b ≡ S → section summary_record_at summary_width b 0 ≡ S
+unfolding case_of
+summary-section b e = e
+
 -- its records read as a document's
 pub summary-record : (b : List ℕ) (i : ℕ) → get_or (as_document (summary_in b)) i no_document_record ≡ without_strong (get_or (summary_in b) i no_summary_record)
 summary-record b i = get_or-map without_strong (summary_in b) i no_summary_record
@@ -139,6 +144,11 @@ tree-document w = sym (map-map without_figure (λ i. document_record_at w (0 + 1
 pub tree-summary : (b : List ℕ) → tree_of summary_width b ≡ as_document (summary_in b)
 unfolding tree_of case_of section records_at
 tree-summary b = sym (map-map without_strong (λ i. summary_record_at b (0 + 1 + summary_width * i)) (up_from 0 (field b 0)))
+
+-- a document is a section's table
+pub document-section : (w : List ℕ) {W : List DocumentRecord} → document_of w ≡ W → section document_record_at document_width w 0 ≡ W
+unfolding document_of
+document-section w e = e
 
 pub document-count : (w : List ℕ) → length (document_of w) ≡ field w 0
 unfolding document_of
