@@ -3,6 +3,7 @@ pub mod FrontLaws
 pub mod FrontLoops
 pub mod SectionLaws
 pub mod ListLaws
+pub mod MemberLaws
 pub mod BareLaws
 pub mod GivenLaws
 pub mod PositionLaws
