@@ -87,6 +87,19 @@ impl<'a> Pattern<'a> {
     {
         record_field(self.bytes, self.at, PATTERN_WIDTH, q.0, 4)
     }
+
+    // The node that holds a position.
+    pub fn node_at(&self, position: usize) -> Option<PatternNode>
+        ensures { MatchOption result (node_at self.now position ≡ length self.now)
+            (λ q. (q.0 ≡ node_at self.now position) × (q.0 < length self.now)) }
+    {
+        for q in 0..self.count() {
+            if self.position(PatternNode(q)) == position {
+                return Some(PatternNode(q));
+            }
+        }
+        None
+    }
 }
 
 // What follows goes when nothing calls it any more.
