@@ -1,10 +1,4 @@
 pub mod TestLaws
 pub mod SectionLaws
 pub mod LoopLaws
-pub mod ChainLaws
-pub mod MemberLaws
-pub mod CaseLaws
-pub mod SummaryLaws
-pub mod PatternLaws
-pub mod PositionLaws
 pub mod RefusalLaws
