@@ -7,6 +7,7 @@ ghost use Rattle.model.specs.Questions.{refusal, case_questions};
 ghost use Rattle.questions.specs.Refusal.{asked};
 
 use case::{case_whole, counts_in_range, set_in_range};
+use format::case::Case;
 use members::{figures_kept, patterns_kept, positions_kept};
 use refusal::{Refusal, hold};
 use summary::{siblings_differ, summary_kept};
@@ -25,11 +26,13 @@ pub fn ask_case(b: &[u8]) -> Result<(), Refusal>
     ensures { asked result ≡ refusal (case_questions b.now) }
 {
     hold(case_whole(b), Refusal::Bytes)?;
-    hold(counts_in_range(b), Refusal::Counts)?;
-    hold(set_in_range(b), Refusal::SetCount)?;
-    hold(summary_kept(b), Refusal::SummaryRecords)?;
-    hold(siblings_differ(b), Refusal::Siblings)?;
-    hold(patterns_kept(b), Refusal::PatternRecords)?;
-    hold(figures_kept(b), Refusal::Figure)?;
-    hold(positions_kept(b), Refusal::Positions)
+    let case = Case::new(b);
+    let summary = case.summary();
+    hold(counts_in_range(&case), Refusal::Counts)?;
+    hold(set_in_range(&case), Refusal::SetCount)?;
+    hold(summary_kept(&summary), Refusal::SummaryRecords)?;
+    hold(siblings_differ(&summary), Refusal::Siblings)?;
+    hold(patterns_kept(&case), Refusal::PatternRecords)?;
+    hold(figures_kept(&case), Refusal::Figure)?;
+    hold(positions_kept(&case), Refusal::Positions)
 }
