@@ -38,8 +38,14 @@ pub fn front_end(b: &[u8], width: usize) -> Option<usize>
     ensures { result ≡ front_end width b.now }
 {
     let bytes = b.len();
+    if MAX_CASE_BYTES < bytes {
+        return None;
+    }
+    if bytes % 2 != 0 {
+        return None;
+    }
     let fields = bytes / 2;
-    if MAX_CASE_BYTES < bytes || bytes % 2 != 0 || fields == 0 {
+    if fields == 0 {
         return None;
     }
     let first = first_at(b);

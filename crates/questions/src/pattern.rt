@@ -43,6 +43,6 @@ pub fn arity(p: &Pattern) -> usize
     ensures { (result ≡ arity_of p.now) × (result < 65536) }
 {
     (0..p.count())
-        .filter(|q| p.position(PatternNode(*q)) != 0)
+        .filter(|q| 0 < p.position(PatternNode(*q)))
         .count()
 }

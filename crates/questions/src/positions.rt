@@ -34,7 +34,7 @@ impl Seen {
         requires { self.count < 65536 }
         ensures { Sees self position result }
     {
-        let count = self.count + usize::from(position != 0);
+        let count = self.count + usize::from(0 < position);
         if 63 < position {
             return Seen { count, ..self };
         }
@@ -54,6 +54,7 @@ pub struct Held<'a> {
 }
 
 impl<'a> Model for Held<'a> {
+    ghost use Rattle.std.specs.Prelude.{◌<◌};
     ghost use Rattle.model.specs.Pattern.{Pattern};
     ghost use Rattle.questions.specs.Seen.{SeenIn};
 
@@ -61,7 +62,7 @@ impl<'a> Model for Held<'a> {
 
     ghost view = { λ h. h.pattern.now };
 
-    ghost invariant = { λ h. SeenIn h.pattern.now h.seen };
+    ghost invariant = { λ h. SeenIn h.pattern.now h.seen × (h.seen.count < 65536) };
 }
 
 impl<'a> Held<'a> {
