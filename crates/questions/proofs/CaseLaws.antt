@@ -13,16 +13,13 @@ use Rattle.std.proofs.lemmas.Option.{none-some}
 use Rattle.std.specs.Bool.{then_some}
 use borrow.Author.Rules.{rules}
 use borrow.Author.Tests.{ne_eqb, le-leb, lt-leb, leb-true, eqb-true, eq-eqb, lt-ltb, le-ltb, ltb-true}
-use Rattle.model.specs.Limits.{max_case_bytes, max_summary, max_members, pattern_width}
-use Rattle.model.specs.Bytes.{section_end, first_at, set_at, set_end, set_of, case_end, case_of, ends_at, is_whole_case}
-use Rattle.model.specs.Questions.{between, case_whole, count_in_range, counts_in_range, set_in_range}
-use Rattle.model.specs.Lists.{all_of}
+use Rattle.model.specs.Limits.{max_case_bytes, pattern_width}
+use Rattle.model.specs.Bytes.{section_end, first_at, set_at, set_end, case_end, ends_at, is_whole_case}
+use Rattle.model.specs.Questions.{case_whole}
 use Rattle.model.proofs.ListLaws.{bool-ext, true-or-false, and_intro, and_left, and_right}
 use Rattle.model.proofs.Bytes.{set-starts}
-use Rattle.format.specs.Given.{summary_in, pattern_at}
 use Rattle.questions.specs.Front.{after_first, front_whole, front_end}
 use Rattle.questions.proofs.TestLaws.{and_no}
-use Rattle.questions.proofs.SectionLaws.{first-pattern, set-members}
 
 -- ---- what stands before the sections after the first pattern
 

@@ -1,18 +1,17 @@
 -- Question 8 of one pattern, by masks of the positions that its nodes hold. Assumes nothing.
 use Prim.Native.Nat.{ℕ, zero, suc, ◌+◌, ◌^◌, ◌≤◌, ◌<◌}
 use mathlib.Core.Path.{◌≡◌, refl, sym, ap, ap₂, ◌∙◌, subst}
-use mathlib.Core.Bool.{Bool, true, false, ◌&&◌, ◌||◌, not, or-false, and_comm}
+use mathlib.Core.Bool.{Bool, true, false, ◌&&◌, ◌||◌, not, or-false}
 use mathlib.Core.Logic.{◌⊎◌, inl, inr}
 use native.Mathlib.Omega.{arith}
 use lib.Bits.{bit_or}
 use lib.Dec.{eqb, leb, ltb}
 use lib.ListN.{length, take}
 use lib.Seq.{take_all}
-use borrow.Author.Rules.{rules}
-use borrow.Author.Tests.{le-leb, lt-leb, leb-true, eq-eqb, ne_eqb, eqb-true}
+use borrow.Author.Tests.{le-leb, lt-leb, ne_eqb, eqb-true}
 use Rattle.model.specs.Lists.{up_from, all_of, count_of, has}
 use Rattle.model.specs.Pattern.{PatternRecord, Pattern, no_pattern_record, position, arity}
-use Rattle.model.proofs.ListLaws.{not-both, true-or-false}
+use Rattle.model.proofs.ListLaws.{true-or-false}
 use Rattle.model.specs.Questions.{positions_once}
 use Rattle.bits.specs.Sets.{insert_if}
 use Rattle.bits.proofs.MaskLaws.{has-none, has-insert}

@@ -1,5 +1,5 @@
 -- `questions::case::set_in_range` meets its contract: the count that is tested is the set's. Assumes nothing.
-use Rattle.std.proofs.Common.{rules, arith}
+use Rattle.std.proofs.Common.{arith}
 use Rattle.std.proofs.lemmas.Grind.{common_steps}
 use Rattle.model.specs.Questions.{set_in_range}
 use Rattle.questions.proofs.case.set_in_range.Goals as goal

@@ -1,6 +1,5 @@
 -- `questions::pattern::arity` meets its contract: those that hold a position are counted. Assumes nothing.
 use Rattle.std.proofs.Common.{ltb, rules, arith}
-use Rattle.std.proofs.lemmas.Grind.{common_steps}
 use Rattle.model.specs.Pattern.{PatternRecord, no_pattern_record}
 use Rattle.format.proofs.ChainLaws.{count_range}
 use Rattle.questions.proofs.pattern.arity.Goals as goal

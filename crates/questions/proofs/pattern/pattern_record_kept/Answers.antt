@@ -1,7 +1,6 @@
 use Rattle.std.proofs.Common.{rules, arith}
 use Rattle.std.proofs.lemmas.Grind.{common_steps}
 use Rattle.model.specs.Questions.{pattern_record_kept}
-use Rattle.model.specs.Fitting.{parent_rule}
 use Rattle.questions.proofs.pattern.pattern_record_kept.Goals as goal
 
 pub returns-then-flag_rule : goal.returns-then-flag_rule

@@ -1,5 +1,5 @@
 -- `questions::positions::holders` meets its contract: those that hold the position are counted. Assumes nothing.
-use Rattle.std.proofs.Common.{refl, rules, eqb}
+use Rattle.std.proofs.Common.{rules, eqb}
 use Rattle.model.specs.Pattern.{PatternRecord, no_pattern_record}
 use Rattle.format.proofs.ChainLaws.{count_range}
 use Rattle.questions.proofs.positions.holders.Goals as goal

@@ -1,5 +1,5 @@
 -- `questions::summary::alike` meets its contract: the three comparisons are the definition's. Assumes nothing.
-use Rattle.std.proofs.Common.{rules, arith}
+use Rattle.std.proofs.Common.{arith}
 use Rattle.std.proofs.lemmas.Grind.{common_steps}
 use Rattle.model.specs.Questions.{alike}
 use Rattle.questions.proofs.summary.alike.Goals as goal

@@ -11,4 +11,4 @@ returns-then-most-le-MAX_TALLY c = sum-at-most _ _ _ c.if-most-le-MAX_TALLY.true
 
 pub returns-else-most-le-MAX_TALLY : goal.returns-else-most-le-MAX_TALLY
 unfolding tally_in_range
-returns-else-most-le-MAX_TALLY c = simp (lt-leb _ _ c.if-most-le-MAX_TALLY.false, sum_more c.args.tally _ _ c.if-most-le-MAX_TALLY.false)
+returns-else-most-le-MAX_TALLY c = simp (lt-leb _ _ c.if-most-le-MAX_TALLY.false, sum_more c.args.self.tally _ _ c.if-most-le-MAX_TALLY.false)
