@@ -13,6 +13,7 @@ use Rattle.model.specs.Limits.{pattern_width}
 use Rattle.model.specs.Bytes.{field, section_end, member_at, set_end, set_of}
 use Rattle.model.proofs.Bytes.{member-first, member-later}
 use Rattle.format.proofs.SectionLaws.{set-count, member-step}
+
 -- the walk has come to member i, of n, at field `at`
 pub record Walked (b : List ℕ) (on n at i : ℕ) : Type 0 where
   pub here : at ≡ member_at b on i
