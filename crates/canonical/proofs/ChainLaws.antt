@@ -21,9 +21,9 @@ use Rattle.model.proofs.Chains.{Way, end, step, way-append, at-or-below-way, cha
 use Rattle.model.proofs.Segment.{chain_spot, append-chain}
 use Rattle.bits.proofs.MaskLaws.{has-none, has-insert}
 use Rattle.bits.proofs.MaskMembers.{members-none, members-insert, first-left}
-use Rattle.canonical.specs.Draft.{Draft, Drafted, appended}
+use Rattle.canonical.specs.Draft.{Tables, Drafted, appended}
 use Rattle.canonical.specs.Given.{Hanging, Hung}
-use Rattle.canonical.proofs.DraftLaws.{SameLengths, drafted-by, drafted-append}
+use Rattle.canonical.proofs.DraftLaws.{SameLengths, appended-same, drafted-by, drafted-append}
 
 -- ---- a chain from its lower end
 
@@ -103,23 +103,23 @@ pub append-length : (q : ℕ) (spots : List Spot) (v : ℕ) (xs : List ℕ) → 
 append-length q spots v xs = (append-chain q spots v xs).size
 
 -- nodes that lead to the whole when xs are hung from v
-pub record Leading (S : Summary) (q : ℕ) (base now : Draft) (v total : ℕ) (xs : List ℕ) (whole : List Spot) : Type 0 where
+pub record Leading (S : Summary) (q : ℕ) (base now : Tables) (v total : ℕ) (xs : List ℕ) (whole : List Spot) : Type 0 where
   pub spots : List Spot
   pub drafted : Drafted S spots base now total
   pub leads : append_chain q spots v xs ≡ whole
 
 -- the nodes xs are hung from w, one from the other, but for those in `rest`, the first of which is to hang from v
-pub record Chaining (S : Summary) (xs : List ℕ) (w count : ℕ) (before now : Draft) (v total rest : ℕ) : Type 0 where
+pub record Chaining (S : Summary) (xs : List ℕ) (w count : ℕ) (before now : Tables) (v total rest : ℕ) : Type 0 where
   pub fits : rest < 2 ^ 64
   pub hangs : v < total
   pub same : SameLengths now before
   pub counted : total + length (members rest) ≡ count + length xs
   pub room : total + length (members rest) ≤ max_canonical
   pub inside : (x : ℕ) → Memᴰ x (members rest) → x < length S
-  pub grown : (q : ℕ) (spots : List Spot) (base : Draft) → Drafted S spots base before count → Leading S q base now v total (members rest) (append_chain q spots w xs)
+  pub grown : (q : ℕ) (spots : List Spot) (base : Tables) → Drafted S spots base before count → Leading S q base now v total (members rest) (append_chain q spots w xs)
 
 -- with the chain's nodes in `whole`
-pub chaining-start : {S : Summary} {a b w count whole : ℕ} {before : Draft} → IsTree (as_document S) → Hanging S a b w count → members whole ≡ chain S a b → whole < 2 ^ 64
+pub chaining-start : {S : Summary} {a b w count whole : ℕ} {before : Tables} → IsTree (as_document S) → Hanging S a b w count → members whole ≡ chain S a b → whole < 2 ^ 64
     → Chaining S (members whole) w count before before w count whole
 chaining-start {S} {count = count} {whole} t h e f =
     record {
@@ -132,7 +132,7 @@ chaining-start {S} {count = count} {whole} t h e f =
       grown = λ q spots base c. record { spots = spots; drafted = c; leads = refl };
     }
 
-module _ {S : Summary} {xs : List ℕ} {w count : ℕ} {before now : Draft} {v total rest : ℕ} (g : Chaining S xs w count before now v total rest) where
+module _ {S : Summary} {xs : List ℕ} {w count : ℕ} {before now : Tables} {v total rest : ℕ} (g : Chaining S xs w count before now v total rest) where
   pub chaining-end : {a b : ℕ} → xs ≡ chain S a b → rest ≡ 0 → Hung S a b w count before now total
   unfolding append_chain
   chaining-end {a} {b} e z =
@@ -162,15 +162,15 @@ module _ {S : Summary} {xs : List ℕ} {w count : ℕ} {before now : Draft} {v t
         omega arith
 
     -- x is appended
-    pub chaining-next : {rest' n : ℕ} {after : Draft} → length S ≤ max_summary → rest' ≡ rest - 2 ^ x → n ≡ total + 1 → after ≡ appended S now total v x → SameLengths after now
+    pub chaining-next : {rest' n : ℕ} {after : Tables} → length S ≤ max_summary → rest' ≡ rest - 2 ^ x → n ≡ total + 1 → after ≡ appended S now total v x
         → Chaining S xs w count before after total n rest'
     unfolding append_chain
-    chaining-next {rest'} few e en ea s =
+    chaining-next {rest'} few e en ea =
         let k : length (members rest) ≡ suc (length (members rest')) = ap (λ (l : List ℕ). length l) (next e) in
         record {
           fits = let f = g.fits in omega arith;
           hangs = omega arith;
-          same = let t = g.same in omega arith;
+          same = subst (λ (t : Tables). SameLengths t before) (sym ea) (let s = appended-same S now total v x in let t = g.same in omega arith);
           counted = let c = g.counted in omega arith;
           room = let r = g.room in omega arith;
           inside = λ y m. g.inside y (subst (λ (l : List ℕ). Memᴰ y l) (sym (next e)) (Memᴰ.tail m));

@@ -8,7 +8,7 @@ use Rattle.model.specs.Embeddings.{image_in}
 use Rattle.model.specs.Bytes.{encode_document, written_at_front}
 use Rattle.model.specs.Canonical.{Spot, chain, append_chain, add_missing, fill_node, fill_from, spot_records, canonical_spots, canonical, own_nodes, own_figure}
 use Rattle.format.specs.Given.{summary_in, pattern_at, SummaryGiven, PatternGiven}
-use Rattle.canonical.specs.Draft.{Draft, Drafted, no_figure}
+use Rattle.canonical.specs.Draft.{Tables, Drafted, no_figure}
 use Rattle.canonical.specs.declared.LaidOut.{LaidOut}
 
 -- ---- the whole layout
@@ -40,27 +40,27 @@ pub record Hanging (S : Summary) (a b v count : ℕ) : Type 0 where
   pub room : count + length (chain S a b) ≤ max_canonical
 
 -- what appending it leaves: n nodes, the chain's among them
-pub record Hung (S : Summary) (a b v count : ℕ) (before after : Draft) (n : ℕ) : Type 0 where
+pub record Hung (S : Summary) (a b v count : ℕ) (before after : Tables) (n : ℕ) : Type 0 where
   pub counted : n ≡ count + length (chain S a b)
-  pub grown : (q : ℕ) (spots : List Spot) (base : Draft) → Drafted S spots base before count
+  pub grown : (q : ℕ) (spots : List Spot) (base : Tables) → Drafted S spots base before count
       → Drafted S (append_chain q spots v (chain S a b)) base after n
 
 -- ---- filling up
 
 -- node v gets its child on summary node t, if it has none
-pub record Missing (S : Summary) (spots : List Spot) (base now : Draft) (v t count : ℕ) : Type 0 where
+pub record Missing (S : Summary) (spots : List Spot) (base now : Tables) (v t count : ℕ) : Type 0 where
   pub drafted : Drafted S spots base now count
   pub inside : v < count
   pub room : length (add_missing spots v t) ≤ max_canonical
 
 -- node v is visited
-pub record Visitable (S : Summary) (spots : List Spot) (base now : Draft) (v count : ℕ) : Type 0 where
+pub record Visitable (S : Summary) (spots : List Spot) (base now : Tables) (v count : ℕ) : Type 0 where
   pub drafted : Drafted S spots base now count
   pub inside : v < count
   pub room : length (fill_node S spots v) ≤ max_canonical
 
 -- a draft of count nodes is filled up; k visits are enough
-pub record Fillable (S : Summary) (spots : List Spot) (base now : Draft) (count k : ℕ) : Type 0 where
+pub record Fillable (S : Summary) (spots : List Spot) (base now : Tables) (count k : ℕ) : Type 0 where
   pub drafted : Drafted S spots base now count
   pub ends : length (fill_from k S spots 0) ≤ k
   pub room : length (fill_from k S spots 0) ≤ max_canonical

@@ -11,6 +11,7 @@ ghost use Rattle.canonical.specs.Given.{embedding_in, Embedded, WrittenOut};
 ghost use Rattle.canonical.specs.Shown.{own_at, shown_document, Showable};
 
 use chains::chains;
+use draft::Draft;
 use figures::figures;
 use fill::fill;
 use format::nodes::own_of;
@@ -46,11 +47,11 @@ pub fn lay_out(
     ensures { WrittenOut (summary_in case.now) (pattern_at case.now at) (embedding_in case.now at images.now)
         answer.old answer.new on.old on.new result }
 {
-    let mut kids = [0u64; 1024];
-    let chained = chains(case, at, images, answer, on, &mut kids);
-    let count = fill(case, strong, chained.count, answer, on, &mut kids);
+    let mut draft = Draft::root(case, answer, on);
+    let own = chains(case, at, images, &mut draft);
+    fill(case, strong, &mut draft);
+    let count = draft.count();
     put_field(answer, 0, count as u16);
-    let own = chained.own;
     figures(case, at, &own, answer);
     LaidOut { count, own }
 }
