@@ -18,7 +18,6 @@ use Rattle.model.proofs.ListLaws.{length-snoc}
 use Rattle.model.proofs.TreeLaws.{edge-below}
 use Rattle.model.proofs.ChainPhase.{drop-one}
 use Rattle.model.proofs.Bytes.{front_length}
-use Rattle.format.specs.Given.{summary_in, pattern_at}
 use Rattle.format.proofs.FrontLaws.{front-get_or, front-set}
 use Rattle.canonical.specs.Draft.{Tables, Drafted}
 use Rattle.canonical.specs.Given.{embedding_in, Embedded, Hanging, Hung}
@@ -73,15 +72,9 @@ laying-end {S} {P} {es} {base} {now} {own} {q} {count} l h =
     whole : l.layout ≡ chains S P es
     whole = ap (lay_nodes es S l.layout) (sym (drop_of_length-le P h)) ∙ l.rest
 
-module _ {case : List ℕ} {at : ℕ} {images : List ℕ} (given : Embedded case at images) where
-  abbrev S : Summary
-  S = summary_in case
-
-  abbrev P : Pattern
-  P = pattern_at case at
-
+module _ {S : Summary} {P : Pattern} {images : List ℕ} (given : Embedded S P images) where
   abbrev es : List ℕ
-  es = embedding_in case at images
+  es = embedding_in P images
 
   -- an image, by the table that is lent
   image : (k : ℕ) → k < length P → get_or images k 0 ≡ image_in es k
@@ -205,8 +198,7 @@ module _ {case : List ℕ} {at : ℕ} {images : List ℕ} (given : Embedded case
 
 -- ---- the loop over the pattern's nodes, from what is laid out where it begins
 
-pub record Going (case : List ℕ) (at : ℕ) (images : List ℕ) (before now : Tables) (own₀ own : List ℕ) (count₀ count q : ℕ) : Type 0 where
+pub record Going (S : Summary) (P : Pattern) (images : List ℕ) (before now : Tables) (own₀ own : List ℕ) (count₀ count q : ℕ) : Type 0 where
   pub positive : 0 < q
-  pub turns : q ≤ length (pattern_at case at)
-  pub laying : (base : Tables) → Laying (summary_in case) (pattern_at case at) (embedding_in case at images) base before own₀ 1 count₀
-      → Laying (summary_in case) (pattern_at case at) (embedding_in case at images) base now own q count
+  pub turns : q ≤ length P
+  pub laying : (base : Tables) → Laying S P (embedding_in P images) base before own₀ 1 count₀ → Laying S P (embedding_in P images) base now own q count

@@ -27,7 +27,7 @@ use Rattle.bits.proofs.MaskLaws.{mask-has, mask-agree, mask-insert, any_snoc}
 use Rattle.format.proofs.RangeLaws.{up_from-last, map_last, map-below-ext, get_or-map-below}
 use Rattle.format.proofs.FrontLaws.{front-get_or, front-set}
 use Rattle.format.proofs.WriteLaws.{flat_map-append, Written, written_none, written-put, document-fields}
-use Rattle.format.specs.Given.{summary_in, SummaryGiven}
+use Rattle.format.specs.Given.{SummaryKept}
 use Rattle.canonical.specs.Draft.{Tables, Roomy, tables_of, no_figure, draft_fields, child_mask, child_masks, Drafted, appended}
 
 -- ---- lists
@@ -349,8 +349,8 @@ front-one b x h = front-set [] b x h
 pub drafted-same : {S : Summary} {spots later : List Spot} {base now then : Tables} {count n : ℕ} → Drafted S spots base now count → Drafted S later base then n → SameLengths then now
 drafted-same c d = let a = drafted-lengths c in let b = drafted-lengths d in omega arith
 
-pub summary-some : {b : List ℕ} → SummaryGiven b → 0 < length (summary_in b)
-summary-some {b} g = subst (λ (n : ℕ). 0 < n) (length-as_document (summary_in b)) g.tree.inhabited
+pub summary-some : {S : Summary} → SummaryKept S → 0 < length S
+summary-some {S} g = subst (λ (n : ℕ). 0 < n) (length-as_document S) g.tree.inhabited
 
 -- the root alone
 pub drafted-root : {S : Summary} {base : Tables} {b₁ b₂ b₃ b₄ : List ℕ} {label : ℕ} → Roomy base → 0 < length S → b₁ ≡ sets base.bytes 0 (field_bytes 0) → b₂ ≡ sets b₁ 2 (field_bytes 0)

@@ -7,7 +7,6 @@ use mathlib.Core.List.Memᴰ
 use mathlib.Core.List.{List, [], ◌∷◌, ◌++◌, append-nil, append_assoc, Memᴰ}
 use native.Mathlib.Omega.{arith}
 use native.Mathlib.Numerals.{add-one}
-use lib.Count.{count_trailing_zeros}
 use lib.Dec.{ltb}
 use lib.ListN.{length, get_or}
 use borrow.Author.Tests.{lt-ltb, le-ltb}
@@ -21,7 +20,6 @@ use Rattle.model.proofs.ListLaws.{length-snoc}
 use Rattle.model.proofs.TreeLaws.{length-as_document}
 use Rattle.model.proofs.Fitting.{strong-children-exact}
 use Rattle.model.proofs.Strong.{strong-members}
-use Rattle.bits.proofs.MaskMembers.{members-none, first-left}
 use Rattle.canonical.specs.Draft.{Tables, Drafted, appended}
 use Rattle.canonical.specs.Given.{Missing, Visitable, Fillable}
 use Rattle.canonical.proofs.DraftLaws.{drafted-on, drafted-child, drafted-append}
@@ -112,34 +110,32 @@ visitable-on {S} {spots} {v = v} m s e =
     let i = m.inside in
     subst (λ (x : ℕ). x < length S) (sym (e ∙ drafted-on m.drafted v i)) (m.drafted.inside v (omega arith)).1
 
--- v has its children on the strong children `done`; those in `rest` are left
-pub record Visiting (S : Summary) (v count : ℕ) (before now : Tables) (total rest : ℕ) : Type 0 where
-  pub fits : rest < 2 ^ 64
+-- v has its children on the strong children `done`; the others are left
+pub record Visiting (S : Summary) (v count : ℕ) (before now : Tables) (total : ℕ) (left : List ℕ) : Type 0 where
   pub done : List ℕ
-  pub all : done ++ members rest ≡ strong_children S (get_or before.on v 0)
+  pub all : done ++ left ≡ strong_children S (get_or before.on v 0)
   pub drafted : (spots : List Spot) (base : Tables) → Drafted S spots base before count → Drafted S (add_all spots v done) base now total
 
 -- s is the summary node that is read
-pub visiting-start : {S : Summary} {v count s rest : ℕ} {before : Tables} {strong : List ℕ} → length S ≤ max_summary → s < length S → s ≡ get_or before.on v 0 → strong ≡ strong_table S
-    → rest ≡ get_or strong s 0 → rest < 2 ^ 64 → Visiting S v count before before count rest
+pub visiting-start : {S : Summary} {v count s rest : ℕ} {before : Tables} {strong left : List ℕ} → length S ≤ max_summary → s < length S → s ≡ get_or before.on v 0 → strong ≡ strong_table S
+    → rest ≡ get_or strong s 0 → left ≡ members rest → Visiting S v count before before count left
 unfolding add_all
-visiting-start {S} {s = s} few h e t r w =
+visiting-start {S} {s = s} few h e t r l =
     record {
-      fits = w;
       done = [];
-      all = ap members (r ∙ ap (λ (l : List ℕ). get_or l s 0) t) ∙ strong-members S s (omega arith) few ∙ ap (strong_children S) e;
+      all = l ∙ ap members (r ∙ ap (λ (l : List ℕ). get_or l s 0) t) ∙ strong-members S s (omega arith) few ∙ ap (strong_children S) e;
       drafted = λ spots base c. c;
     }
 
-module _ {S : Summary} {v count : ℕ} {before now : Tables} {total rest : ℕ} (g : Visiting S v count before now total rest) where
+module _ {S : Summary} {v count : ℕ} {before now : Tables} {total : ℕ} {left : List ℕ} (g : Visiting S v count before now total left) where
   -- a visit of v asks for all of them
   asked : {spots : List Spot} {base : Tables} → Drafted S spots base before count → v < count → strong_children S (get_or before.on v 0) ≡ strong_children S (spot_at spots v)
   asked c inside = ap (strong_children S) (drafted-on c v inside)
 
-  module _ (ne : rest ≡ 0 → ⊥) {t : ℕ} (first : t ≡ count_trailing_zeros 64 rest) where
-    -- t is the next
-    next : g.done ++ t ∷ members (rest - 2 ^ t) ≡ strong_children S (get_or before.on v 0)
-    next = ap (λ (l : List ℕ). g.done ++ l) (sym (first-left g.fits ne first refl)) ∙ g.all
+  -- t is the next
+  module _ {t : ℕ} {others : List ℕ} (first : left ≡ t ∷ others) where
+    next : g.done ++ t ∷ others ≡ strong_children S (get_or before.on v 0)
+    next = ap (λ (l : List ℕ). g.done ++ l) (sym first) ∙ g.all
 
     pub visiting-inside : t < length S
     visiting-inside =
@@ -152,33 +148,30 @@ module _ {S : Summary} {v count : ℕ} {before now : Tables} {total rest : ℕ} 
     visiting-missing {spots} {base} m =
         let d : Drafted S (add_all spots v g.done) base now total = g.drafted spots base m.drafted in
         let a : length spots ≤ length (add_all spots v g.done) = add-grows spots v g.done in
-        let b : length (add_missing (add_all spots v g.done) v t) ≤ length (add_all (add_all spots v g.done) v (t ∷ members (rest - 2 ^ t))) =
-        add-grows (add_missing (add_all spots v g.done) v t) v (members (rest - 2 ^ t)) in
-        let n : length (add_all (add_all spots v g.done) v (t ∷ members (rest - 2 ^ t))) ≡ length (fill_node S spots v) =
-        ap (λ (x : List Spot). length x) (sym (add-append spots v g.done (t ∷ members (rest - 2 ^ t))) ∙ ap (add_all spots v) (next ∙ asked m.drafted m.inside)) in
+        let b : length (add_missing (add_all spots v g.done) v t) ≤ length (add_all (add_all spots v g.done) v (t ∷ others)) =
+        add-grows (add_missing (add_all spots v g.done) v t) v others in
+        let n : length (add_all (add_all spots v g.done) v (t ∷ others)) ≡ length (fill_node S spots v) =
+        ap (λ (x : List Spot). length x) (sym (add-append spots v g.done (t ∷ others)) ∙ ap (add_all spots v) (next ∙ asked m.drafted m.inside)) in
         let i = m.inside in
         let r = m.room in
         let p = m.drafted.counted in
         let q = d.counted in
         record { drafted = d; inside = omega arith; room = omega arith }
 
-    pub visiting-next : {rest' m : ℕ} {after : Tables} → rest' ≡ rest - 2 ^ t
-        → ((spots : List Spot) (base : Tables) → Drafted S spots base now total → Drafted S (add_missing spots v t) base after m)
-        → Visiting S v count before after m rest'
+    pub visiting-next : {m : ℕ} {after : Tables} → ((spots : List Spot) (base : Tables) → Drafted S spots base now total → Drafted S (add_missing spots v t) base after m)
+        → Visiting S v count before after m others
     unfolding add_all
-    visiting-next {rest'} {m} {after} e f =
+    visiting-next {m} {after} f =
         record {
-          fits = let w = g.fits in omega arith;
           done = g.done ++ t ∷ [];
-          all = append_assoc g.done (t ∷ []) (members rest') ∙ ap (λ (x : ℕ). g.done ++ t ∷ members x) e ∙ next;
+          all = append_assoc g.done (t ∷ []) others ∙ next;
           drafted = λ spots base c.
               subst (λ (x : List Spot). Drafted S x base after m) (sym (add-append spots v g.done (t ∷ []))) (f (add_all spots v g.done) base (g.drafted spots base c));
         }
 
-  pub visiting-end : v < count → rest ≡ 0 → (spots : List Spot) (base : Tables) → Drafted S spots base before count → Drafted S (fill_node S spots v) base now total
+  pub visiting-end : v < count → left ≡ [] → (spots : List Spot) (base : Tables) → Drafted S spots base before count → Drafted S (fill_node S spots v) base now total
   unfolding fill_node
-  visiting-end inside z spots base c =
-      let none : members rest ≡ [] = ap members z ∙ members-none in
+  visiting-end inside none spots base c =
       subst (λ (ts : List ℕ). Drafted S (add_all spots v ts) base now total)
       (sym (append-nil g.done) ∙ ap (λ (l : List ℕ). g.done ++ l) (sym none) ∙ g.all ∙ asked c inside) (g.drafted spots base c)
 

@@ -16,7 +16,6 @@ use Rattle.model.proofs.Bytes.{front_length}
 use Rattle.model.proofs.Figures.{own-apart}
 use Rattle.model.proofs.Built.{Built}
 use Rattle.model.proofs.Canonical.{length-canonical, canonical-built, canonical-laid, canonical-spots-few, canonical-small}
-use Rattle.format.specs.Given.{summary_in, pattern_at}
 use Rattle.canonical.specs.Draft.{Tables, Drafted}
 use Rattle.format.proofs.FrontLaws.{front-get_or}
 use Rattle.canonical.specs.Given.{embedding_in, Embedded, Fillable, Figureless, Figured, WrittenOut}
@@ -24,15 +23,9 @@ use Rattle.canonical.proofs.DraftLaws.{drafted-section}
 use Rattle.canonical.proofs.FillLaws.{fill-grows}
 use Rattle.canonical.proofs.FigureLaws.{figures-agree}
 
-module _ {case : List ℕ} {at : ℕ} {images : List ℕ} (h : Embedded case at images) where
-  abbrev S : Summary
-  S = summary_in case
-
-  abbrev P : Pattern
-  P = pattern_at case at
-
+module _ {S : Summary} {P : Pattern} {images : List ℕ} (h : Embedded S P images) where
   abbrev es : List ℕ
-  es = embedding_in case at images
+  es = embedding_in P images
 
   pub spots-few : length (canonical_spots S P es) ≤ max_canonical
   spots-few =

@@ -7,22 +7,22 @@ use Rattle.model.specs.Pattern.{Pattern, SummaryEmbedding}
 use Rattle.model.specs.Embeddings.{image_in}
 use Rattle.model.specs.Bytes.{encode_document, written_at_front}
 use Rattle.model.specs.Canonical.{Spot, chain, append_chain, add_missing, fill_node, fill_from, spot_records, canonical_spots, canonical, own_nodes, own_figure}
-use Rattle.format.specs.Given.{summary_in, pattern_at, SummaryGiven, PatternGiven}
+use Rattle.format.specs.Given.{SummaryKept, PatternKept}
 use Rattle.canonical.specs.Draft.{Tables, Drafted, no_figure}
 use Rattle.canonical.specs.declared.LaidOut.{LaidOut}
 
 -- ---- the whole layout
 
 -- the images of the pattern's nodes, in a table that may be longer
-abbrev pub embedding_in : List ℕ → ℕ → List ℕ → List ℕ
-embedding_in case at images = take (length (pattern_at case at)) images
+abbrev pub embedding_in : Pattern → List ℕ → List ℕ
+embedding_in P images = take (length P) images
 
 -- they are an embedding of the pattern into the summary (document 01: a placement)
-pub record Embedded (case : List ℕ) (at : ℕ) (images : List ℕ) : Type 0 where
-  pub summary : SummaryGiven case
-  pub pattern : PatternGiven case at
-  pub enough : length (pattern_at case at) ≤ length images
-  pub embedding : SummaryEmbedding (summary_in case) (pattern_at case at) (image_in (embedding_in case at images))
+pub record Embedded (S : Summary) (P : Pattern) (images : List ℕ) : Type 0 where
+  pub summary : SummaryKept S
+  pub pattern : PatternKept P
+  pub enough : length P ≤ length images
+  pub embedding : SummaryEmbedding S P (image_in (embedding_in P images))
 
 -- the canonical document's section at the front of a buffer, each node's summary node at that of a table, the rest of both untouched
 pub record WrittenOut (S : Summary) (P : Pattern) (es bytes₀ bytes on₀ on : List ℕ) (r : LaidOut) : Type 0 where

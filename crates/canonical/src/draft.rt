@@ -5,13 +5,13 @@ ghost use Rattle.std.specs.Prelude.{◌≡◌, [], ◌∷◌, ◌+◌, ◌<◌, 
 ghost use Rattle.model.specs.Lists.{has};
 ghost use Rattle.model.specs.Limits.{min_buffer, min_table, max_canonical};
 ghost use Rattle.model.specs.Canonical.{root_spot};
-ghost use Rattle.format.specs.Given.{summary_in, SummaryGiven};
+ghost use Rattle.format.specs.Given.{SummaryKept};
 ghost use Rattle.canonical.specs.Draft.{tables_of, tables, SameTables, Roomy, Drafted, appended};
 
-use bits::{has64, insert64};
+use bits::Mask;
 use format::limits::DOCUMENT_WIDTH;
 use format::nodes::{DocumentNode, SummaryNode, summary_of};
-use format::summary::summary_label;
+use format::summary::Summary;
 use format::write::put_field;
 
 // Lent tables that are filled from the front, and how many nodes stand there.
@@ -25,15 +25,15 @@ pub struct Draft<'a> {
 
 impl<'a> Draft<'a> {
     // Node 0 is the root, on summary node 0. The section's count is not known yet: 0 stands for it.
-    pub fn root(case: &[u8], bytes: &'a mut [u8], on: &'a mut [u16]) -> Draft<'a>
-        requires { SummaryGiven case.now × (min_buffer ≤ length bytes.old) × (min_table ≤ length on.old) }
+    pub fn root(summary: &Summary, bytes: &'a mut [u8], on: &'a mut [u16]) -> Draft<'a>
+        requires { SummaryKept summary.now × (min_buffer ≤ length bytes.old) × (min_table ≤ length on.old) }
         ensures same_tables { (result.bytes.ghost_name ≡ bytes.entry.ghost_name) × (result.on.ghost_name ≡ on.entry.ghost_name) }
-        ensures drafted { Drafted (summary_in case.now) (root_spot ∷ [])
+        ensures drafted { Drafted summary.now (root_spot ∷ [])
             (tables_of bytes.old on.old (replicate min_table 0)) (tables result) result.count }
     {
         put_field(bytes, 0, 0);
         put_field(bytes, 1, 0);
-        put_field(bytes, 2, summary_label(case, SummaryNode(0)));
+        put_field(bytes, 2, summary.label(SummaryNode(0)));
         put_field(bytes, 3, 0);
         on[0] = 0;
         Draft {
@@ -45,26 +45,22 @@ impl<'a> Draft<'a> {
     }
 
     // A node more hangs from v, on summary node s, whose label it has.
-    pub fn append(&mut self, case: &[u8], v: DocumentNode, s: SummaryNode)
-        requires summary_given { SummaryGiven case.now × Roomy (tables self.old) }
-        requires v_lt_count { (v.0 < self.old.count) × (s.0 < length (summary_in case.now)) × (self.old.count < max_canonical) }
+    pub fn append(&mut self, summary: &Summary, v: DocumentNode, s: SummaryNode)
+        requires summary_kept { SummaryKept summary.now × Roomy (tables self.old) }
+        requires v_lt_count { (v.0 < self.old.count) × (s.0 < length summary.now) × (self.old.count < max_canonical) }
         ensures same_tables { SameTables self.old self.new }
         ensures counted { self.new.count ≡ self.old.count + 1 }
         ensures row { tables self.new
-            ≡ appended (summary_in case.now) (tables self.old) self.old.count v.0 s.0 }
+            ≡ appended summary.now (tables self.old) self.old.count v.0 s.0 }
     {
         let above = v.0;
         let place = s.0;
         let count = self.count;
         put_field(self.bytes, 1 + DOCUMENT_WIDTH * count, above as u16);
-        put_field(
-            self.bytes,
-            2 + DOCUMENT_WIDTH * count,
-            summary_label(case, s),
-        );
+        put_field(self.bytes, 2 + DOCUMENT_WIDTH * count, summary.label(s));
         put_field(self.bytes, 3 + DOCUMENT_WIDTH * count, 0);
         self.on[count] = place as u16;
-        self.kids[above] = insert64(self.kids[above], place);
+        self.kids[above] = self.kids[above].insert(place);
         self.kids[count] = 0;
         self.count = count + 1;
     }
@@ -90,6 +86,6 @@ impl<'a> Draft<'a> {
         ensures { result ≡ has (get_or (tables self.now).kids v.0 0) s.0 }
     {
         let above = v.0;
-        has64(self.kids[above], s.0)
+        self.kids[above].has(s.0)
     }
 }

@@ -19,8 +19,8 @@ overflow_cast-count c =
     let d = c.fill.ensures.filled _ _ _ (chains-fillable c.requires.embedded (c.chains-own.ensures.nodes _ c.root-draft.ensures.drafted)) in
     omega (arith, c.count-count.ensures, d.fits)
 
-pub figures-requires-clause-by_index : goal.figures-requires-clause-by_index
-figures-requires-clause-by_index c =
+pub figures-requires : goal.figures-requires
+figures-requires c =
     let e = c.requires.embedded in
     let d = c.fill.ensures.filled _ _ _ (chains-fillable e (c.chains-own.ensures.nodes _ c.root-draft.ensures.drafted)) in
     let put : c.put_field.new.out ≡ sets c.fill.new.draft.bytes.now 0 (field_bytes c.fill.new.draft.count) = search rules in

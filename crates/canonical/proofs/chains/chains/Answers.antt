@@ -6,8 +6,8 @@ use Rattle.canonical.proofs.TableLaws.{still}
 use Rattle.canonical.proofs.ChainPhaseLaws.{laying-start, laying-end, laying-next, read_next, next-hanging}
 use Rattle.canonical.proofs.chains.chains.Goals as goal
 
-pub append_chain-requires-clause-summary_given : goal.append_chain-requires-clause-summary_given
-append_chain-requires-clause-summary_given c =
+pub append_chain-requires-clause-summary_kept : goal.append_chain-requires-clause-summary_kept
+append_chain-requires-clause-summary_kept c =
     let laid = c.loop-q.invariant.going.laying _ (laying-start _ _ _ c.requires.by_index.1) in
     (c.requires.embedded.summary, drafted-roomy laid.drafted)
 
@@ -17,7 +17,7 @@ append_chain-requires-clause-hanging c =
     let laid = going.laying _ (laying-start _ _ _ c.requires.by_index.1) in
     let e = c.requires.embedded in
     next-hanging e laid going.positive (omega arith)
-    (read_next e laid going.positive (omega arith) _ _ _ _ c.pattern_parent-p.ensures c.image_of.ensures c.image_of-in-loop-q.ensures c.own_of.ensures)
+    (read_next e laid going.positive (omega arith) _ _ _ _ c.parent-p.ensures c.image_of.ensures c.image_of-in-loop-q.ensures c.own_of.ensures)
 
 pub overflow_sub-own : goal.overflow_sub-own
 overflow_sub-own c =
@@ -30,7 +30,7 @@ overflow_cast-own c =
     let laid = going.laying _ (laying-start _ _ _ c.requires.by_index.1) in
     let e = c.requires.embedded in
     let h = next-hanging e laid going.positive (omega arith)
-    (read_next e laid going.positive (omega arith) _ _ _ _ c.pattern_parent-p.ensures c.image_of.ensures c.image_of-in-loop-q.ensures c.own_of.ensures) in
+    (read_next e laid going.positive (omega arith) _ _ _ _ c.parent-p.ensures c.image_of.ensures c.image_of-in-loop-q.ensures c.own_of.ensures) in
     omega (arith, c.append_chain.ensures.hung.counted, h.room)
 
 pub loop-q-preserved : goal.loop-q-preserved
@@ -44,7 +44,7 @@ loop-q-preserved c =
         turns = omega arith;
         laying = λ base l. rw c.count.ensures (
             laying-next e (i.going.laying base l) i.going.positive (omega arith)
-            (read_next e (i.going.laying base l) i.going.positive (omega arith) _ _ _ _ c.pattern_parent-p.ensures c.image_of.ensures c.image_of-in-loop-q.ensures c.own_of.ensures) c.append_chain.ensures.hung);
+            (read_next e (i.going.laying base l) i.going.positive (omega arith) _ _ _ _ c.parent-p.ensures c.image_of.ensures c.image_of-in-loop-q.ensures c.own_of.ensures) c.append_chain.ensures.hung);
       };
     }
 

@@ -2,7 +2,6 @@ use Prim.Native.Nat.{ℕ, ◌-◌}
 use mathlib.Core.List.{List}
 use Rattle.model.specs.Limits.{max_canonical}
 use Rattle.model.specs.Canonical.{Spot}
-use Rattle.format.specs.Given.{summary_in}
 use Rattle.canonical.specs.Draft.{Tables, tables, SameTables}
 use Rattle.canonical.specs.Given.{Fillable}
 use Rattle.canonical.proofs.FillLaws.{Filling}
@@ -13,7 +12,7 @@ invariant-loop-v l =
     record {
       same_tables : SameTables l.initial.draft l.draft;
       filling : (spots : List Spot) (base : Tables) (k : ℕ)
-          → Fillable (summary_in l.case) spots base (tables l.initial.draft) l.initial.draft.count k → Filling (summary_in l.case) spots base (tables l.draft) k l.v l.draft.count;
+          → Fillable l.summary spots base (tables l.initial.draft) l.initial.draft.count k → Filling l.summary spots base (tables l.draft) k l.v l.draft.count;
     }
 
 abbrev pub decreases-loop-v : goal.decreases-loop-v

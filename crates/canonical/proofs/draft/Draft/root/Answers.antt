@@ -10,4 +10,4 @@ pub returns-clause-drafted : goal.returns-clause-drafted
 returns-clause-drafted c =
     let r = c.requires in
     drafted-root (record { bytes = r.1; on = r.2; kids = omega (arith, length-replicate {A = ℕ} min_table 0) }) (summary-some r.0) c.put_field.ensures c.put_field-2.ensures
-    c.put_field-3.ensures c.summary_label.ensures c.put_field-4.ensures
+    c.put_field-3.ensures c.label.ensures c.put_field-4.ensures
