@@ -13,14 +13,14 @@ use Rattle.model.specs.Lists.{up_from, all_of}
 use Rattle.model.specs.Bytes.{field, section_end, WholeSection, is_whole_case, document_of, is_whole_document, list_of, is_whole_list}
 use Rattle.model.specs.Questions.{between, document_record_kept, document_kept, list_in_range, Question, refusal, case_questions, document_questions, fits_refusal}
 use Rattle.model.proofs.ListLaws.{and_left}
-use Rattle.model.proofs.Refusals.{AllYes, accepted-all-yes, all-yes-left, all-yes-right, numbered-append, refusal-after, refusal-kept, refusal-none}
+use Rattle.model.proofs.Refusals.{AllYes, accepted-all-yes, all-yes-left, all-yes-right, numbered-append, refusal-kept, refusal-none}
 use Rattle.format.proofs.GivenLaws.{whole-document}
 use Rattle.format.proofs.ListLaws.{list_count}
 use Rattle.questions.specs.declared.refusal.Refusal.{Refusal}
 use Rattle.questions.specs.Refusal.{number_of, asked}
 use Rattle.questions.proofs.TestLaws.{and_assoc}
 use Rattle.questions.proofs.LoopLaws.{all_map}
-use Rattle.questions.proofs.RefusalLaws.{number-not_zero, passed_on, asking, case-numbered, accepted-whole}
+use Rattle.questions.proofs.RefusalLaws.{number-not_zero, passed_on, case-numbered, accepted-whole}
 use Rattle.refusals.specs.Records.{records_kept}
 
 -- ---- a document
@@ -44,6 +44,12 @@ kept_whole w e = whole-document w (and_left _ _ (and_left _ _ e))
 module _ (b w : List ℕ) where
   abbrev both : List Question
   both = case_questions b ++ document_questions w
+
+  pub fits-no : {T : Type 0} (a : Result T Refusal) (s : Refusal) (rest : List Question) → number_of s ≡ fits_refusal b w → IsErrAnd a (λ t. t ≡ s)
+      → asked a ≡ refusal (case_questions b ++ (document_questions w ++ rest))
+  unfolding fits_refusal
+  fits-no a s rest e p =
+      passed_on a s p ∙ e ∙ sym (refusal-kept both rest (λ z. number-not_zero s (e ∙ z))) ∙ ap refusal (append_assoc (case_questions b) (document_questions w) rest)
 
   module _ (z : 0 ≡ fits_refusal b w) where
     all_yes : AllYes both
