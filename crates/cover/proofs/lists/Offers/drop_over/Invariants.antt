@@ -1,9 +1,10 @@
 use Prim.Native.Nat.{◌-◌}
+use lib.ListN.{length}
 use Rattle.cover.proofs.CoverLaws.{Dropping}
-use Rattle.cover.proofs.lists.drop_over.Given as goal
+use Rattle.cover.proofs.lists.Offers.drop_over.Given as goal
 
 abbrev pub invariant-loop-k : goal.invariant-loop-k
-invariant-loop-k l = Dropping l.a l.initial.list l.list l.count l.n
+invariant-loop-k l = Dropping l.a l.initial.self l.self
 
 abbrev pub decreases-loop-k : goal.decreases-loop-k
-decreases-loop-k l = l.n - l.k
+decreases-loop-k l = length l.self - l.k
