@@ -1,11 +1,13 @@
 -- Numbers that the lent tables hold are indices into one another. Assumes nothing.
 use Prim.Native.Nat.{ℕ, ◌<◌}
 use mathlib.Core.Path.{◌≡◌, sym, subst}
-use mathlib.Core.List.{List, []}
+use mathlib.Core.List.{List}
 use native.Mathlib.Omega.{arith}
 use lib.ListN.{length, get_or}
 use Rattle.model.specs.Pattern.{pattern_parent}
 use Rattle.format.specs.Given.{pattern_at, PatternGiven}
+use Rattle.judging.specs.declared.member.Member.{Member}
+use Rattle.judging.specs.Blocks.{no_member}
 use Rattle.judging.specs.Room.{Judgeable, Placed, Steppable}
 
 -- a parent comes before its children
@@ -24,8 +26,8 @@ module _ {p : List ℕ} {at : ℕ} {images : List ℕ} (R : Placed p at images) 
   image-lt {c} h e = subst (λ (x : ℕ). x < 64) (sym e) (R.inside c (subst (λ (n : ℕ). c < n) R.placed h))
 
 -- one member's block with the images
-pub judge-stands : {t p : List ℕ} {at : ℕ} {images : List ℕ} → Judgeable t p at images → Placed p at images
+pub judge-stands : {t : Member} {p : List ℕ} {at : ℕ} {images : List ℕ} → Judgeable t p at images → Placed p at images
 judge-stands R = record { pattern = R.base.pattern; placed = R.placed; inside = R.inside }
 
-pub judge-member : {ts : List (List ℕ)} {p : List ℕ} {at : ℕ} {images : List ℕ} → Steppable ts p at images → (i : ℕ) → i < length ts → Judgeable (get_or ts i []) p at images
+pub judge-member : {ts : List Member} {p : List ℕ} {at : ℕ} {images : List ℕ} → Steppable ts p at images → (i : ℕ) → i < length ts → Judgeable (get_or ts i no_member) p at images
 judge-member R i h = record { base = R.base.each i h; placed = R.stands.placed; inside = R.stands.inside }
