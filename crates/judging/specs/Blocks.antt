@@ -1,7 +1,6 @@
 -- What is worked out once a case: of the summary and the first pattern, and of each member of the set. Where a summary or a pattern has
 -- fewer nodes than a table has entries, zeros follow.
 use Rattle.std.specs.Prelude.{ℕ, ◌+◌, ◌*◌, List, [], get_or}
-use Rattle.judging.specs.declared.rows.Parents.{Parents}
 use Rattle.judging.specs.declared.member.Member.{Member}
 use Rattle.judging.specs.declared.masks.Masks.{Masks}
 use Rattle.judging.specs.Judging.{Sets}
@@ -10,11 +9,6 @@ use Rattle.judging.specs.Stepping.{Candidates}
 -- tables by first-pattern node, in rows of 64, and by the summary node on which its parent stands
 abbrev pub cell : ℕ → ℕ → ℕ
 cell c x = 64 * c + x
-
--- ---- by summary node: its parent
-
-abbrev pub parent_in : Parents → ℕ → ℕ
-parent_in parents x = get_or parents.0 x 0
 
 -- ---- the summary and a member of the set
 

@@ -1,19 +1,19 @@
 -- What the blocks hold when they are those of a summary, a first pattern and the members of a set.
 use Rattle.std.specs.Prelude.{ℕ, ◌≤◌, ◌<◌, ◌≡◌, Bool, List, [], length, get_or}
 use Rattle.model.specs.Lists.{mask_below}
-use Rattle.model.specs.Tree.{Rooted, IsTree}
+use Rattle.model.specs.Tree.{Rooted}
 use Rattle.model.specs.Summary.{Summary, as_document, summary_label, summary_parent}
 use Rattle.model.specs.Pattern.{Pattern, IsPatternTree, pattern_label, descends, label_fits}
 use Rattle.model.specs.Facts.{SummaryFacts}
 use Rattle.model.specs.Embeddings.{child_test, below_test, is_path}
 use Rattle.model.specs.Quick.{Held, held_by, unheld, may_hold, closed}
+use Rattle.format.specs.Given.{SummaryKept}
 use Rattle.matching.specs.Matching.{children_in}
-use Rattle.judging.specs.declared.rows.SummaryRows.{SummaryRows}
 use Rattle.judging.specs.declared.member.Member.{Member}
 use Rattle.judging.specs.declared.masks.Masks.{Masks}
 use Rattle.judging.specs.Blocks.{no_member, up_in, cap_in, last_in, sets_in, candidates_in}
 use Rattle.judging.specs.Judging.{nobody, full_by, Sets}
-use Rattle.judging.specs.Sets.{path_table, summary_rows}
+use Rattle.judging.specs.Sets.{path_table}
 use Rattle.judging.specs.Stepping.{Candidates}
 
 -- entry n has the nodes of Q that may stand where h is held
@@ -42,11 +42,6 @@ pub record StepSets (S : Summary) (P : Pattern) (M : Candidates) : Type 0 where
 
 -- ---- blocks that are made
 
--- a summary that fits the blocks
-pub record SummaryNarrow (S : Summary) : Type 0 where
-  pub tree : IsTree (as_document S)
-  pub few : length S ≤ 64
-
 -- the block of a summary, a first pattern and a member holds what one node takes, and the summary's parents, with zeros after them
 pub record SetsMade (S : Summary) (P Q : Pattern) (t : Member) : Type 0 where
   pub tree : Rooted 64 (up_in t)
@@ -70,9 +65,9 @@ pub record MasksMade (S : Summary) (parts lasts : List ℕ) (cap : ℕ) (m : Mas
   pub most : cap_in m ≡ cap
   pub cells : (i : ℕ) → i < 1024 → get_or m.counts i 0 ≡ 0
 
--- of whichever summary has these rows
-abbrev pub MadeFrom : SummaryRows → List ℕ → List ℕ → ℕ → Masks → Type 0
-MadeFrom rows parts lasts cap m = (S : Summary) → SummaryNarrow S → rows ≡ summary_rows S → MasksMade S parts lasts cap m
+-- if the summary is a tree of few enough nodes
+abbrev pub MadeFrom : Summary → List ℕ → List ℕ → ℕ → Masks → Type 0
+MadeFrom S parts lasts cap m = SummaryKept S → MasksMade S parts lasts cap m
 
 -- ---- what skipping takes
 

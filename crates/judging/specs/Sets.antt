@@ -7,10 +7,8 @@ use Rattle.model.specs.Pattern.{Pattern, pattern_label, descends, position, patt
 use Rattle.model.specs.Embeddings.{path_mask}
 use Rattle.model.specs.Fitting.{strong_children}
 use Rattle.model.specs.Quick.{may_hold}
-use Rattle.model.specs.Strong.{strong_table}
 use Rattle.model.specs.Bytes.{written_at_front}
 use Rattle.judging.specs.Judging.{nobody, gather, Sets, offers_by}
-use Rattle.judging.specs.declared.rows.SummaryRows.{SummaryRows}
 use Rattle.judging.specs.declared.sets.Asked.{Asked}
 use Rattle.judging.specs.declared.sets.Asked.TheVariants.{Held, Deep}
 
@@ -73,6 +71,10 @@ byte_table kids n shift = table_of (byte_set kids n shift) 256 256
 abbrev pub up_table : Summary → List ℕ
 up_table S = table_of (summary_parent S) (length S) 64
 
+-- and one entry
+abbrev pub parent_of : Summary → ℕ → ℕ
+parent_of S x = get_or (up_table S) x 0
+
 -- a child alone, and with what is below it
 abbrev pub child_by : ℕ → ℕ → ℕ
 child_by b e = bit_or 0 (2 ^ b)
@@ -83,11 +85,6 @@ below_by b e = bit_or e (2 ^ b)
 -- by summary node, gathered from the last on: its children, its descendants
 abbrev pub gathered : Summary → (ℕ → ℕ → ℕ) → List ℕ
 gathered S F = gather (summary_parent S) F (length S - 1) (replicate 64 0)
-
--- what depends on the summary alone: its parents, children, descendants and strong children
-abbrev pub summary_rows : Summary → SummaryRows
-summary_rows S =
-    record { parents = record { 0 = up_table S }; children = gathered S child_by; descendants = gathered S below_by; strong = strong_table S }
 
 -- acc, joined with what the summary nodes cs offer to the node above them, where each is offered its entry of closed
 unfoldable pub join_offers : Sets → List ℕ → ℕ → List ℕ → ℕ

@@ -2,7 +2,6 @@
 
 ghost use Rattle.std.specs.Prelude.{◌≡◌, ◌≤◌, ◌<◌, length};
 ghost use Rattle.model.specs.Tree.{Rooted};
-ghost use Rattle.format.specs.Given.{pattern_at};
 ghost use Rattle.judging.specs.Blocks.{up_in, last_in, sets_in};
 ghost use Rattle.judging.specs.Judging.{nobody, full_by, meets_by, offers_by, node_by, hang_by, pass_by, root_by};
 ghost use Rattle.judging.specs.Room.{Judgeable};
@@ -10,10 +9,10 @@ ghost use Rattle.judging.specs.Settling.{unless_over, folded_row};
 
 use crate::masks::Masks;
 use crate::member::{Member, NOBODY};
-use bits::has16;
+use bits::Mask;
 use format::field::wide64;
 use format::nodes::{PatternNode, SummaryNode, image_of};
-use format::pattern::{pattern_count, pattern_parent};
+use format::pattern::Pattern;
 
 // By node of the first pattern, what the complete parts that hang from it offer.
 pub type Row = [u16; 16];
@@ -75,52 +74,43 @@ impl Member {
         h
     }
 
-    // What node c of the first pattern, (p, at), passes on to its parent, where e hangs from it.
-    pub fn pass(&self, p: &[u8], at: usize, images: &[u16], c: PatternNode, e: u16) -> u16
-        requires judgeable { Judgeable self.now p.now at images.now }
-        requires c_nonzero { (0 < c.0) × (c.0 < length (pattern_at p.now at)) }
-        ensures { result ≡ pass_by (sets_in self.now) (pattern_at p.now at) images.now c.0 e }
+    // What node c of the first pattern passes on to its parent, where e hangs from it.
+    pub fn pass(&self, p: &Pattern, images: &[u16], c: PatternNode, e: u16) -> u16
+        requires judgeable { Judgeable self.now p.now images.now }
+        requires c_nonzero { (0 < c.0) × (c.0 < length p.now) }
+        ensures { result ≡ pass_by (sets_in self.now) p.now images.now c.0 e }
     {
-        let a = image_of(images, pattern_parent(p, at, c));
+        let a = image_of(images, p.parent(c));
         self.hang(a, image_of(images, c), c.0, e)
     }
 
     // What a node passes on, where its part ends with the node just placed.
-    fn folded(&self, p: &[u8], at: usize, images: &[u16], s: Share) -> u16
-        requires judgeable { Judgeable self.now p.now at images.now }
-        requires node_nonzero { (0 < s.node.0) × (s.node.0 < length (pattern_at p.now at)) }
-        ensures { result ≡ unless_over s.over (pass_by (sets_in self.now) (pattern_at p.now at) images.now s.node.0 s.set) }
+    fn folded(&self, p: &Pattern, images: &[u16], s: Share) -> u16
+        requires judgeable { Judgeable self.now p.now images.now }
+        requires node_nonzero { (0 < s.node.0) × (s.node.0 < length p.now) }
+        ensures { result ≡ unless_over s.over (pass_by (sets_in self.now) p.now images.now s.node.0 s.set) }
     {
         if s.over {
             return 0;
         }
-        self.pass(p, at, images, s.node, s.set)
+        self.pass(p, images, s.node, s.set)
     }
 
     // The row with what the parts that end with node q offer, which is placed.
-    pub fn settle(
-        &self,
-        m: &Masks,
-        p: &[u8],
-        at: usize,
-        images: &[u16],
-        q: PatternNode,
-        row: Row,
-    ) -> Row
-        requires { Judgeable self.now p.now at images.now }
-        ensures { result ≡ folded_row (sets_in self.now) (pattern_at p.now at) (last_in m.now) q.0 images.now row }
+    pub fn settle(&self, m: &Masks, p: &Pattern, images: &[u16], q: PatternNode, row: Row) -> Row
+        requires { Judgeable self.now p.now images.now }
+        ensures { result ≡ folded_row (sets_in self.now) p.now (last_in m.now) q.0 images.now row }
     {
         let mut hangs = row;
-        let n = pattern_count(p, at);
-        for c in (1..n).rev() {
+        for c in (1..p.count()).rev() {
             let node = PatternNode(c);
             let share = Share {
                 node,
                 set: hangs[c],
                 over: m.last(node) != wide64(q.0),
             };
-            let set = self.folded(p, at, images, share);
-            hangs[pattern_parent(p, at, node).0] |= set;
+            let set = self.folded(p, images, share);
+            hangs[p.parent(node).0] |= set;
         }
         hangs
     }
@@ -130,6 +120,6 @@ impl Member {
         ensures { result ≡ root_by (sets_in self.now) g }
     {
         let top = SummaryNode(0);
-        has16(self.met(top, 0, self.closed(top) | g), 0)
+        self.met(top, 0, self.closed(top) | g).has(0)
     }
 }

@@ -5,7 +5,7 @@ use Rattle.judging.proofs.RoomLaws.{parent-placed, image-lt, judge-stands}
 use Rattle.judging.proofs.member.Member.pass.Goals as goal
 
 pub image_of-a-requires : goal.image_of-a-requires
-image_of-a-requires c = parent-placed (judge-stands c.requires.judgeable) c.requires.c_nonzero.0 c.requires.c_nonzero.1 c.pattern_parent.ensures
+image_of-a-requires c = parent-placed (judge-stands c.requires.judgeable) c.requires.c_nonzero.0 c.requires.c_nonzero.1 c.parent.ensures
 
 pub hang-requires : goal.hang-requires
 hang-requires c =
@@ -13,4 +13,4 @@ hang-requires c =
 
 pub returns : goal.returns
 unfolding pass_by
-returns c = cc (c.hang.ensures, c.image_of.ensures, c.image_of-a.ensures, c.pattern_parent.ensures)
+returns c = cc (c.hang.ensures, c.image_of.ensures, c.image_of-a.ensures, c.parent.ensures)

@@ -5,4 +5,4 @@ use Rattle.judging.proofs.member.Member.root.Goals as goal
 
 pub returns : goal.returns
 unfolding root_by
-returns c = rw (c.has16.ensures, c.met.ensures, c.closed.ensures)
+returns c = rw (c.has.ensures, c.met.ensures, c.closed.ensures)

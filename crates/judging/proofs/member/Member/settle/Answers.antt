@@ -13,7 +13,7 @@ use Rattle.judging.proofs.SettleLaws.{over-folded}
 use Rattle.judging.proofs.member.Member.settle.Goals as goal
 
 pub loop-c-init : goal.loop-c-init
-loop-c-init c = (c.requires, gathering-start c.pattern_count-n.ensures.0 c.requires.base.pattern.tree.inhabited, search rules)
+loop-c-init c = (c.requires, gathering-start c.count-c.ensures.0 c.requires.base.pattern.tree.inhabited, search rules)
 
 pub last-requires : goal.last-requires
 last-requires c = let i = c.loop-c.invariant in omega (arith, i.0.base.pattern.few, i.1.top)
@@ -28,14 +28,14 @@ pub folded-set-requires : goal.folded-set-requires
 folded-set-requires c =
     record { judgeable = c.loop-c.invariant.0; node_nonzero = (omega (arith, c.loop-c-test.true), omega (arith, c.loop-c.invariant.1.top)) }
 
-pub pattern_parent-requires : goal.pattern_parent-requires
-pattern_parent-requires c = let i = c.loop-c.invariant in record { whole_section = i.0.base.pattern.whole; q_in_bounds = omega (arith, i.1.top) }
+pub parent-requires : goal.parent-requires
+parent-requires c = omega (arith, c.loop-c.invariant.1.top)
 
-pub bounds-hangs-pattern_parent : goal.bounds-hangs-pattern_parent
-bounds-hangs-pattern_parent c =
+pub bounds-hangs-parent : goal.bounds-hangs-parent
+bounds-hangs-parent c =
     let l = c.loop-c in
     let h = c.loop-c-test.true in
-    let k : c.pattern_parent.result.0 < l.c - 1 = parent-lt l.invariant.0.base.pattern (omega (arith, h)) (omega (arith, l.invariant.1.top, h)) c.pattern_parent.ensures in
+    let k : c.parent.result.0 < l.c - 1 = parent-lt l.invariant.0.base.pattern (omega (arith, h)) (omega (arith, l.invariant.1.top, h)) c.parent.ensures in
     omega (arith, k, l.invariant.0.base.pattern.few, l.invariant.1.top, l.invariant.1.long, l.invariant.2)
 
 pub loop-c-preserved : goal.loop-c-preserved
@@ -43,7 +43,7 @@ loop-c-preserved c =
     let l = c.loop-c in (
       l.invariant.0,
       gathering-step (l.c - 1) _ l.invariant.1 c.loop-c-test.true refl
-          (join-turn _ _ _ _ _ _ _ c.pattern_parent.ensures
+          (join-turn _ _ _ _ _ _ _ c.parent.ensures
           (c.folded-set.ensures ∙ over-folded _ _ _ _ _ _ _ _ (ap₂ (λ (x y : ℕ). not (eqb x y)) c.last.ensures c.wide64.ensures)) refl) (length-set _ _ _),
       l.invariant.2,
     )
