@@ -9,7 +9,7 @@ use Rattle.judging.specs.Judging.{root_by, judge_by}
 use Rattle.judging.specs.Settling.{folded_row, Settled}
 
 -- so says the test for at least one of the members
-abbrev pub by_some : (List ℕ → ℕ → Bool) → List Member → Bool
+abbrev pub by_some : (Member → ℕ → Bool) → List Member → Bool
 by_some test ts = any_of (λ i. test (get_or ts i no_member) i) (up_from 0 (length ts))
 
 -- a whole embedding passes

@@ -1,14 +1,17 @@
 -- Asking what is left open of a partial embedding: what each part of a turn makes of the lists. `ts` is what is known of the members, `es`
 -- are the images of the first pattern's nodes.
 use Rattle.std.specs.Prelude.{ℕ, ◌<◌, ◌≡◌, Bool, ◌⊎◌, List, [], eqb, length, get_or}
-use Rattle.cover.specs.Cover.{Covers}
+use Rattle.cover.specs.Cover.{Inside, Covers}
 use Rattle.judging.specs.declared.member.Member.{Member}
 use Rattle.alternatives.specs.Alternatives.{RowBy, Raises, Met}
 
--- each of the first `count` nodes' lists begins with the node's column of the rows of n members
+-- f has what is settled at node j, by the rows of n members
+pub record Settles (n : ℕ) (rows : List (List ℕ)) (j : ℕ) (f : ℕ → ℕ → Bool) : Type 0 where
+  pub inside : (a : List ℕ) → ((i : ℕ) → i < n → get_or a i 0 ≡ get_or (get_or rows i []) j 0) → Inside n a f
+
+-- each of the first `count` nodes' lists covers what is settled there
 pub record Begun (n count : ℕ) (rows : List (List ℕ)) (lists : List (List (List ℕ))) : Type 0 where
-  pub some : (j : ℕ) → j < count → 0 < length (get_or lists j [])
-  pub first : (j i : ℕ) → j < count → i < n → get_or (get_or (get_or lists j []) 0 []) i 0 ≡ get_or (get_or rows i []) j 0
+  pub covers : (j : ℕ) → j < count → (f : ℕ → ℕ → Bool) → Settles n rows j f → Covers n (get_or lists j []) f
 
 -- of each of the sets, what F makes of it
 pub record ListBy (n : ℕ) (F : ℕ → ℕ → ℕ) (sets made : List (List ℕ)) : Type 0 where

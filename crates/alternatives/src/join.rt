@@ -1,6 +1,6 @@
 // Lists of sets over all members' nodes, joined, and raised along the way up.
 
-ghost use Rattle.std.specs.Prelude.{Bool, ◌⊎◌, ℕ, ◌≤◌, ◌<◌, ◌×◌, length};
+ghost use Rattle.std.specs.Prelude.{Bool, ◌⊎◌, ℕ, ◌≤◌, ◌<◌, length};
 ghost use Rattle.cover.specs.Cover.{Inside, Covers};
 ghost use Rattle.judging.specs.Judging.{nobody};
 ghost use Rattle.alternatives.specs.Alternatives.{RowBy, node_of, Raises, Met, Grown};

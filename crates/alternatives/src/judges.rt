@@ -1,5 +1,6 @@
 // Those who judge: the members of a set, over a summary and a first pattern.
 
+ghost use Rattle.format.specs.Given.{PatternKept};
 ghost use Rattle.judging.specs.Room.{MembersGiven};
 
 use format::pattern::Pattern;
@@ -15,4 +16,5 @@ pub struct Judges<'a> {
     // How many summary nodes there are.
     pub nodes: usize,
     ghost given: { MembersGiven members.now pattern.now },
+    ghost kept: { PatternKept pattern.now },
 }
