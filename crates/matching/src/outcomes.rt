@@ -9,7 +9,7 @@ ghost use Rattle.model.specs.Embeddings.{is_result, nodes_at, path_mask};
 ghost use Rattle.model.specs.Facts.{PatternFacts, ListFacts};
 ghost use Rattle.model.specs.Bytes.{list_of};
 ghost use Rattle.format.specs.Given.{SummaryKept, PatternKept, DocumentKept};
-ghost use Rattle.matching.specs.Outcomes.{in_mask, push_if, count_if, Written};
+ghost use Rattle.matching.specs.Outcomes.{in_mask, Written};
 
 use crate::tables::{parts, stands};
 use crate::wanted::Wanted;
@@ -27,18 +27,6 @@ fn in_mask(table: &[u16], v: usize, q: PatternNode) -> bool
     table[v].has(q.0)
 }
 
-// v goes after the first count entries where t says so. The result is the new count.
-fn push_if(t: bool, v: usize, count: usize, out: &mut [u16]) -> usize
-    requires { (v < 65536) × (count < length out.old) }
-    ensures { (result ≡ count_if t count) × (out.new ≡ push_if t v count out.old) }
-{
-    if t {
-        out[count] = v as u16;
-        return count + 1;
-    }
-    count
-}
-
 // The tree nodes, of n, whose mask has q, ascending, go to the front of out. The result is their number.
 fn nodes_with(table: &[u16], n: usize, q: PatternNode, out: &mut [u16]) -> usize
     requires { (n ≤ length table.now) × (n ≤ length out.old) × (n ≤ 65536) × (q.0 < 16) }
@@ -46,7 +34,10 @@ fn nodes_with(table: &[u16], n: usize, q: PatternNode, out: &mut [u16]) -> usize
 {
     let mut count: usize = 0;
     for v in 0..n {
-        count = push_if(in_mask(table, v, q), v, count, out);
+        if in_mask(table, v, q) {
+            out[count] = v as u16;
+            count += 1;
+        }
     }
     count
 }
@@ -113,9 +104,5 @@ pub fn path_masks(summary: &Summary, pattern: &Pattern) -> [u64; 16]
 pub fn path_counts(masks: &[u64; 16]) -> [u64; 16]
     ensures { result ≡ map (λ q. ones (get_or masks.now q 0)) (up_from 0 16) }
 {
-    let mut r = [0u64; 16];
-    for q in 0..16 {
-        r[q] = count64(masks[q]) as u64;
-    }
-    r
+    masks.map(|m| count64(m) as u64)
 }
