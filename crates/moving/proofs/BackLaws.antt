@@ -1,12 +1,14 @@
 -- Question 15 by what the code reads: the set's count, then the figures of the first pattern and of the one member. Assumes nothing.
-use Prim.Native.Nat.{ℕ, ◌+◌, ◌≤◌, ◌<◌}
+use Prim.Native.Nat.{ℕ, zero, suc, ◌+◌}
 use mathlib.Core.Path.{◌≡◌, refl, sym, ap, ap₂, ◌∙◌, subst}
 use mathlib.Core.Bool.{Bool, true, false, ◌&&◌}
 use mathlib.Core.List.{List, [], ◌∷◌}
 use native.Mathlib.Omega.{arith}
+use native.Mathlib.Numerals.{add-one}
 use lib.Dec.{eqb}
 use lib.ListN.{length, get_or}
-use borrow.Author.Tests.{eq-eqb, ne_eqb}
+use borrow.Author.Tests.{ne_eqb}
+use Rattle.std.specs.List.{range_with_len, list_all}
 use Rattle.model.specs.Lists.{up_from, all_of}
 use Rattle.model.specs.Limits.{pattern_width}
 use Rattle.model.specs.Pattern.{PatternRecord, Pattern, no_pattern_record, pattern_figure}
@@ -16,7 +18,6 @@ use Rattle.model.proofs.ListLaws.{bool-ext, all-intro, all-elim, all-below, belo
 use Rattle.model.proofs.Bytes.{whole-case, member-first}
 use Rattle.format.specs.Given.{pattern_at}
 use Rattle.format.proofs.SectionLaws.{set-member, member-section}
-use Rattle.questions.proofs.LoopLaws.{Passed, passed-more, all-passed, one-failed}
 use Rattle.questions.proofs.SectionLaws.{first-pattern, set-members}
 
 -- ---- one pattern
@@ -38,15 +39,20 @@ by_number P = bool-ext (all_of test P) (all_of (no_figure P) (up_from 0 (length 
     back : all_of (no_figure P) (up_from 0 (length P)) ≡ true → all_of test P ≡ true
     back e = all-intro test P (λ r m. let k = at_mem P r no_pattern_record m in subst (λ (x : PatternRecord). test x ≡ true) k.2 (all-below (no_figure P) (length P) e k.0 k.1))
 
-module _ (P : Pattern) where
-  pub figure-stops : (q : ℕ) {n v : ℕ} → n ≡ length P → q < n → v ≡ pattern_figure P q → (v ≡ 0 → ⊥) → false ≡ figureless P
-  figure-stops q c h e f = sym (by_number P ∙ one-failed (no_figure P) 0 (length P) q (omega arith) (omega arith) (ne_eqb (pattern_figure P q) 0 (λ z. f (e ∙ z))))
+-- the numbers below n, tested one after another
+numbers : (test : ℕ → Bool) (a n : ℕ) → list_all test (range_with_len a n) ≡ all_of test (up_from a n)
+unfolding all_of up_from
+numbers test a zero = refl
+numbers test a (suc n) =
+    ap (λ (t : Bool). test a && t) (ap (λ (k : ℕ). list_all test (range_with_len k n)) (add-one a) ∙ numbers test (suc a) n)
+    ∙ as-elim (test a) (all_of test (up_from (suc a) n))
+  where
+    as-elim : (s t : Bool) → (s && t) ≡ elim s as (λ _. Bool) [ true ↦ t | false ↦ false ]
+    as-elim true t = refl
+    as-elim false t = refl
 
-  pub figure-more : (q : ℕ) {v : ℕ} → Passed (no_figure P) 0 q → v ≡ pattern_figure P q → v ≡ 0 → Passed (no_figure P) 0 (q + 1)
-  figure-more q p e z = passed-more (no_figure P) 0 q p (eq-eqb (pattern_figure P q) 0 (sym e ∙ z))
-
-  pub figures-end : (q : ℕ) {n : ℕ} → n ≡ length P → n ≤ q → Passed (no_figure P) 0 q → true ≡ figureless P
-  figures-end q c h p = sym (by_number P ∙ all-passed (no_figure P) 0 (length P) q p (omega arith))
+pub figures-asked : (P : Pattern) (n : ℕ) (r : Bool) → n ≡ length P → r ≡ list_all (no_figure P) (range_with_len 0 n) → r ≡ figureless P
+figures-asked P n r e q = q ∙ numbers (no_figure P) 0 n ∙ ap (λ (k : ℕ). all_of (no_figure P) (up_from 0 k)) e ∙ sym (by_number P)
 
 -- ---- the case
 

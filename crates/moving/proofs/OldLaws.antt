@@ -57,3 +57,7 @@ old-counts-asked b first second r p q e =
     e ∙ ap₂ (λ (x y : ℕ). between 1 max_summary (field b 0) && between 1 max_pattern (field b x) && between 1 max_pattern (field b y)) p q
     ∙ sym (λ i. between 1 max_summary (section-length summary_record_at summary_width b 0 i) && between 1 max_pattern (section-length old_record_at old_width b (first_at b) i)
     && between 1 max_pattern (section-length old_record_at old_width b (second_at b) i))
+
+-- a count that is asked, by the test's answer
+pub count-told : (n x v : ℕ) (answer told : Bool) → answer ≡ between 1 n x → x ≡ v → answer ≡ told → told ≡ between 1 n v
+count-told n x v answer told a e t = sym t ∙ a ∙ ap (between 1 n) e

@@ -34,13 +34,7 @@ pub fn old_counts_in_range(b: &[u8]) -> bool
     requires { old_whole b.now ≡ true }
     ensures { result ≡ old_counts_in_range (old_case_of b.now) }
 {
-    let first = first_at(b);
-    let second = second_at(b);
-    if !between(1, MAX_SUMMARY, field(b, 0) as u64) {
-        return false;
-    }
-    if !between(1, MAX_PATTERN, field(b, first) as u64) {
-        return false;
-    }
-    between(1, MAX_PATTERN, field(b, second) as u64)
+    between(1, MAX_SUMMARY, field(b, 0) as u64)
+        && between(1, MAX_PATTERN, field(b, first_at(b)) as u64)
+        && between(1, MAX_PATTERN, field(b, second_at(b)) as u64)
 }

@@ -22,13 +22,7 @@ fn figureless(b: &[u8], at: usize) -> bool
     requires { WholeSection pattern_width b.now at }
     ensures { result ≡ figureless_in (pattern_at b.now at) }
 {
-    let n = pattern_count(b, at);
-    for q in 0..n {
-        if pattern_figure(b, at, PatternNode(q)) != 0 {
-            return false;
-        }
-    }
-    true
+    (0..pattern_count(b, at)).all(|q| pattern_figure(b, at, PatternNode(q)) == 0)
 }
 
 // 15. Going back, has the set one pattern, and is every figure 0?
@@ -36,15 +30,8 @@ pub fn goes_back(b: &[u8]) -> bool
     requires { is_whole_case b.now ≡ true }
     ensures { result ≡ goes_back (case_of b.now) }
 {
-    let first = first_at(b);
     let set = set_at(b);
-    if set_count(b, set) != 1 {
-        return false;
-    }
-    if !figureless(b, first) {
-        return false;
-    }
-    figureless(b, set + 1)
+    set_count(b, set) == 1 && figureless(b, first_at(b)) && figureless(b, set + 1)
 }
 
 // Old to new: 2, then 3 to 8 of the old form. 5 to 8 are asked of the set of one that the old case is, of which 3, 4, 14 and 17 are answered

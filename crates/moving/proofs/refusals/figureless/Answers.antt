@@ -1,28 +1,13 @@
--- `moving::refusals::figureless` meets its contract. The loop's invariant: every figure before q's is 0. Assumes nothing.
-use Rattle.questions.proofs.LoopLaws.{kept}
-use Rattle.moving.proofs.BackLaws.{figure-stops, figure-more, figures-end}
+-- `moving::refusals::figureless` meets its contract: every number below the count passes. Assumes nothing.
+use Rattle.std.proofs.Common.{refl, arith, rules, tests}
+use Rattle.std.proofs.lemmas.Iterator.{YieldsList-from_range}
+use Rattle.std.proofs.lemmas.Iterator.Search.{all_from_yields_List}
+use Rattle.format.specs.Given.{pattern_at}
+use Rattle.moving.proofs.BackLaws.{no_figure, figures-asked}
 use Rattle.moving.proofs.refusals.figureless.Goals as goal
 
-pub pattern_count-n-requires : goal.pattern_count-n-requires
-pattern_count-n-requires c = search kept
-
-pub loop-q-init : goal.loop-q-init
-loop-q-init c = search kept
-
-pub pattern_figure-requires : goal.pattern_figure-requires
-pattern_figure-requires c = search kept
-
-pub returns-then-pattern_figure-ne0 : goal.returns-then-pattern_figure-ne0
-returns-then-pattern_figure-ne0 c = search (kept, figure-stops)
-
-pub overflow_step-q : goal.overflow_step-q
-overflow_step-q c = search kept
-
-pub loop-q-smaller : goal.loop-q-smaller
-loop-q-smaller c = search kept
-
-pub loop-q-preserved : goal.loop-q-preserved
-loop-q-preserved c = search (kept, figure-more)
-
 pub returns : goal.returns
-returns c = search (kept, figures-end)
+returns c =
+    let P = pattern_at c.args.b.now c.args.at in
+    let listed = all_from_yields_List (no_figure P) _ _ _ c.all.ensures.ran (YieldsList-from_range 0 c.pattern_count.result c.pattern_count.result refl (omega arith)) (λ x b q k. search (rules, tests)) in
+    figures-asked P _ _ c.pattern_count.ensures.0 listed
