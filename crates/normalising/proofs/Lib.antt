@@ -1,3 +1,5 @@
+pub mod OrderLaws
+pub mod PlaceLaws
 pub mod KeyLaws
 pub mod RowLaws
 pub mod TableLaws

@@ -2,8 +2,10 @@
 // what its questions refuse.
 #![tactic(auto)]
 
+mod entry;
 mod gather;
 mod keys;
+mod row;
 mod rows;
 mod trees;
 mod write;
