@@ -2,6 +2,7 @@
 // either; lists; the writers.
 #![tactic(auto)]
 
+pub mod case;
 pub mod document;
 pub mod field;
 pub mod labels;
