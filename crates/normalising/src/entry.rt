@@ -7,7 +7,7 @@ pub struct Entry {
     pub depth: u8,
     pub label: u16,
     pub edge: u16,
-    pub position: u8,
+    pub position: u16,
     pub figure: u16,
 }
 
