@@ -15,6 +15,8 @@ use borrow.Author.Tests.{eqb-true, eqb-false, ne_eqb, ltb-true, ltb-false, lt-lt
 use Rattle.model.specs.Pattern.{Pattern, IsPatternTree, pattern_parent}
 use Rattle.judging.specs.Judging.{join_up, gather, Sets, hang_by, pass_by, given_by, root_by, judge_by}
 use Rattle.judging.specs.Settling.{Lasts, unless_over, settled_by, settled_row, folded_by, folded_row, Settled}
+use Rattle.judging.specs.declared.member.Member.{Member}
+use Rattle.judging.specs.declared.masks.Masks.{Masks}
 use Rattle.judging.specs.Blocks.{last_in, sets_in}
 
 -- ---- unions
@@ -287,7 +289,7 @@ module _ (T : Sets) (P : Pattern) (tree : IsPatternTree P) (last : ℕ → ℕ) 
 
 -- ---- the row that stepping carries
 
-module _ {t m : List ℕ} (P : Pattern) (tree : IsPatternTree P) where
+module _ {t : Member} {m : Masks} (P : Pattern) (tree : IsPatternTree P) where
   -- a whole embedding is judged by what hangs from its root
   pub row-whole : {q : ℕ} {es row : List ℕ} → Settled t m P q es row → q ≡ length P → judge_by (sets_in t) P es ≡ root_by (sets_in t) (get_or row 0 0)
   row-whole {q} {es} s e = settled-whole (sets_in t) P tree (last_in m) s.lasts es e ∙ ap (λ (r : List ℕ). root_by (sets_in t) (get_or r 0 0)) (sym s.same)

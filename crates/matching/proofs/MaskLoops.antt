@@ -11,7 +11,7 @@ use lib.ListN.{length, get_or, set, replicate, length-set, length-replicate}
 use lib.Seq.{ext_get_or}
 use borrow.Author.Tests.{eqb-true, eqb-false, eq-eqb, ne_eqb, lt-ltb}
 use Rattle.model.specs.Lists.{mask_below}
-use Rattle.model.specs.Pattern.{Pattern, pattern_parent}
+use Rattle.model.specs.Pattern.{Pattern, IsPatternTree, pattern_parent}
 use Rattle.model.specs.Quick.{hangs_from}
 use Rattle.model.proofs.ListLaws.{and_intro, length-map-up_from}
 use Rattle.model.proofs.Masks.{mask-none}
@@ -66,6 +66,10 @@ module _ {P : Pattern} where
         size = length-replicate {A = ℕ} 16 0;
         masks = λ p l. zeros-at 16 p ∙ sym (mask-none (hangs_from P p) 1 (λ c k. (let z : c ≡ 0 = omega arith in ap (hangs_from P p) z)));
       }
+
+  -- a parent has a mask
+  pub gathering-up : {kids : List ℕ} {c p : ℕ} → Gathering P kids c → IsPatternTree P → length P ≤ 16 → c < length P → p ≡ pattern_parent P c → p < 16
+  gathering-up {c = c} g t few h e = omega (arith, g.low, t.earlier c (omega (arith, g.low)) h)
 
   -- c hangs from its parent alone
   pub gathering-step : {kids : List ℕ} {c p x : ℕ} → Gathering P kids c → c < length P → p ≡ pattern_parent P c → p < 16 → x ≡ bit_or (get_or kids p 0) (2 ^ c)

@@ -7,4 +7,4 @@ use Rattle.matching.proofs.tables.descend.Goals as goal
 pub returns : goal.returns
 returns c =
     let s = c.args in
-    record { table_after = refl; left_after = λ i. set s.left.now s.v (bit_or (c.hanging.ensures i) (bit_and (c.wanted_deep.ensures i) s.may)) }
+    record { table_after = refl; left_after = λ i. set s.left.now s.v (bit_or (c.hanging.ensures i) (bit_and s.wanted.now.deep s.may)) }
