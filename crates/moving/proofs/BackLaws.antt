@@ -38,4 +38,3 @@ by_number P = bool-ext (all_of test P) (all_of (no_figure P) (up_from 0 (length 
 
     back : all_of (no_figure P) (up_from 0 (length P)) ≡ true → all_of test P ≡ true
     back e = all-intro test P (λ r m. let k = at_mem P r no_pattern_record m in subst (λ (x : PatternRecord). test x ≡ true) k.2 (all-below (no_figure P) (length P) e k.0 k.1))
-

@@ -22,8 +22,7 @@ pub fn second_at(b: &[u8]) -> usize
 pub fn old_whole(b: &[u8]) -> bool
     ensures { result ≡ old_whole b.now }
 {
-    front_end(b, OLD_WIDTH)
-        .is_some_and(|second| b.len() / 2 == section_end(b, second, OLD_WIDTH))
+    front_end(b, OLD_WIDTH).is_some_and(|second| b.len() / 2 == section_end(b, second, OLD_WIDTH))
 }
 
 // 4, of the old form. Are the counts 1 to 64, 1 to 16 and 1 to 16?

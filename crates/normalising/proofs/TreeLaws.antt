@@ -147,8 +147,7 @@ module _ {P : Pattern} (tree : IsPatternTree P) where
     pub insertable : (0 < length (get_or rows k [])) × (length (get_or rows p []) + length (get_or rows k []) ≤ 64)
     insertable =
         let a : length own ≡ length (gathered P (suc k) k) = length-map (gathered P (suc k) k) (entry_at P) in
-        let b : length (entries P (gathered P k p)) ≡ length (gathered P k p) = length-map (gathered P k p) (entry_at P) in
-        (
+        let b : length (entries P (gathered P k p)) ≡ length (gathered P k p) = length-map (gathered P k p) (entry_at P) in (
           omega (arith, ap length own-row, a, gathered-some P (suc k) k),
           omega (arith, ap length own-row, ap length above-row, length-joined own above, ap length joined-own, b, gathered-length P tree k p below (omega (arith, inside)), few),
         )

@@ -15,13 +15,14 @@ ghost use Rattle.model.specs.Normal.{normal_pattern, normal_case, normalise_refu
 ghost use Rattle.model.specs.Demands.{NormaliseAnswered};
 ghost use Rattle.moving.specs.Answers.{moved_of};
 ghost use Rattle.normalising.specs.Trees.{CaseGiven, SetGiven};
+ghost use Rattle.questions.specs.Refusal.{asked};
 
 use format::case::Case;
 use format::set::PatternSet;
 use format::write::put_field;
-use moving::answers::Moved;
-use questions::case_refusal;
+use questions::ask_case;
 use questions::numbers::buffer_large_enough;
+use questions::refusal::{Refusal, hold};
 use row::{ROW, Row};
 use std::array::from_fn;
 use write::write_tree;
@@ -54,27 +55,19 @@ fn write_case(case: &Case, out: &mut [u8]) -> usize
     2 * write_set(&case.set(), &mut rows, out, set)
 }
 
-// The call's refusal: 2, then 3 to 8 with 14 right after 4 and 17 right after 7.
-fn normalise_refusal(case: &[u8], buffer: usize) -> u64
-    ensures { result ≡ normalise_refusal case.now buffer }
+// What the call asks: 2, then 3 to 8 with 14 right after 4 and 17 right after 7.
+fn ask_normalise(case: &[u8], buffer: usize) -> Result<(), Refusal>
+    ensures { asked result ≡ normalise_refusal case.now buffer }
 {
-    if !buffer_large_enough(buffer) {
-        return 2;
-    }
-    case_refusal(case)
+    hold(buffer_large_enough(buffer), Refusal::Room)?;
+    ask_case(case)
 }
 
-// One way of writing: the case as it is written, to the front of the answer buffer, in as many bytes as it has. A refusal alters nothing.
-pub fn normalise_call(case: &[u8], answer: &mut [u8]) -> Moved
+// One way of writing: the case as it is written, to the front of the answer buffer; the answer is how many bytes it has, which is as many
+// as the case. A refusal alters nothing.
+pub fn normalise_call(case: &[u8], answer: &mut [u8]) -> Result<usize, Refusal>
     ensures { NormaliseAnswered case.now answer.old (moved_of result answer.new) }
 {
-    let refused = normalise_refusal(case, answer.len());
-    if refused != 0 {
-        return Moved { refused, count: 0 };
-    }
-    let count = write_case(&Case::new(case), answer);
-    Moved {
-        refused: 0,
-        count: count as u64,
-    }
+    ask_normalise(case, answer.len())?;
+    Ok(write_case(&Case::new(case), answer))
 }

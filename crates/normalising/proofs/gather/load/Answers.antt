@@ -33,6 +33,5 @@ loop-i-preserved g c =
       omega arith,
       omega arith,
       subst (λ (x : List Entry). Loaded P (set c.loop-i.rows c.loop-i.i x) (c.loop-i.i + 1)) (sym c.start-in-loop-i.ensures)
-      (loading_step c.requires.0.tree w.2 w.0 inside c.parent.ensures (c.above.view_is ∙ a) c.entry-in-loop-i.ensures),
+          (loading_step c.requires.0.tree w.2 w.0 inside c.parent.ensures (c.above.view_is ∙ a) c.entry-in-loop-i.ensures),
     )
-
