@@ -21,10 +21,6 @@ settled_by T P last q es c e = elim (ltb (last c) q) [ true ↦ pass_by T P es c
 unfoldable pub settled_row : Sets → Pattern → (ℕ → ℕ) → ℕ → List ℕ → List ℕ
 settled_row T P last q es = gather (pattern_parent P) (settled_by T P last q es) (length P - 1) (replicate 16 0)
 
--- a set, or nothing where a node's turn is passed over
-abbrev pub unless_over : Bool → ℕ → ℕ
-unless_over over set = elim over [ true ↦ 0 | false ↦ set ]
-
 -- what is folded in when node q is placed: what the parts that end with it offer
 unfoldable pub folded_by : Sets → Pattern → (ℕ → ℕ) → ℕ → List ℕ → ℕ → ℕ → ℕ
 folded_by T P last q es c e = elim (eqb (last c) q) [ true ↦ pass_by T P es c e | false ↦ 0 ]

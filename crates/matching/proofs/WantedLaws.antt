@@ -3,27 +3,24 @@
 use Prim.Native.Nat.{ℕ, ◌+◌, ◌-◌, ◌≤◌, ◌<◌}
 use mathlib.Core.Path.{◌≡◌, refl, sym, ap, ap₂, ◌∙◌, subst}
 use mathlib.Core.Bool.{Bool, true, false, ◌&&◌, ◌||◌, and_assoc}
-use mathlib.Core.List.{List, map}
+use mathlib.Core.List.{List}
 use native.Mathlib.Omega.{arith}
 use lib.Bits.{bit_and, bit_or}
 use lib.Dec.{eqb, leb, ltb}
-use lib.ListN.{length, get_or, set, replicate, length-set}
+use lib.ListN.{length, get_or, set, length-set}
 use borrow.Author.Tests.{eqb-true, eqb-false, eq-eqb, ne_eqb, le-leb, ltb-true, ltb-false}
-use Rattle.model.specs.Lists.{up_from, mask_below, has}
-use Rattle.model.specs.Bytes.{written_at_front}
+use Rattle.model.specs.Lists.{mask_below, has}
 use Rattle.model.specs.Tree.{Rooted, Document, label_of, figure_of}
-use Rattle.model.specs.Pattern.{Pattern, IsPatternTree, pattern_parent, pattern_label, position, pattern_figure, label_fits, figure_fits}
+use Rattle.model.specs.Pattern.{Pattern, pattern_parent, position, label_fits, figure_fits}
 use Rattle.model.specs.Quick.{hangs_from}
 use Rattle.model.proofs.ListLaws.{bool-ext}
 use Rattle.model.proofs.Masks.{mask_below_lem}
 use Rattle.bits.proofs.MaskLaws.{mask-agree, mask-and, mask-or, subset-all}
 use Rattle.matching.specs.Matching.{hangs_deep, children_in, fits_at, offers_at, part_at, leaves, result_pin, figure_pin}
-use Rattle.matching.specs.Masks.{kid_masks}
 use Rattle.matching.specs.declared.wanted.Wanted.{Wanted}
 use Rattle.matching.specs.Wanted.{Wants, mark_fits, pin_by, pin_of, mark_at, Marked, Unmarked, Unasked, Asked, fits_by, hangs_by}
 use Rattle.matching.specs.Tables.{leave_at}
-use Rattle.matching.proofs.MaskLoops.{get_or-kid_masks}
-use Rattle.matching.proofs.TurnLaws.{front-entry, set_here, set_else, up_to}
+use Rattle.matching.proofs.TurnLaws.{set_here, set_else, up_to}
 
 -- a parent is a node
 pub rooted-small : {n : ℕ} {parent : ℕ → ℕ} → Rooted n parent → (q : ℕ) → q < n → parent q < n

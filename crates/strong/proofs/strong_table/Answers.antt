@@ -1,6 +1,6 @@
 -- `strong::strong_table` meets its contract: after the turns below t each of those nodes with a strong edge is in its parent's mask.
 -- Assumes nothing.
-use Prim.Native.Nat.{ℕ, ◌<◌}
+use Prim.Native.Nat.{ℕ}
 use mathlib.Core.Path.{ap}
 use native.Mathlib.Omega.{arith}
 use lib.Dec.{eqb}

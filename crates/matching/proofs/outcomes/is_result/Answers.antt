@@ -9,7 +9,7 @@ use Rattle.matching.proofs.outcomes.is_result.Goals as goal
 pub pin-requires : goal.pin-requires
 pin-requires c =
     record {
-      pattern_given = (c.requires.pattern_kept.0, c.requires.pattern_kept.1, c.new-wanted.ensures.0);
+      pattern_kept = (c.requires.pattern_kept.0, c.requires.pattern_kept.1, c.new-wanted.ensures.0);
       list_len = (c.requires.list_facts.count, list-small c.requires.list_facts (omega (arith, c.requires.pattern_kept.2.few)));
     }
 

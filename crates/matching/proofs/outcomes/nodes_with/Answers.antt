@@ -15,12 +15,12 @@ pub loop-v-preserved : goal.loop-v-preserved
 loop-v-preserved c =
     let test = in_mask c.args.table.now c.args.q.0 in
     elim c.if-in_mask.branch [
-    | then-in_mask w ↦
-        subst₂ (λ (l : List ℕ) (k : ℕ). Listing test c.args.n c.args.out.now l k (c.loop-v.v + 1)) (sym w.out-is) (sym w.count-is)
-        (listing-in c.loop-v.invariant c.requires.1 c.loop-v-test.true (sym c.in_mask.ensures ∙ w.if-in_mask.true))
-    | else-in_mask w ↦
-        subst₂ (λ (l : List ℕ) (k : ℕ). Listing test c.args.n c.args.out.now l k (c.loop-v.v + 1)) (sym w.out-is) (sym w.count-is)
-        (listing-out c.loop-v.invariant c.loop-v-test.true (sym c.in_mask.ensures ∙ w.if-in_mask.false))
+      | then-in_mask w ↦
+          subst₂ (λ (l : List ℕ) (k : ℕ). Listing test c.args.n c.args.out.now l k (c.loop-v.v + 1)) (sym w.out-is) (sym w.count-is)
+          (listing-in c.loop-v.invariant c.requires.1 c.loop-v-test.true (sym c.in_mask.ensures ∙ w.if-in_mask.true))
+      | else-in_mask w ↦
+          subst₂ (λ (l : List ℕ) (k : ℕ). Listing test c.args.n c.args.out.now l k (c.loop-v.v + 1)) (sym w.out-is) (sym w.count-is)
+          (listing-out c.loop-v.invariant c.loop-v-test.true (sym c.in_mask.ensures ∙ w.if-in_mask.false))
     ]
 
 pub returns : goal.returns

@@ -28,8 +28,7 @@ invariant_of-result c =
 
 pub returns : goal.returns
 returns c =
-    let n = c.count-count.ensures.0 in
-    (
+    let n = c.count-count.ensures.0 in (
       record {
         tree = c.requires.tree;
         few = c.requires.few;
