@@ -2,7 +2,7 @@
 -- entry comes from its parent's, so the table fills up in order. Assumes nothing.
 use Prim.Native.Nat.{ℕ, ◌+◌, ◌≤◌, ◌<◌}
 use mathlib.Core.Path.{◌≡◌, refl, sym, ap, ap₂, ◌∙◌, subst}
-use mathlib.Core.Bool.{Bool, true, false, ◌&&◌, false≢true}
+use mathlib.Core.Bool.{Bool, true, false, ◌&&◌}
 use mathlib.Core.List.{List}
 use native.Mathlib.Omega.{arith}
 use lib.Dec.{eqb}
@@ -18,7 +18,7 @@ use Rattle.model.specs.Fitting.{child_labelled, path_in}
 use Rattle.model.proofs.ListLaws.{first-miss, up_from-mem, and_left}
 use Rattle.model.proofs.TreeLaws.{length-as_document, test-child, rooted-lt}
 use Rattle.model.proofs.Paths.{path-root, path-next}
-use Rattle.fitting.specs.Steps.{labelled_at, OnPaths, PathsFilled}
+use Rattle.fitting.specs.Steps.{labelled_at, OnPaths}
 use Rattle.fitting.proofs.LoopLaws.{first-at}
 
 -- ---- the child with a label
@@ -123,11 +123,5 @@ module _ {S : Summary} {W : Document} {path : List ℕ} where
       here = get_or-set_same path i x 0 (omega arith)
 
   -- all of them do
-  pub filling-end : {i : ℕ} → Filling S W path i → length W ≤ i → PathsFilled S W path true
-  filling-end {i} f h =
-      let done : i ≡ length W = omega arith in
-      record { all = λ _. subst (λ (k : ℕ). OnPaths S W path k) done f.on; none = λ e. absurd (false≢true (sym e)) }
-
-  -- or a node has no summary node
-  pub filling-stop : {i x n : ℕ} → i < length W → x ≡ path_in S W i → x ≡ n → n ≡ length S → PathsFilled S W path false
-  filling-stop {i} {x} {n} h e f g = record { all = λ e. absurd (false≢true e); none = λ _. (i, h, omega arith) }
+  pub filling-end : {i : ℕ} → Filling S W path i → length W ≤ i → OnPaths S W path (length W)
+  filling-end {i} f h = let done : i ≡ length W = omega arith in subst (λ (k : ℕ). OnPaths S W path k) done f.on

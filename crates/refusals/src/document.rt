@@ -3,13 +3,15 @@
 ghost use Rattle.std.specs.Prelude.{◌≡◌, ◌<◌, length};
 ghost use Rattle.model.specs.Limits.{document_width};
 ghost use Rattle.model.specs.Bytes.{document_of, is_whole_document, WholeSection};
-ghost use Rattle.model.specs.Questions.{document_record_kept, refusal, document_questions};
-ghost use Rattle.refusals.specs.Records.{record_questions, records_questions};
+ghost use Rattle.model.specs.Questions.{document_record_kept, document_kept, document_figures, refusal, document_questions};
+ghost use Rattle.questions.specs.Refusal.{asked};
+ghost use Rattle.refusals.specs.Records.{records_kept};
 
 use format::document::{document_count, document_figure, document_label, document_parent};
 use format::field::{field, wide};
 use format::limits::{DOCUMENT_WIDTH, MAX_DOCUMENT};
 use format::nodes::DocumentNode;
+use questions::refusal::{Refusal, hold};
 use questions::rules::{between, figure_in_range, parent_rule};
 
 // The document is whole, nothing after. Its count is read only where it is whole.
@@ -35,49 +37,48 @@ pub fn document_record_kept(w: &[u8], i: DocumentNode) -> bool
     0 < document_label(w, i)
 }
 
-// 10 and 17 of record i.
-fn record_refusal(w: &[u8], i: DocumentNode) -> u64
-    requires whole_section { WholeSection document_width w.now 0 }
-    requires i_in_bounds { i.0 < length (document_of w.now) }
-    ensures { result ≡ refusal (record_questions (document_of w.now) i.0) }
-{
-    if !document_record_kept(w, i) {
-        return 10;
-    }
-    if !figure_in_range(wide(document_figure(w, i))) {
-        return 17;
-    }
-    0
-}
-
-// 10 and 17 of the records, in one pass: 17 is remembered, since a later record may be refused by 10.
-fn records_refusal(w: &[u8]) -> u64
+// Its records do, each of them, and their count is in range: 10, where the document is whole.
+fn records_kept(w: &[u8]) -> bool
     requires { WholeSection document_width w.now 0 }
-    ensures { result ≡ refusal (records_questions (document_of w.now)) }
+    ensures { result ≡ records_kept (document_of w.now) }
 {
     let n = document_count(w);
-    let mut r: u64 = 0;
+    if !between(1, MAX_DOCUMENT, n as u64) {
+        return false;
+    }
     for i in 0..n {
-        let x = record_refusal(w, DocumentNode(i));
-        if x == 10 {
-            return 10;
-        }
-        if x != 0 {
-            r = x;
+        if !document_record_kept(w, DocumentNode(i)) {
+            return false;
         }
     }
-    r
+    true
+}
+
+// 10. Is the document whole, nothing after, with 1 to 1,024 nodes, parents by the rule and labels not 0?
+pub fn document_kept(w: &[u8]) -> bool
+    ensures { result ≡ document_kept w.now }
+{
+    document_whole(w) && records_kept(w)
+}
+
+// 17. Is every figure at most 2,000?
+pub fn figures_in_range(w: &[u8]) -> bool
+    requires { WholeSection document_width w.now 0 }
+    ensures { result ≡ document_figures (document_of w.now) }
+{
+    let n = document_count(w);
+    for i in 0..n {
+        if !figure_in_range(wide(document_figure(w, DocumentNode(i)))) {
+            return false;
+        }
+    }
+    true
 }
 
 // 10 and 17, which every call asks of its document.
-pub fn document_refusal(w: &[u8]) -> u64
-    ensures { result ≡ refusal (document_questions w.now) }
+pub fn ask_document(w: &[u8]) -> Result<(), Refusal>
+    ensures { asked result ≡ refusal (document_questions w.now) }
 {
-    if !document_whole(w) {
-        return 10;
-    }
-    if !between(1, MAX_DOCUMENT, document_count(w) as u64) {
-        return 10;
-    }
-    records_refusal(w)
+    hold(document_kept(w), Refusal::Document)?;
+    hold(figures_in_range(w), Refusal::Figure)
 }
