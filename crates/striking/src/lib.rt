@@ -20,16 +20,16 @@ use format::pattern::pattern_count;
 use format::sections::first_at;
 use format::write::{copy_fields, write_counted};
 use judging::rows::summary_rows;
-use refusals::minimise_refusal;
+use questions::numbers::Account;
+use questions::refusal::Refusal;
+use refusals::ask_minimise;
 use shorten::Section;
 use strike::strike;
 
-// The answer of the call: the refusal's number, or 0; how many leaves were struck; and the sum of tried over all verdicts made.
-#[repr(C)]
+// What striking comes to: how many leaves were struck, and the sum of tried over all verdicts made.
 #[derive(Clone, Copy)]
 pub struct Minimised {
-    pub refused: u64,
-    pub struck: u64,
+    pub struck: usize,
     pub tried: u64,
 }
 
@@ -68,8 +68,7 @@ fn accepted(case: &[u8], limit: u64, answer: &mut [u8]) -> Minimised
     let struck = r.struck.as_slice();
     write_order(&present, struck, answer);
     Minimised {
-        refused: 0,
-        struck: struck.len() as u64,
+        struck: struck.len(),
         tried: r.tried,
     }
 }
@@ -79,19 +78,11 @@ fn accepted(case: &[u8], limit: u64, answer: &mut [u8]) -> Minimised
 pub fn minimise_call(
     case: &[u8],
     limit: u64,
-    caller: u64,
-    tally: u64,
+    account: Account,
     answer: &mut [u8],
-) -> Minimised
-    ensures { MinimiseAnswered case.now limit caller tally answer.old (outcome_of tally result answer.new) }
+) -> Result<Minimised, Refusal>
+    ensures { MinimiseAnswered case.now limit account.caller account.tally answer.old (outcome_of account.tally result answer.new) }
 {
-    let refused = minimise_refusal(case, limit, caller, tally, answer.len());
-    if refused != 0 {
-        return Minimised {
-            refused,
-            struck: 0,
-            tried: 0,
-        };
-    }
-    accepted(case, limit, answer)
+    ask_minimise(case, limit, account, answer.len())?;
+    Ok(accepted(case, limit, answer))
 }
