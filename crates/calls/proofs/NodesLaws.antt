@@ -17,7 +17,7 @@ use Rattle.model.specs.Demands.{NodesAnswered}
 use Rattle.std.specs.Prelude.{Ok, Err}
 use Rattle.questions.specs.Refusal.{number_of}
 use Rattle.questions.specs.declared.refusal.Refusal.{Refusal}
-use Rattle.questions.proofs.RefusalNumbers.{refuses}
+use Rattle.questions.proofs.RefusalLaws.{number-not_zero}
 use Rattle.calls.specs.Answers.{nodes_of}
 use Rattle.model.proofs.ListLaws.{length-keep, length-up_from}
 use Rattle.model.proofs.Bytes.{front-written}
@@ -51,7 +51,7 @@ module _ (b : List ℕ) (s : ℕ) (w : List ℕ) (p : ℕ) (buffer : List ℕ) w
   pub nodes-no : (r : Refusal) → number_of r ≡ nodes_refusal b s w p (length buffer) → NodesAnswered b s w p buffer (nodes_of (Err r) buffer)
   nodes-no r e =
       nodes-answered b s w p buffer
-      ((λ i. record { answer = record { refused = e i; count = 0 }; buffer = buffer }) ∙ sym (nodes-refused b s w p buffer (λ z. refuses r (e ∙ z))))
+      ((λ i. record { answer = record { refused = e i; count = 0 }; buffer = buffer }) ∙ sym (nodes-refused b s w p buffer (λ z. number-not_zero r (e ∙ z))))
 
   pub nodes-yes : 0 ≡ nodes_refusal b s w p (length buffer) → {P : Pattern} {count : ℕ} {out after : List ℕ} (out₀ : List ℕ) → selected (case_of b) s ≡ P
       → (count ≡ length (nodes_at P (document_of w) p)) × (out ≡ written_at_front (nodes_at P (document_of w) p) out₀) → after ≡ written_at_front (encode_counted (take count out)) buffer

@@ -17,7 +17,7 @@ use Rattle.model.proofs.Demands.{paths-answered}
 use Rattle.std.specs.Prelude.{Ok, Err}
 use Rattle.questions.specs.Refusal.{number_of}
 use Rattle.questions.specs.declared.refusal.Refusal.{Refusal}
-use Rattle.questions.proofs.RefusalNumbers.{refuses}
+use Rattle.questions.proofs.RefusalLaws.{number-not_zero}
 use Rattle.calls.specs.Answers.{paths_of}
 use Rattle.format.proofs.RangeLaws.{get_or-map-below, map-below-ext}
 
@@ -27,7 +27,7 @@ module _ (b : List ℕ) (s : ℕ) where
   pub paths-no : (r : Refusal) → number_of r ≡ paths_refusal b s → PathsAnswered b s (paths_of (Err r))
   paths-no r e =
       paths-answered b s
-      ((λ i. record { refused = e i; masks = replicate 16 0; counts = replicate 16 0 }) ∙ sym (paths-refused b s (λ z. refuses r (e ∙ z))))
+      ((λ i. record { refused = e i; masks = replicate 16 0; counts = replicate 16 0 }) ∙ sym (paths-refused b s (λ z. number-not_zero r (e ∙ z))))
 
   -- P is the pattern where the number gives it
   pub paths-yes : 0 ≡ paths_refusal b s → {P : Pattern} {masks counts : List ℕ} → selected (case_of b) s ≡ P → masks ≡ map (path_mask (case_of b).summary P) (up_from 0 16)

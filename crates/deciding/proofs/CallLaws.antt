@@ -18,7 +18,7 @@ use Rattle.deciding.specs.Told.{Told}
 use Rattle.deciding.specs.Outcome.{verdict_values, values_of, outcome_of}
 use Rattle.questions.specs.Refusal.{number_of}
 use Rattle.questions.specs.declared.refusal.Refusal.{Refusal}
-use Rattle.questions.proofs.RefusalNumbers.{refuses}
+use Rattle.questions.proofs.RefusalLaws.{number-not_zero}
 use Rattle.std.specs.Prelude.{Ok, Err}
 
 -- the answer has the values of the verdict
@@ -32,7 +32,7 @@ module _ (b : List ℕ) (small : AreBytes b) (L caller tally : ℕ) (buffer : Li
   pub answered-refused : (r : Refusal) → number_of r ≡ verdict_refusal b L caller tally (length buffer) → VerdictAnswered b L caller tally buffer (outcome_of tally (Err r) buffer)
   answered-refused r e =
       verdict-answered b small L caller tally buffer
-      ((λ i. record { answer = refused_answer (e i); buffer = buffer; tally = add-zero tally i }) ∙ sym (verdict-refused b L caller tally buffer (λ z. refuses r (e ∙ z))))
+      ((λ i. record { answer = refused_answer (e i); buffer = buffer; tally = add-zero tally i }) ∙ sym (verdict-refused b L caller tally buffer (λ z. number-not_zero r (e ∙ z))))
 
   pub answered-accepted : verdict_refusal b L caller tally (length buffer) ≡ 0 → {after : List ℕ} {r : Containment} → Told (case_of b) L buffer after r
       → VerdictAnswered b L caller tally buffer (outcome_of tally (Ok r) after)

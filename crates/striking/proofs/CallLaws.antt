@@ -14,7 +14,7 @@ use Rattle.model.proofs.Demands.{minimise-answered}
 use Rattle.std.specs.Prelude.{Ok, Err}
 use Rattle.questions.specs.Refusal.{number_of}
 use Rattle.questions.specs.declared.refusal.Refusal.{Refusal}
-use Rattle.questions.proofs.RefusalNumbers.{refuses}
+use Rattle.questions.proofs.RefusalLaws.{number-not_zero}
 use Rattle.striking.specs.Outcome.{outcome_of, Told}
 use Rattle.striking.specs.declared.Minimised.{Minimised}
 
@@ -22,7 +22,7 @@ module _ (b : List ℕ) (small : AreBytes b) (L caller tally : ℕ) (buffer : Li
   pub answered-refused : (r : Refusal) → number_of r ≡ minimise_refusal b L caller tally (length buffer) → MinimiseAnswered b L caller tally buffer (outcome_of tally (Err r) buffer)
   answered-refused r e =
       minimise-answered b small L caller tally buffer
-      ((λ i. record { answer = refused_strike (e i); buffer = buffer; tally = add-zero tally i }) ∙ sym (minimise-refused b L caller tally buffer (λ z. refuses r (e ∙ z))))
+      ((λ i. record { answer = refused_strike (e i); buffer = buffer; tally = add-zero tally i }) ∙ sym (minimise-refused b L caller tally buffer (λ z. number-not_zero r (e ∙ z))))
 
   pub answered-accepted : minimise_refusal b L caller tally (length buffer) ≡ 0 → {after : List ℕ} {m : Minimised} → Told (case_of b) L buffer after m
       → MinimiseAnswered b L caller tally buffer (outcome_of tally (Ok m) after)
