@@ -13,7 +13,6 @@ use crate::judges::Judges;
 use crate::table::Table;
 use bits::{Mask, Members};
 use cover::lists::Offers;
-use format::field::wide64;
 use format::nodes::{PatternNode, SummaryNode};
 use judging::member::NOBODY;
 
@@ -105,7 +104,7 @@ impl<'a> Lookup<'a> {
     {
         let masks = self.by.masks;
         if masks.part(c).has(y.0) {
-            if masks.last(c) == wide64(c.0) {
+            if masks.last(c).0 == c.0 {
                 self.by.add_bare(y, c.0, list);
             } else {
                 self.add_own(c, y, list);

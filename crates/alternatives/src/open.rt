@@ -16,7 +16,6 @@ use crate::partial::Partial;
 use crate::table::Table;
 use cover::lists::Offers;
 use cover::offers::Offer;
-use format::field::wide64;
 use format::nodes::{PatternNode, SummaryNode, image_of};
 use judging::judge::Rows;
 use std::array;
@@ -83,7 +82,7 @@ impl<'a> Partial<'a> {
         ensures { LeftOpen self.now.by.now.members.now self.now.by.now.masks.now self.now.by.now.pattern.now self.now.next.0
             self.now.images.now lists.new }
     {
-        if self.by.masks.last(c) < wide64(self.next.0) {
+        if self.by.masks.last(c).0 < self.next.0 {
             return;
         }
         let j = self.by.pattern.parent(c);

@@ -4,12 +4,12 @@ use Rattle.model.specs.Lists.{has}
 use Rattle.alternatives.proofs.FillLaws.{own-covered, own-none}
 use Rattle.alternatives.proofs.fill.Lookup.own_part.Goals as goal
 
-pub returns-then-last-wide64-clause-covered : goal.returns-then-last-wide64-clause-covered
-returns-then-last-wide64-clause-covered c =
+pub returns-then-last-c-clause-covered : goal.returns-then-last-c-clause-covered
+returns-then-last-c-clause-covered c =
     own-covered c.requires.table c.args.c.0 c.args.y.0 c.requires.some c.requires.inside c.requires.narrow (λ g f R e. c.add_bare.ensures.raised g f R)
 
-pub returns-else-last-wide64-clause-covered : goal.returns-else-last-wide64-clause-covered
-returns-else-last-wide64-clause-covered c =
+pub returns-else-last-c-clause-covered : goal.returns-else-last-c-clause-covered
+returns-else-last-c-clause-covered c =
     own-covered c.requires.table c.args.c.0 c.args.y.0 c.requires.some c.requires.inside c.requires.narrow c.add_own.ensures.raised
 
 pub returns-else-has-clause-covered : goal.returns-else-has-clause-covered
