@@ -117,13 +117,13 @@ pub record Visiting (S : Summary) (v count : ℕ) (before now : Tables) (total :
   pub drafted : (spots : List Spot) (base : Tables) → Drafted S spots base before count → Drafted S (add_all spots v done) base now total
 
 -- s is the summary node that is read
-pub visiting-start : {S : Summary} {v count s rest : ℕ} {before : Tables} {strong left : List ℕ} → length S ≤ max_summary → s < length S → s ≡ get_or before.on v 0 → strong ≡ strong_table S
-    → rest ≡ get_or strong s 0 → left ≡ members rest → Visiting S v count before before count left
+pub visiting-start : {S : Summary} {v count s rest : ℕ} {before : Tables} {left : List ℕ} → length S ≤ max_summary → s < length S → s ≡ get_or before.on v 0
+    → rest ≡ get_or (strong_table S) s 0 → left ≡ members rest → Visiting S v count before before count left
 unfolding add_all
-visiting-start {S} {s = s} few h e t r l =
+visiting-start {S} {s = s} few h e r l =
     record {
       done = [];
-      all = l ∙ ap members (r ∙ ap (λ (l : List ℕ). get_or l s 0) t) ∙ strong-members S s (omega arith) few ∙ ap (strong_children S) e;
+      all = l ∙ ap members r ∙ strong-members S s (omega arith) few ∙ ap (strong_children S) e;
       drafted = λ spots base c. c;
     }
 

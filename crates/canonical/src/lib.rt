@@ -4,7 +4,6 @@
 ghost use Rattle.std.specs.Prelude.{◌≡◌, ℕ, ◌+◌, ◌≤◌, ◌<◌, length, replicate};
 ghost use Rattle.model.specs.Limits.{max_position, min_buffer, min_table};
 ghost use Rattle.model.specs.Pattern.{node_at};
-ghost use Rattle.model.specs.Strong.{strong_table};
 ghost use Rattle.model.specs.Bytes.{written_at_front};
 ghost use Rattle.canonical.specs.Given.{embedding_in, Embedded, WrittenOut};
 ghost use Rattle.canonical.specs.Shown.{own_at, shown_document, Showable};
@@ -15,9 +14,8 @@ use figures::figures;
 use fill::fill;
 use format::nodes::own_of;
 use format::pattern::Pattern;
-use format::summary::Summary;
 use format::write::{put_field, write_counted};
-use strong::Strong;
+use strong::outline::Outline;
 
 mod chains;
 mod draft;
@@ -34,21 +32,20 @@ pub struct LaidOut {
 // The canonical document of the embedding `images` of the pattern into the summary, as a document's section at the front of answer;
 // each node's summary node at the front of on. No capacity is tested: there are at most 1,009 nodes.
 pub fn lay_out(
-    summary: &Summary,
-    strong: &Strong,
+    outline: &Outline,
     pattern: &Pattern,
     images: &[u16],
     answer: &mut [u8],
     on: &mut [u16],
 ) -> LaidOut
-    requires embedded { Embedded summary.now pattern.now images.now }
+    requires embedded { Embedded outline.now pattern.now images.now }
     requires min_buffer_in_bounds { (min_buffer ≤ length answer.old) × (min_table ≤ length on.old) }
-    requires strong_value { strong.now ≡ strong_table summary.now }
-    ensures { WrittenOut summary.now pattern.now (embedding_in pattern.now images.now) answer.old answer.new on.old on.new result }
+    ensures { WrittenOut outline.now pattern.now (embedding_in pattern.now images.now) answer.old answer.new on.old on.new result }
 {
+    let summary = outline.summary();
     let mut draft = Draft::root(summary, answer, on);
     let own = chains(summary, pattern, images, &mut draft);
-    fill(summary, strong, &mut draft);
+    fill(outline, &mut draft);
     let count = draft.count();
     put_field(answer, 0, count as u16);
     figures(pattern, &own, answer);
@@ -72,20 +69,13 @@ fn own_result(pattern: &Pattern, own: &[u16], k: usize) -> [u16; 8]
 
 // The canonical document's section and, from the byte after its last record, the result, to the front of the answer buffer. The
 // buffer's part from that byte on is lent to the result's writer.
-pub fn show(
-    summary: &Summary,
-    strong: &Strong,
-    pattern: &Pattern,
-    images: &[u16],
-    k: usize,
-    answer: &mut [u8],
-)
-    requires showable { Showable summary.now pattern.now images.now k × (min_buffer ≤ length answer.old) }
-    requires strong_value { strong.now ≡ strong_table summary.now }
-    ensures { answer.new ≡ written_at_front (shown_document summary.now pattern.now (embedding_in pattern.now images.now)) answer.old }
+pub fn show(outline: &Outline, pattern: &Pattern, images: &[u16], k: usize, answer: &mut [u8])
+    requires showable { Showable outline.now pattern.now images.now k }
+    requires room { min_buffer ≤ length answer.old }
+    ensures { answer.new ≡ written_at_front (shown_document outline.now pattern.now (embedding_in pattern.now images.now)) answer.old }
 {
     let mut on = [0u16; 1024];
-    let laid = lay_out(summary, strong, pattern, images, answer, &mut on);
+    let laid = lay_out(outline, pattern, images, answer, &mut on);
     let own = laid.own;
     let result = own_result(pattern, &own, k);
     let end = 2 + 6 * laid.count;

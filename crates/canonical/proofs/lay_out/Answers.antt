@@ -10,25 +10,39 @@ use Rattle.model.specs.Bytes.{field_bytes}
 use Rattle.canonical.proofs.LayoutLaws.{chains-fillable, written-plain, written_out}
 use Rattle.canonical.proofs.lay_out.Goals as goal
 
-pub fill-requires-clause-by_index : goal.fill-requires-clause-by_index
-fill-requires-clause-by_index c =
-    (_, _, _, chains-fillable c.requires.embedded (c.chains-own.ensures.nodes _ c.root-draft.ensures.drafted))
+pub fill-requires : goal.fill-requires
+fill-requires c =
+    let same = c.summary-summary.ensures.0 in
+    let rooted = rw same at c.root-draft.ensures.drafted in
+    let chained = rw same at c.chains-own.ensures.nodes in
+    (_, _, _, chains-fillable c.requires.embedded (chained _ rooted))
 
 pub overflow_cast-count : goal.overflow_cast-count
 overflow_cast-count c =
-    let d = c.fill.ensures.filled _ _ _ (chains-fillable c.requires.embedded (c.chains-own.ensures.nodes _ c.root-draft.ensures.drafted)) in
+    let same = c.summary-summary.ensures.0 in
+    let rooted = rw same at c.root-draft.ensures.drafted in
+    let chained = rw same at c.chains-own.ensures.nodes in
+    let d = c.fill.ensures.filled _ _ _ (chains-fillable c.requires.embedded (chained _ rooted)) in
     omega (arith, c.count-count.ensures, d.fits)
 
 pub figures-requires : goal.figures-requires
 figures-requires c =
     let e = c.requires.embedded in
-    let d = c.fill.ensures.filled _ _ _ (chains-fillable e (c.chains-own.ensures.nodes _ c.root-draft.ensures.drafted)) in
+    let same = c.summary-summary.ensures.0 in
+    let rooted = rw same at c.root-draft.ensures.drafted in
+    let chained = rw same at c.chains-own.ensures.nodes in
+    let own = rw same at c.chains-own.ensures.own in
+    let d = c.fill.ensures.filled _ _ _ (chains-fillable e (chained _ rooted)) in
     let put : c.put_field.new.out ≡ sets c.fill.new.draft.bytes.now 0 (field_bytes c.fill.new.draft.count) = search rules in
-    (_, _, _, written-plain e c.chains-own.ensures.own d put)
+    (_, _, _, written-plain e own d put)
 
 pub returns : goal.returns
 returns c =
     let e = c.requires.embedded in
-    let d = c.fill.ensures.filled _ _ _ (chains-fillable e (c.chains-own.ensures.nodes _ c.root-draft.ensures.drafted)) in
+    let same = c.summary-summary.ensures.0 in
+    let rooted = rw same at c.root-draft.ensures.drafted in
+    let chained = rw same at c.chains-own.ensures.nodes in
+    let own = rw same at c.chains-own.ensures.own in
+    let d = c.fill.ensures.filled _ _ _ (chains-fillable e (chained _ rooted)) in
     let put : c.put_field.new.out ≡ sets c.fill.new.draft.bytes.now 0 (field_bytes c.fill.new.draft.count) = search rules in
-    written_out e c.chains-own.ensures.own d (search rules) c.count-count.ensures (c.figures.ensures _ _ _ (written-plain e c.chains-own.ensures.own d put))
+    written_out e own d (search rules) c.count-count.ensures (c.figures.ensures _ _ _ (written-plain e own d put))

@@ -6,14 +6,14 @@ use Rattle.canonical.proofs.TableLaws.{still}
 use Rattle.canonical.proofs.FillLaws.{filling-start, filling-visitable, filling-next, filling-end}
 use Rattle.canonical.proofs.fill.fill.Goals as goal
 
-pub fill_node-requires-clause-visitable : goal.fill_node-requires-clause-visitable
-fill_node-requires-clause-visitable c =
-    let f = c.requires.by_index.3 in
+pub fill_node-requires : goal.fill_node-requires
+fill_node-requires c =
+    let f = c.requires.3 in
     (_, _, filling-visitable f (c.loop-v.invariant.filling _ _ _ f) (omega arith))
 
 pub loop-v-smaller : goal.loop-v-smaller
 loop-v-smaller c =
-    let f = c.requires.by_index.3 in
+    let f = c.requires.3 in
     omega (arith, (c.loop-v.invariant.filling _ _ _ f).drafted.fits)
 
 pub loop-v-preserved : goal.loop-v-preserved

@@ -12,7 +12,7 @@ invariant-loop-v l =
     record {
       same_tables : SameTables l.initial.draft l.draft;
       filling : (spots : List Spot) (base : Tables) (k : ℕ)
-          → Fillable l.summary spots base (tables l.initial.draft) l.initial.draft.count k → Filling l.summary spots base (tables l.draft) k l.v l.draft.count;
+          → Fillable l.outline spots base (tables l.initial.draft) l.initial.draft.count k → Filling l.outline spots base (tables l.draft) k l.v l.draft.count;
     }
 
 abbrev pub decreases-loop-v : goal.decreases-loop-v

@@ -10,31 +10,35 @@ use Rattle.canonical.proofs.fill.fill_node.Goals as goal
 
 pub summary_of-requires : goal.summary_of-requires
 summary_of-requires c =
-    let m = c.requires.visitable.2 in
+    let m = c.requires.2 in
     omega (arith, drafted-roomy m.drafted, m.inside, m.drafted.fits)
 
-pub strong_of-requires : goal.strong_of-requires
-strong_of-requires c =
-    omega (arith, visitable-on c.requires.visitable.2 _ c.summary_of.ensures, c.requires.summary_kept.0.few)
+pub strong_children-requires : goal.strong_children-requires
+strong_children-requires c =
+    let k = c.summary-summary.ensures.1 in
+    omega (arith, visitable-on c.requires.2 _ c.summary_of.ensures, k.few)
 
 pub loop-t-init : goal.loop-t-init
 loop-t-init c =
-    let g = c.requires.summary_kept in record {
+    let k = c.summary-summary.ensures.1 in record {
       same_tables = record { bytes = refl; on = refl };
-      visiting = visiting-start g.0.few (visitable-on c.requires.visitable.2 _ c.summary_of.ensures) c.summary_of.ensures g.1 c.strong_of.ensures (ap members_left c.into_iter-t-iterator.ensures.into_iter_gives);
+      visiting = visiting-start k.few (visitable-on c.requires.2 _ c.summary_of.ensures) c.summary_of.ensures c.strong_children.ensures (ap members_left c.into_iter-t-iterator.ensures.into_iter_gives);
     }
 
 pub add_missing-requires-clause-summary_kept : goal.add_missing-requires-clause-summary_kept
-add_missing-requires-clause-summary_kept c = (c.requires.summary_kept.0, visiting-inside c.loop-t.invariant.visiting c.in-Some.ensures.steps)
+add_missing-requires-clause-summary_kept c =
+    let e = c.summary-summary.ensures in
+    rw e.0 (e.1, visiting-inside c.loop-t.invariant.visiting c.in-Some.ensures.steps)
 
 pub add_missing-requires-clause-missing : goal.add_missing-requires-clause-missing
 add_missing-requires-clause-missing c =
-    (_, _, visiting-missing c.loop-t.invariant.visiting c.in-Some.ensures.steps c.requires.visitable.2)
+    rw c.summary-summary.ensures.0 (_, _, visiting-missing c.loop-t.invariant.visiting c.in-Some.ensures.steps c.requires.2)
 
 pub loop-t-preserved : goal.loop-t-preserved
 loop-t-preserved c =
     let i = c.loop-t.invariant in
-    record { same_tables = still i.same_tables c.add_missing.ensures.same_tables; visiting = visiting-next i.visiting c.in-Some.ensures.steps c.add_missing.ensures.added }
+    let added = rw c.summary-summary.ensures.0 at c.add_missing.ensures.added in
+    record { same_tables = still i.same_tables c.add_missing.ensures.same_tables; visiting = visiting-next i.visiting c.in-Some.ensures.steps added }
 
 pub returns-clause-visited : goal.returns-clause-visited
-returns-clause-visited c = visiting-end c.loop-t.invariant.visiting c.requires.visitable.2.inside c.in-None.ensures.steps.0
+returns-clause-visited c = visiting-end c.loop-t.invariant.visiting c.requires.2.inside c.in-None.ensures.steps.0

@@ -7,5 +7,5 @@ abbrev pub invariant-loop-t : goal.invariant-loop-t
 invariant-loop-t l =
     record {
       same_tables : SameTables l.initial.draft l.draft;
-      visiting : Visiting l.summary l.v.0 l.initial.draft.count (tables l.initial.draft) (tables l.draft) l.draft.count (members_left l.t-iterator);
+      visiting : Visiting l.outline l.v.0 l.initial.draft.count (tables l.initial.draft) (tables l.draft) l.draft.count (members_left l.t-iterator);
     }
