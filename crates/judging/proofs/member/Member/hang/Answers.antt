@@ -3,12 +3,6 @@
 use Rattle.judging.proofs.HangLoop.{hang-start, hang-less, hang-step, hang-end}
 use Rattle.judging.proofs.member.Member.hang.Goals as goal
 
-pub loop-x-init : goal.loop-x-init
-loop-x-init c = hang-start c.requires.0 c.requires.1 c.up-x.ensures
-
-pub loop-x-smaller : goal.loop-x-smaller
-loop-x-smaller c = hang-less c.requires.0 c.loop-x.invariant c.loop-x-test.true c.up-x-in-loop-x.ensures
-
 pub loop-x-preserved : goal.loop-x-preserved
 loop-x-preserved c =
     hang-step c.requires.0 c.loop-x.invariant c.loop-x-test.true c.node-h-in-loop-x.ensures c.up-x-in-loop-x.ensures
