@@ -1,6 +1,6 @@
 -- `judging::member::Member::hang` meets its contract: the loop climbs from the chain's last node up, as the definition does. The measure
 -- is the node's number, since a parent's is smaller. Assumes nothing.
-use Rattle.judging.proofs.HangLoop.{hang-start, hang-less, hang-step, hang-end}
+use Rattle.judging.proofs.HangLoop.{hang-step, hang-end}
 use Rattle.judging.proofs.member.Member.hang.Goals as goal
 
 pub loop-x-preserved : goal.loop-x-preserved

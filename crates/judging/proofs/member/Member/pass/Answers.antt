@@ -1,7 +1,5 @@
 -- `judging::member::Member::pass` meets its contract: the entries are the definition's, and indices of one another. Assumes nothing.
-use native.Mathlib.Omega.{arith}
 use Rattle.judging.specs.Judging.{pass_by}
-use Rattle.judging.proofs.RoomLaws.{parent-placed, image-lt, judge-stands}
 use Rattle.judging.proofs.member.Member.pass.Goals as goal
 
 pub returns : goal.returns

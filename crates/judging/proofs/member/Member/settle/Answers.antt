@@ -1,14 +1,9 @@
 -- `judging::member::Member::settle` meets its contract: nodes have their turn from the last on, as the definition goes. Assumes nothing.
-use Prim.Native.Nat.{ℕ, ◌-◌, ◌<◌}
-use mathlib.Core.Path.{refl, sym, ap₂, ◌∙◌}
-use native.Mathlib.Omega.{arith}
-use mathlib.Core.Bool.{not}
-use lib.Dec.{eqb}
+use Prim.Native.Nat.{◌-◌}
+use mathlib.Core.Path.{refl, sym, ◌∙◌}
 use lib.ListN.{length-set}
-use borrow.Author.Rules.{rules}
 use Rattle.judging.specs.Settling.{folded_row}
-use Rattle.judging.proofs.GivenLoop.{gathering-start, gathering-step, gathering-end, join-turn}
-use Rattle.judging.proofs.RoomLaws.{parent-lt}
+use Rattle.judging.proofs.GivenLoop.{gathering-step, gathering-end, join-turn}
 use Rattle.judging.proofs.SettleLaws.{turn-none, folded-yes, folded-no}
 use Rattle.judging.proofs.member.Member.settle.Goals as goal
 
