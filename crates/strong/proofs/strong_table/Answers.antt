@@ -4,14 +4,11 @@ use Prim.Native.Nat.{ℕ}
 use mathlib.Core.Path.{ap}
 use native.Mathlib.Omega.{arith}
 use lib.Dec.{eqb}
-use Rattle.strong.proofs.StrongLaws.{gathering-start, gathering-up, gathering-next, gathering-end}
+use Rattle.strong.proofs.StrongLaws.{gathering-start, gathering-next, gathering-end}
 use Rattle.strong.proofs.strong_table.Goals as goal
 
 pub loop-t-init : goal.loop-t-init
 loop-t-init c = gathering-start c.requires.tree c.requires.few
-
-pub bounds-strong-s : goal.bounds-strong-s
-bounds-strong-s c = gathering-up c.requires.tree c.requires.few c.loop-t.invariant (omega arith) c.parent-s.ensures
 
 pub loop-t-preserved : goal.loop-t-preserved
 loop-t-preserved c =

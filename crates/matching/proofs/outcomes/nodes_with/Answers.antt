@@ -4,7 +4,7 @@ use Prim.Native.Nat.{ℕ, ◌+◌}
 use mathlib.Core.Path.{sym, subst₂, ◌∙◌}
 use mathlib.Core.List.{List}
 use Rattle.matching.specs.Outcomes.{in_mask}
-use Rattle.matching.proofs.ReadLoops.{Listing, listing_start, listing-in, listing-out, listing-end}
+use Rattle.matching.proofs.ReadLoops.{Listing, listing_start, listing-in, listing-out}
 use Rattle.matching.proofs.outcomes.nodes_with.Goals as goal
 use Rattle.matching.proofs.outcomes.nodes_with.Goals.{then-in_mask, else-in_mask}
 
@@ -22,6 +22,3 @@ loop-v-preserved c =
           subst₂ (λ (l : List ℕ) (k : ℕ). Listing test c.args.n c.args.out.now l k (c.loop-v.v + 1)) (sym w.out-is) (sym w.count-is)
           (listing-out c.loop-v.invariant c.loop-v-test.true (sym c.in_mask.ensures ∙ w.if-in_mask.false))
     ]
-
-pub returns : goal.returns
-returns c = listing-end c.loop-v.invariant c.loop-v-test.false
