@@ -8,6 +8,7 @@ pub mod field;
 pub mod labels;
 pub mod limits;
 pub mod list;
+pub mod members;
 pub mod nodes;
 pub mod pattern;
 pub mod positions;

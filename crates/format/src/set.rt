@@ -4,6 +4,7 @@ ghost use Rattle.std.specs.Prelude.{◌≡◌, [], ◌+◌, ◌*◌, ◌≤◌, 
 ghost use Rattle.model.specs.Bytes.{member_at, set_of, WholeSet};
 
 use crate::field::field;
+use crate::members::Members;
 use crate::pattern::Pattern;
 use crate::sections::pattern_end;
 use std::marker::Model;
@@ -49,6 +50,13 @@ impl<'a> PatternSet<'a> {
         ensures { result ≡ get_or self.now i [] }
     {
         Pattern::new(self.bytes, member_at(self.bytes, self.on, i))
+    }
+
+    // All of them, in their order.
+    pub fn members(&self) -> Members<'a>
+        ensures { result ≡ self.now }
+    {
+        Members::new(self.bytes, self.on)
     }
 }
 
