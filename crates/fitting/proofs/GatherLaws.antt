@@ -64,7 +64,6 @@ gathering-start n tree h =
     }
 
 module _ {W : Document} {path masks : List ℕ} where
-
   -- the parent's row is in the table
   pub gathering-up : {i p : ℕ} → Gathering W path masks i → IsTree W → i < length W → p ≡ parent_of W i → p < length W
   gathering-up {i} {p} g tree h e =

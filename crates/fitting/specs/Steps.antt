@@ -1,6 +1,6 @@
 -- What the steps of the test of fitting leave to one another. Two tables: `path` has each document node's summary node; a row of `kids`,
 -- one for each document node, has the paths of its children. `strong` is the table of strong children.
-use Rattle.std.specs.Prelude.{ℕ, ◌≤◌, ◌<◌, ◌≡◌, Bool, true, false, ◌&&◌, List, Option, MatchOption, eqb, length, get_or}
+use Rattle.std.specs.Prelude.{ℕ, ◌≤◌, ◌<◌, ◌≡◌, Bool, ◌&&◌, List, Option, MatchOption, eqb, length, get_or}
 use Rattle.std.specs.Int.Bits.{bit_and}
 use Rattle.model.specs.Lists.{up_from, any_of, has}
 use Rattle.model.specs.Tree.{Document}

@@ -1,6 +1,6 @@
 -- Settling: what a part of the first pattern offers is worked out once, when its last node is placed, and kept in a row of sets, one for
 -- each node: what the complete parts that hang from it offer. `last c` is the last node of c's part.
-use Rattle.std.specs.Prelude.{ℕ, ◌-◌, ◌≤◌, ◌<◌, ◌≡◌, Bool, true, false, List, eqb, ltb, length, replicate}
+use Rattle.std.specs.Prelude.{ℕ, ◌-◌, ◌≤◌, ◌<◌, ◌≡◌, true, false, List, eqb, ltb, length, replicate}
 use Rattle.model.specs.Pattern.{Pattern, pattern_parent}
 use Rattle.judging.specs.Judging.{gather, Sets, pass_by}
 use Rattle.judging.specs.declared.member.Member.{Member}
@@ -20,10 +20,6 @@ settled_by T P last q es c e = elim (ltb (last c) q) [ true ↦ pass_by T P es c
 -- the row: what the complete parts that hang from each node offer
 unfoldable pub settled_row : Sets → Pattern → (ℕ → ℕ) → ℕ → List ℕ → List ℕ
 settled_row T P last q es = gather (pattern_parent P) (settled_by T P last q es) (length P - 1) (replicate 16 0)
-
--- a set, or nothing where a node's turn is passed over
-abbrev pub unless_over : Bool → ℕ → ℕ
-unless_over over set = elim over [ true ↦ 0 | false ↦ set ]
 
 -- what is folded in when node q is placed: what the parts that end with it offer
 unfoldable pub folded_by : Sets → Pattern → (ℕ → ℕ) → ℕ → List ℕ → ℕ → ℕ → ℕ

@@ -5,12 +5,11 @@ ghost use Rattle.model.specs.Tree.{Rooted};
 ghost use Rattle.judging.specs.Blocks.{up_in, last_in, sets_in};
 ghost use Rattle.judging.specs.Judging.{nobody, full_by, meets_by, offers_by, node_by, hang_by, pass_by, root_by};
 ghost use Rattle.judging.specs.Room.{Judgeable};
-ghost use Rattle.judging.specs.Settling.{unless_over, folded_row};
+ghost use Rattle.judging.specs.Settling.{folded_row};
 
 use crate::masks::Masks;
 use crate::member::{Member, NOBODY};
 use bits::Mask;
-use format::field::wide64;
 use format::nodes::{PatternNode, SummaryNode, image_of};
 use format::pattern::Pattern;
 
@@ -19,14 +18,6 @@ pub type Row = [u16; 16];
 
 // By member of the set, its row.
 pub type Rows = [Row; 8];
-
-// A node whose turn it is: what hangs from it so far, and whether its turn is passed over.
-#[derive(Clone, Copy)]
-struct Share {
-    node: PatternNode,
-    set: u16,
-    over: bool,
-}
 
 impl Member {
     // The pattern nodes all of whose children are in acc.
@@ -84,18 +75,6 @@ impl Member {
         self.hang(a, image_of(images, c), c.0, e)
     }
 
-    // What a node passes on, where its part ends with the node just placed.
-    fn folded(&self, p: &Pattern, images: &[u16], s: Share) -> u16
-        requires judgeable { Judgeable self.now p.now images.now }
-        requires node_nonzero { (0 < s.node.0) × (s.node.0 < length p.now) }
-        ensures { result ≡ unless_over s.over (pass_by (sets_in self.now) p.now images.now s.node.0 s.set) }
-    {
-        if s.over {
-            return 0;
-        }
-        self.pass(p, images, s.node, s.set)
-    }
-
     // The row with what the parts that end with node q offer, which is placed.
     pub fn settle(&self, m: &Masks, p: &Pattern, images: &[u16], q: PatternNode, row: Row) -> Row
         requires { Judgeable self.now p.now images.now }
@@ -104,13 +83,10 @@ impl Member {
         let mut hangs = row;
         for c in (1..p.count()).rev() {
             let node = PatternNode(c);
-            let share = Share {
-                node,
-                set: hangs[c],
-                over: m.last(node) != wide64(q.0),
-            };
-            let set = self.folded(p, images, share);
-            hangs[p.parent(node).0] |= set;
+            if m.last(node).0 == q.0 {
+                let set = self.pass(p, images, node, hangs[c]);
+                hangs[p.parent(node).0] |= set;
+            }
         }
         hangs
     }

@@ -100,12 +100,6 @@ module _ {test : ℕ → Bool} {n : ℕ} {b : List ℕ} where
         front = s.front ∙ ap (λ (k : List ℕ). written_at_front k b) (sym next);
       }
 
-  pub listing-end : {l : List ℕ} {count v : ℕ} → Listing test n b l count v → n ≤ v
-      → (count ≡ length (keep test (up_from 0 n))) × (l ≡ written_at_front (keep test (up_from 0 n)) b)
-  listing-end {l} {count} {v} s h =
-      let e : v ≡ n = omega (arith, s.turns) in
-      (s.number ∙ ap (λ (k : ℕ). length (keep test (up_from 0 k))) e, s.front ∙ ap (λ (k : ℕ). written_at_front (keep test (up_from 0 k)) b) e)
-
 -- the numbers of a document's nodes are small
 pub list-small : {k n : ℕ} {l : List ℕ} → ListFacts k n l → n < 65536 → SmallNumbers l
 list-small {k} {n} {l} L h i j = let b : get_or (list_of l) i 0 < n = L.below (get_or (list_of l) i 0) (mem-at (list_of l) i 0 j) in omega arith

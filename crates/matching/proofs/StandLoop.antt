@@ -31,17 +31,6 @@ pub record Descending (Q : Pattern) (W : Document) (pin : ℕ → ℕ → Bool) 
   pub leave : (v : ℕ) → v < i → get_or left v 0 ≡ mask_below (leaves Q W pin v (left_to Q W pin v)) (length Q)
   pub after : (v : ℕ) → i ≤ v → get_or t v 0 ≡ get_or t₀ v 0
 
-pub descending-start : (Q : Pattern) (W : Document) (pin : ℕ → ℕ → Bool) (t left : List ℕ) → Descending Q W pin t left t left 0
-descending-start Q W pin t left =
-    record {
-      turns = omega arith;
-      size = refl;
-      left_size = refl;
-      stand = λ v h. absurd (omega arith);
-      leave = λ v h. absurd (omega arith);
-      after = λ v h. refl;
-    }
-
 -- ---- one turn
 
 module _ {Q : Pattern} {W : Document} {pin : ℕ → ℕ → Bool} {t₀ left₀ t left : List ℕ} {v : ℕ} (d : Descending Q W pin t₀ left₀ t left v)

@@ -1,37 +1,25 @@
 -- What is wanted of a pattern: its columns are made node by node, each store leaving the other entries alone; and the sets computed from
 -- them, as masks, are those of the pattern. Assumes nothing.
 use Prim.Native.Nat.{ℕ, ◌+◌, ◌-◌, ◌≤◌, ◌<◌}
-use mathlib.Core.Path.{◌≡◌, refl, sym, ap, ap₂, ◌∙◌, subst}
+use mathlib.Core.Path.{◌≡◌, refl, sym, ap, ap₂, ◌∙◌}
 use mathlib.Core.Bool.{Bool, true, false, ◌&&◌, ◌||◌, and_assoc}
-use mathlib.Core.List.{List, map}
+use mathlib.Core.List.{List}
 use native.Mathlib.Omega.{arith}
 use lib.Bits.{bit_and, bit_or}
 use lib.Dec.{eqb, leb, ltb}
-use lib.ListN.{length, get_or, set, replicate, length-set}
-use borrow.Author.Tests.{eqb-true, eqb-false, eq-eqb, ne_eqb, le-leb, ltb-true, ltb-false}
-use Rattle.model.specs.Lists.{up_from, mask_below, has}
-use Rattle.model.specs.Bytes.{written_at_front}
-use Rattle.model.specs.Tree.{Rooted, Document, label_of, figure_of}
-use Rattle.model.specs.Pattern.{Pattern, IsPatternTree, pattern_parent, pattern_label, position, pattern_figure, label_fits, figure_fits}
+use lib.ListN.{length, get_or}
+use borrow.Author.Tests.{eqb-true, eqb-false, eq-eqb, ne_eqb, le-leb, ltb-true}
+use Rattle.model.specs.Lists.{mask_below, has}
+use Rattle.model.specs.Tree.{Document, label_of, figure_of}
+use Rattle.model.specs.Pattern.{Pattern, pattern_parent, position, label_fits, figure_fits}
 use Rattle.model.specs.Quick.{hangs_from}
 use Rattle.model.proofs.ListLaws.{bool-ext}
 use Rattle.model.proofs.Masks.{mask_below_lem}
 use Rattle.bits.proofs.MaskLaws.{mask-agree, mask-and, mask-or, subset-all}
 use Rattle.matching.specs.Matching.{hangs_deep, children_in, fits_at, offers_at, part_at, leaves, result_pin, figure_pin}
-use Rattle.matching.specs.Masks.{kid_masks}
 use Rattle.matching.specs.declared.wanted.Wanted.{Wanted}
 use Rattle.matching.specs.Wanted.{Wants, mark_fits, pin_by, pin_of, mark_at, Marked, Unmarked, Unasked, Asked, fits_by, hangs_by}
 use Rattle.matching.specs.Tables.{leave_at}
-use Rattle.matching.proofs.MaskLoops.{get_or-kid_masks}
-use Rattle.matching.proofs.TurnLaws.{front-entry, set_here, set_else, up_to}
-
--- a parent is a node
-pub rooted-small : {n : ℕ} {parent : ℕ → ℕ} → Rooted n parent → (q : ℕ) → q < n → parent q < n
-rooted-small {n} {parent} R q h = go (ltb 0 q) refl
-  where
-    go : (b : Bool) → ltb 0 q ≡ b → parent q < n
-    go true e = let k = R.earlier q (ltb-true 0 q e) h in omega arith
-    go false e = let z : q ≡ 0 = omega (arith, ltb-false 0 q e) in subst (λ (x : ℕ). parent x < n) (sym z) (omega (arith, R.root))
 
 -- ---- columns
 
@@ -42,17 +30,6 @@ pub record Columned (f : ℕ → ℕ) (n : ℕ) (t : List ℕ) (q : ℕ) : Type 
   pub below : (p : ℕ) → p < q → get_or t p 0 ≡ f p
 
 module _ {f : ℕ → ℕ} {n : ℕ} {t : List ℕ} where
-  pub columned-start : length t ≡ 16 → Columned f n t 0
-  columned-start e = record { turns = omega arith; size = e; below = λ p h. absurd (omega arith) }
-
-  pub columned-step : {q x : ℕ} → Columned f n t q → q < n → n ≤ 16 → x ≡ f q → Columned f n (set t q x) (q + 1)
-  columned-step {q} {x} c h few e =
-      record {
-        turns = omega arith;
-        size = length-set t q x ∙ c.size;
-        below = up_to (λ p. get_or (set t q x) p 0 ≡ f p) q (set_here t q x (omega (arith, c.size)) ∙ e) (λ p ne l. set_else t q x p ne ∙ c.below p l);
-      }
-
   pub columned-end : {q : ℕ} → Columned f n t q → n ≤ q → (p : ℕ) → p < n → get_or t p 0 ≡ f p
   columned-end {q} c h p l = c.below p (omega arith)
 

@@ -50,7 +50,7 @@ impl Wanted {
 
     // The return nodes are pinned to the list, by their marks.
     pub fn pin(&mut self, pattern: &Pattern, list: &[u8])
-        requires pattern_given { PatternKept pattern.now × PatternFacts pattern.now × Wants pattern.now self.old }
+        requires pattern_kept { PatternKept pattern.now × PatternFacts pattern.now × Wants pattern.now self.old }
         requires list_len { (length (list_of list.now) ≡ arity pattern.now) × SmallNumbers list.now }
         ensures { WantsPinned pattern.now (list_of list.now) self.new }
     {

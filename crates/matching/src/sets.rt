@@ -46,7 +46,10 @@ impl Wanted {
     pub fn fitting(&self, label: u16, figure: usize, mark: usize, acc: u16) -> u16
         ensures { result ≡ mask_below (fits_by self.now label figure mark acc) self.now.count }
     {
-        select(self.count, |p| self.fits_here(label, figure, mark, acc, PatternNode(p)))
+        select(
+            self.count,
+            |p| self.fits_here(label, figure, mark, acc, PatternNode(p)),
+        )
     }
 
     // Pattern node q hangs from a node of the set.

@@ -28,12 +28,7 @@ fn settle<T: Tree>(t: &T, v: usize, wanted: &Wanted, table: &mut [u16])
         ≡ settle_at (T.nodes t.now) wanted.now v table.old }
 {
     let acc = table[v];
-    let fit = wanted.fitting(
-        t.label(v),
-        t.figure(v),
-        v + 1,
-        acc,
-    );
+    let fit = wanted.fitting(t.label(v), t.figure(v), v + 1, acc);
     table[v] = fit;
     offer_up(t, v, fit | (wanted.deep & acc), table);
 }

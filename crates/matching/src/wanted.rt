@@ -1,5 +1,5 @@
-// What the passes over a tree want of a pattern, worked out once (`making`). A column for each thing, not a record for each node: so a loop
-// over the nodes has several in hand at a time.
+// What the passes over a tree want of a pattern, worked out once (`making`). A column for each thing, not a record for each node, and 0 for
+// none, not an Option: a loop over the nodes then tests several at a time, with no branch.
 
 ghost use Rattle.std.specs.Prelude.{ℕ, ◌≤◌, ◌<◌, get_or};
 

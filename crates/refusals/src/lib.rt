@@ -8,6 +8,8 @@ ghost use Rattle.questions.specs.Refusal.{asked};
 
 use document::ask_document;
 use embedding::is_embedding_list;
+use format::case::Case;
+use format::document::Document;
 use format::limits::MAX_VERDICTS;
 use list::result_in_range;
 use numbered::{pattern_given, position_given};
@@ -59,17 +61,32 @@ pub fn ask_result(b: &[u8], number: u64, w: &[u8], r: &[u8]) -> Result<(), Refus
     ensures { asked result ≡ result_refusal b.now number w.now r.now }
 {
     ask_fits(b, w)?;
-    hold(pattern_given(b, number), Refusal::PatternNumber)?;
-    hold(result_in_range(b, number, w, r), Refusal::ResultList)
+    let case = Case::new(b);
+    let document = Document::new(w);
+    hold(pattern_given(&case, number), Refusal::PatternNumber)?;
+    hold(
+        result_in_range(&case, number, &document, r),
+        Refusal::ResultList,
+    )
 }
 
 // Nodes at a position: 2 to 8, 10, 17, 12.
-pub fn ask_nodes(b: &[u8], number: u64, w: &[u8], position: u64, buffer: usize) -> Result<(), Refusal>
+pub fn ask_nodes(
+    b: &[u8],
+    number: u64,
+    w: &[u8],
+    position: u64,
+    buffer: usize,
+) -> Result<(), Refusal>
     ensures { asked result ≡ nodes_refusal b.now number w.now position buffer }
 {
     hold(buffer_large_enough(buffer), Refusal::Room)?;
     ask_fits(b, w)?;
-    hold(position_given(b, number, position), Refusal::PatternNumber)
+    let case = Case::new(b);
+    hold(
+        position_given(&case, number, position),
+        Refusal::PatternNumber,
+    )
 }
 
 // Paths of each node: 3 to 8, 12.
@@ -77,7 +94,8 @@ pub fn ask_paths(b: &[u8], number: u64) -> Result<(), Refusal>
     ensures { asked result ≡ paths_refusal b.now number }
 {
     ask_case(b)?;
-    hold(pattern_given(b, number), Refusal::PatternNumber)
+    let case = Case::new(b);
+    hold(pattern_given(&case, number), Refusal::PatternNumber)
 }
 
 // Lay out a canonical document: 2 to 8, 12, 13.
@@ -86,6 +104,7 @@ pub fn ask_layout(b: &[u8], number: u64, l: &[u8], table: usize) -> Result<(), R
 {
     hold(table_large_enough(table), Refusal::Room)?;
     ask_case(b)?;
-    hold(pattern_given(b, number), Refusal::PatternNumber)?;
-    hold(is_embedding_list(b, number, l), Refusal::Embedding)
+    let case = Case::new(b);
+    hold(pattern_given(&case, number), Refusal::PatternNumber)?;
+    hold(is_embedding_list(&case, number, l), Refusal::Embedding)
 }

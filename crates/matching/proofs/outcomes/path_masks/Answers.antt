@@ -3,29 +3,17 @@
 use mathlib.Core.Path.{refl, ◌∙◌}
 use native.Mathlib.Omega.{arith}
 use Rattle.model.proofs.Results.{path-mask-beyond}
-use Rattle.model.proofs.TreeLaws.{length-as_document}
 use Rattle.matching.proofs.Answers.{path-read}
 use Rattle.format.proofs.FrontLoops.{filled-start, filled-step, filled-end}
 use Rattle.matching.proofs.ReadLoops.{filled-zeros}
 use Rattle.matching.proofs.TurnLaws.{zeros-at}
 use Rattle.matching.proofs.outcomes.path_masks.Goals as goal
 
-pub stands-requires : goal.stands-requires
-stands-requires c =
-    let n = length-as_document c.args.summary.now in
-    let few = c.requires.0.few in
-    record { tree_lent = (c.requires.0.tree, zeros-at 64); t_in_bounds = (omega arith, omega arith) }
+pub stands-requires-clause-tree_lent : goal.stands-requires-clause-tree_lent
+stands-requires-clause-tree_lent c = (c.requires.0.tree, zeros-at 64)
 
 pub loop-q-init : goal.loop-q-init
 loop-q-init c = filled-start refl
-
-pub stand_mask-requires : goal.stand_mask-requires
-stand_mask-requires c =
-    let n = c.count-n.ensures.0 in
-    (omega (arith, n, c.requires.0.few), omega (arith, n, c.requires.0.few), omega (arith, c.count-m.ensures.0, c.requires.1.few))
-
-pub bounds-r-q : goal.bounds-r-q
-bounds-r-q c = omega (arith, c.requires.1.few)
 
 pub loop-q-preserved : goal.loop-q-preserved
 loop-q-preserved c =

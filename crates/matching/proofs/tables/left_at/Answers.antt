@@ -1,16 +1,12 @@
 -- `matching::tables::left_at` meets its contract, by cases on whether the node is the root: a parent stands before. Assumes nothing.
 use Prim.Native.Nat.{ℕ}
 use mathlib.Core.Path.{sym, ap, ◌∙◌}
-use native.Mathlib.Omega.{arith}
 use lib.ListN.{get_or}
 use Rattle.matching.proofs.TurnLaws.{left_at-root, left_at-parent}
 use Rattle.matching.proofs.tables.left_at.Goals as goal
 
 pub returns-then-v-eq0 : goal.returns-then-v-eq0
 returns-then-v-eq0 g c = sym (left_at-root _ c.args.v _ c.if-v-eq0.true)
-
-pub bounds-left-parent : goal.bounds-left-parent
-bounds-left-parent g c = omega (arith, c.parent.ensures, c.requires.0.earlier c.args.v (omega arith) c.requires.1)
 
 pub returns : goal.returns
 returns g c =

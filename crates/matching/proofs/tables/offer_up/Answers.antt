@@ -1,7 +1,6 @@
 -- `matching::tables::offer_up` meets its contract, by cases on whether the node is the root: a parent stands before. Assumes nothing.
 use Prim.Native.Nat.{ℕ}
 use mathlib.Core.Path.{sym, ap, ◌∙◌}
-use native.Mathlib.Omega.{arith}
 use lib.Bits.{bit_or}
 use lib.ListN.{set, get_or}
 use Rattle.matching.proofs.TurnLaws.{offer_up-root, offer_up-parent}
@@ -9,9 +8,6 @@ use Rattle.matching.proofs.tables.offer_up.Goals as goal
 
 pub returns-then-v-eq0 : goal.returns-then-v-eq0
 returns-then-v-eq0 g c = sym (offer_up-root _ c.args.v _ _ c.if-v-eq0.true)
-
-pub bounds-table-u : goal.bounds-table-u
-bounds-table-u g c = omega (arith, c.parent-u.ensures, c.requires.0.earlier c.args.v (omega arith) c.requires.1)
 
 pub returns : goal.returns
 returns g c =

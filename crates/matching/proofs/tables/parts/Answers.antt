@@ -7,11 +7,6 @@ use Rattle.matching.proofs.tables.parts.Goals as goal
 pub loop-v-init : goal.loop-v-init
 loop-v-init g c = λ Q K. settling-start _ _ _ _ c.requires.t_in_bounds.1 c.count-n.ensures.0
 
-pub settle-requires : goal.settle-requires
-settle-requires g c =
-    let n = c.count-n.ensures.0 in
-    (c.requires.tree_lent, omega arith, omega (arith, c.requires.t_in_bounds.0))
-
 pub loop-v-preserved : goal.loop-v-preserved
 loop-v-preserved g c = λ Q K. settling-step (c.loop-v.v - 1) K c.requires.tree_lent c.requires.t_in_bounds.0 (c.loop-v.invariant Q K) (omega arith) c.settle.ensures
 

@@ -1,21 +1,8 @@
 -- `matching::tables::stands` meets its contract: before turn v the nodes before v hold what stands there and what they leave to their
 -- children. Assumes nothing.
 use native.Mathlib.Omega.{arith}
-use Rattle.matching.proofs.StandLoop.{descending-start, descending-step, descending-end}
+use Rattle.matching.proofs.StandLoop.{descending-step, descending-end}
 use Rattle.matching.proofs.tables.stands.Goals as goal
-
-pub loop-v-init : goal.loop-v-init
-loop-v-init g c = λ Q K. descending-start _ _ _ _ _
-
-pub left_at-requires : goal.left_at-requires
-left_at-requires g c =
-    let n = c.count-n.ensures.0 in
-    (c.requires.tree_lent.0, omega arith, omega (arith, c.requires.t_in_bounds.1))
-
-pub descend-requires : goal.descend-requires
-descend-requires g c =
-    let n = c.count-n.ensures.0 in
-    (omega (arith, c.requires.t_in_bounds.0), omega (arith, c.requires.t_in_bounds.1))
 
 pub loop-v-preserved : goal.loop-v-preserved
 loop-v-preserved g c =

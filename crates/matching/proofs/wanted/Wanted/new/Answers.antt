@@ -1,35 +1,18 @@
 -- `matching::wanted::Wanted::new` meets its contract: after q turns the labels and the parents of the nodes below q are in. Assumes
 -- nothing.
-use Prim.Native.Nat.{ℕ, ◌<◌}
-use mathlib.Core.Path.{refl, ap, ◌∙◌}
+use Prim.Native.Nat.{ℕ}
+use mathlib.Core.Path.{ap, ◌∙◌}
 use mathlib.Core.List.{List}
 use native.Mathlib.Omega.{arith}
-use lib.ListN.{length, get_or}
+use lib.ListN.{get_or}
 use Rattle.matching.proofs.MaskLoops.{get_or-kid_masks}
 use Rattle.matching.proofs.TurnLaws.{zeros-at}
-use Rattle.matching.proofs.WantedLaws.{rooted-small, columned-start, columned-step, columned-end}
+use Rattle.matching.proofs.WantedLaws.{columned-end}
 use Rattle.matching.proofs.wanted.Wanted.new.Goals as goal
-
-pub loop-q-init : goal.loop-q-init
-loop-q-init c = (columned-start refl, columned-start refl)
-
-pub loop-q-preserved : goal.loop-q-preserved
-loop-q-preserved c =
-    (columned-step c.loop-q.invariant.0 (omega arith) c.requires.few c.label.ensures, columned-step c.loop-q.invariant.1 (omega arith) c.requires.few c.parent.ensures)
-
-pub invariant_of-result : goal.invariant_of-result
-invariant_of-result c =
-    record {
-      few = omega (arith, c.count-count.ensures.0, c.requires.few);
-      low =
-          λ q h. (let k : q < length c.args.pattern.now = omega (arith, c.count-count.ensures.0) in
-          omega (arith, columned-end c.loop-q.invariant.1 (omega arith) q k, rooted-small c.requires.tree q k, c.requires.few));
-    }
 
 pub returns : goal.returns
 returns c =
-    let n = c.count-count.ensures.0 in
-    (
+    let n = c.count-count.ensures.0 in (
       record {
         tree = c.requires.tree;
         few = c.requires.few;
