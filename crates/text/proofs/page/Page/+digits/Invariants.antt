@@ -1,4 +1,4 @@
-use Rattle.text.proofs.put.+digits.Given as goal
+use Rattle.text.proofs.page.Page.+digits.Given as goal
 
 -- a tenth of a number is less than the number
 abbrev pub decreases-digits : goal.decreases-digits
