@@ -5,9 +5,9 @@ use mathlib.Core.Path.{◌≡◌, refl, sym, ap, ◌∙◌, subst}
 use mathlib.Core.Logic.{◌≢◌}
 use mathlib.Core.List.{List}
 use native.Mathlib.Omega.{arith}
-use lib.ListN.{length, drop, length-append}
+use lib.ListN.{length}
+use Rattle.std.specs.Prelude.{Result, Err}
 use Rattle.model.specs.Limits.{min_buffer}
-use Rattle.model.specs.Bytes.{written_at_front}
 use Rattle.model.specs.Calls.{CountOutcome}
 use Rattle.model.specs.Moving.{upgrade_refusal, downgrade_refusal, upgraded, downgraded, moved_accepted}
 use Rattle.model.specs.Normal.{normalise_refusal, normalised}
@@ -20,17 +20,18 @@ use Rattle.text.specs.Put.{Room, Put}
 use Rattle.text.proofs.PutLaws.{put_front}
 use Rattle.moving.specs.Answers.{moved_of}
 use Rattle.moving.specs.declared.answers.Moved.{Moved}
-use Rattle.filing.specs.Filed.{Filed, Answered}
-use Rattle.filing.specs.declared.Told.{Told}
+use Rattle.text.specs.Told.{Filed, stream_of, count_of}
+use Rattle.text.specs.declared.page.Page.{Page}
+use Rattle.filing.specs.Filed.{Answered}
 
 -- ---- the line of a refusal
 
-pub line-room : (n : ℕ) {out : List ℕ} → n < 100 → 11 ≤ length out → Room (model.refused_text n) 0 out
-line-room n h l = record { fits = omega (arith, refused-short n h) }
+pub line-room : (n : ℕ) {page : Page} → n < 100 → page.at ≡ 0 → 11 ≤ length page.out.now → Room (model.refused_text n) page
+line-room n h z l = record { fits = omega (arith, refused-short n h) }
 
-pub line-filed : (n : ℕ) {before after : List ℕ} {stop : ℕ} → Put (model.refused_text n) 0 before after stop
-    → Filed (record { stream = 2; bytes = model.refused_text n }) before after (record { stream = 2; count = stop })
-line-filed n p = record { stream = refl; counted = omega (arith, p.ends); bytes = put_front p }
+pub line-filed : (n : ℕ) {before after : Page} → before.at ≡ 0 → Put (model.refused_text n) before after
+    → Filed (record { stream = 2; bytes = model.refused_text n }) before.out.now after.out.now (Err after.at)
+line-filed n z p = record { stream = refl; counted = omega (arith, p.ends); bytes = put_front z p }
 
 -- ---- from a call's answer to what is written
 
@@ -47,21 +48,21 @@ module _ (refusal : ℕ → ℕ) (written : List ℕ) {before : List ℕ} (long 
       (λ f. omega (arith, ap (λ (o : CountOutcome). o.answer.refused) (a.demand1 f), most))
 
   -- what the call wrote stands in the array
-  accepted : {after : List ℕ} {r : Told} → refusal (length before) ≡ 0 → Answered m mid after r → Filed (record { stream = 1; bytes = written }) before after r
+  accepted : {after : List ℕ} {r : Result ℕ ℕ} → refusal (length before) ≡ 0 → Answered m mid after r → Filed (record { stream = 1; bytes = written }) before after r
   unfolding moved_accepted
   accepted {after} z h =
       let o = outcome z in
       let t = h.moved (ap (λ (x : CountOutcome). x.answer.refused) o) in
-      record { stream = t.0; counted = t.1 ∙ ap (λ (x : CountOutcome). x.answer.count) o; bytes = t.2 ∙ ap (λ (x : CountOutcome). x.buffer) o }
+      record { stream = ap stream_of t.0; counted = ap count_of t.0 ∙ ap (λ (x : CountOutcome). x.answer.count) o; bytes = t.1 ∙ ap (λ (x : CountOutcome). x.buffer) o }
 
-  refused : {after : List ℕ} {r : Told} → refusal (length before) ≢ 0 → Answered m mid after r → Filed (record { stream = 2; bytes = model.refused_text (refusal (length before)) }) before after r
+  refused : {after : List ℕ} {r : Result ℕ ℕ} → refusal (length before) ≢ 0 → Answered m mid after r → Filed (record { stream = 2; bytes = model.refused_text (refusal (length before)) }) before after r
   refused {after} {r} f h =
       let o = a.demand1 f in
       let e : m.refused ≡ refusal (length before) = ap (λ (x : CountOutcome). x.answer.refused) o in
       subst (λ (x : List ℕ). Filed (record { stream = 2; bytes = model.refused_text (refusal (length before)) }) x after r) (ap (λ (x : CountOutcome). x.buffer) o)
       (subst (λ (n : ℕ). Filed (record { stream = 2; bytes = model.refused_text n }) mid after r) e (h.refused (λ z. f (sym e ∙ z))))
 
-  filed : {after : List ℕ} {r : Told} → Answered m mid after r → Filed (model.told (refusal min_buffer) written) before after r
+  filed : {after : List ℕ} {r : Result ℕ ℕ} → Answered m mid after r → Filed (model.told (refusal min_buffer) written) before after r
   filed {after} {r} h =
       subst (λ (n : ℕ). Filed (model.told (refusal n) written) before after r) long
       (by_number (refusal (length before))
@@ -74,43 +75,20 @@ module _ (b : List ℕ) {before : List ℕ} (long : length before ≡ min_buffer
   pub upgrade-short : demands.UpgradeAnswered b before (moved_of m mid) → m.refused < 100
   upgrade-short a = short (upgrade_refusal b) (upgraded b) long a (upgrade-most b (length before))
 
-  pub upgrade-filed : {after : List ℕ} {r : Told} → demands.UpgradeAnswered b before (moved_of m mid) → Answered m mid after r → Filed (model.upgrade_told b) before after r
+  pub upgrade-filed : {after : List ℕ} {r : Result ℕ ℕ} → demands.UpgradeAnswered b before (moved_of m mid) → Answered m mid after r → Filed (model.upgrade_told b) before after r
   unfolding model.upgrade_told
   upgrade-filed a = filed (upgrade_refusal b) (upgraded b) long a
 
   pub downgrade-short : demands.DowngradeAnswered b before (moved_of m mid) → m.refused < 100
   downgrade-short a = short (downgrade_refusal b) (downgraded b) long a (downgrade-most b (length before))
 
-  pub downgrade-filed : {after : List ℕ} {r : Told} → demands.DowngradeAnswered b before (moved_of m mid) → Answered m mid after r → Filed (model.downgrade_told b) before after r
+  pub downgrade-filed : {after : List ℕ} {r : Result ℕ ℕ} → demands.DowngradeAnswered b before (moved_of m mid) → Answered m mid after r → Filed (model.downgrade_told b) before after r
   unfolding model.downgrade_told
   downgrade-filed a = filed (downgrade_refusal b) (downgraded b) long a
 
   pub normalise-short : demands.NormaliseAnswered b before (moved_of m mid) → m.refused < 100
   normalise-short a = short (normalise_refusal b) (normalised b) long a (normalise-most b (length before))
 
-  pub normalise-filed : {after : List ℕ} {r : Told} → demands.NormaliseAnswered b before (moved_of m mid) → Answered m mid after r → Filed (model.normalise_told b) before after r
+  pub normalise-filed : {after : List ℕ} {r : Result ℕ ℕ} → demands.NormaliseAnswered b before (moved_of m mid) → Answered m mid after r → Filed (model.normalise_told b) before after r
   unfolding model.normalise_told
   normalise-filed a = filed (normalise_refusal b) (normalised b) long a
-
--- ---- what is told is a part of the array, and the stream's number is a small one
-
-pub filed-fits : {t : model.Told} {before after : List ℕ} {r : Told} → Filed t before after r → r.count ≤ length after
-unfolding written_at_front
-filed-fits {t} {before} h = omega (arith, h.counted, ap length h.bytes ∙ length-append t.bytes (drop (length t.bytes) before))
-
-told-stream : (n : ℕ) (w : List ℕ) → (model.told n w).stream ≤ 2
-told-stream n w =
-    by_number n (λ z. omega (arith, ap (λ (t : model.Told). t.stream) (told-accepted n w z))) (λ f. omega (arith, ap (λ (t : model.Told). t.stream) (told-refused n w f)))
-
-module _ (b : List ℕ) {before after : List ℕ} {r : Told} where
-  pub upgrade-stream : Filed (model.upgrade_told b) before after r → r.stream ≤ 2
-  unfolding model.upgrade_told
-  upgrade-stream h = omega (arith, h.stream, told-stream (upgrade_refusal b min_buffer) (upgraded b))
-
-  pub downgrade-stream : Filed (model.downgrade_told b) before after r → r.stream ≤ 2
-  unfolding model.downgrade_told
-  downgrade-stream h = omega (arith, h.stream, told-stream (downgrade_refusal b min_buffer) (downgraded b))
-
-  pub normalise-stream : Filed (model.normalise_told b) before after r → r.stream ≤ 2
-  unfolding model.normalise_told
-  normalise-stream h = omega (arith, h.stream, told-stream (normalise_refusal b min_buffer) (normalised b))

@@ -4,6 +4,9 @@ use Rattle.std.proofs.lemmas.List.{take-append-le, length-take-le}
 use Rattle.std.proofs.Math.Seq.{take-append-add}
 use Rattle.std.specs.declared.option.Option.{Option}
 use borrow.Rule.Slice.PartMut.{put_mid, post_of}
+use Rattle.model.specs.Text.{Told}
+use Rattle.streams.specs.Sent.{stream_of}
+use Rattle.streams.specs.Tells.{Tells, told_count}
 
 -- n bytes read into the part of xs from a on, which now holds ys
 pub take-put_mid-on : (a k n : ℕ) (xs ys : List ℕ) → a ≤ length xs → n ≤ length ys → take (a + n) (put_mid a k xs ys) ≡ take a xs ++ take n ys
@@ -19,3 +22,8 @@ pub OnOk-read : {T E : Type 0} (r : Result T E) (P : List ℕ → Type 0) (known
 OnOk-read (Ok x) P None bytes most n same e h = tt
 OnOk-read (Ok x) P (Some xs) bytes most n same e h = subst P (e ∙ ap (λ (k : ℕ). take k xs) same) h
 OnOk-read (Err x) P known bytes most n same e h = tt
+
+-- what is told is what was written
+pub OnOk-told : {X E : Type 0} (w : Result X E) (S : ℕ → List ℕ → Type 0) (t : Told) (after : List ℕ) (r : Result ℕ ℕ)
+    → Tells t after r → OnOk w (S (stream_of r) (take (told_count r) after)) → OnOk w (S t.stream t.bytes)
+OnOk-told w S t after r k h = rw (← k.stream, ← k.bytes) h

@@ -4,6 +4,7 @@
 
 #[cfg(test)]
 mod tests;
+pub mod program;
 mod trouble;
 
 ghost use Rattle.std.specs.Prelude.{◌≡◌, length, take, IfErr, IfOk, IfSome, OnOk};
