@@ -1,4 +1,4 @@
 pub mod Read
 pub mod Sent
-pub mod Trouble
 pub mod Tells
+pub mod Trouble

@@ -11,12 +11,7 @@ abbrev pub Sent : ℕ → List ℕ → Option (List ℕ) → Option (List ℕ) �
 Sent stream bytes output output' errors errors' =
     (stream ≡ 1 → Appends output output' bytes × Keeps errors errors') × (stream ≢ 1 → Keeps output output' × Appends errors errors' bytes)
 
--- what is told as Ok goes to standard output, 1, and as Err to standard error, 2
-abbrev pub stream_of : {A B : Type 0} → Result A B → ℕ
-stream_of (Ok x) = 1
-stream_of (Err x) = 2
-
--- its bytes
+-- the bytes that are told for one of them
 abbrev pub bytes_of : Result (Bor (List ℕ)) (Bor (List ℕ)) → List ℕ
 bytes_of (Ok bytes) = bytes.now
 bytes_of (Err bytes) = bytes.now

@@ -10,8 +10,9 @@ mod trouble;
 ghost use Rattle.std.specs.Prelude.{◌≡◌, length, take, IfErr, IfOk, IfSome, OnOk};
 ghost use Rattle.std.specs.Counts.{IsPrefixLen};
 ghost use Rattle.std.specs.Io.KnownBytes.{Appends, Consumes};
+ghost use Rattle.text.specs.Told.{stream_of};
 ghost use Rattle.streams.specs.Read.{count_of};
-ghost use Rattle.streams.specs.Sent.{Sent, stream_of, bytes_of};
+ghost use Rattle.streams.specs.Sent.{Sent, bytes_of};
 ghost use Rattle.streams.specs.declared.trouble.Trouble.TheVariants.{Unwritable};
 
 use std::io::{Read, Write};
