@@ -1,21 +1,26 @@
 -- Loops over sets, member by member, and over lists of sets: after each turn the list covers what it did and what the sets that had their
 -- turn ask. Assumes nothing.
-use Prim.Native.Nat.{ℕ, ◌+◌, ◌≤◌, ◌<◌}
+use Prim.Native.Nat.{ℕ, zero, suc, ◌+◌, ◌≤◌, ◌<◌}
 use mathlib.Core.Path.{◌≡◌, refl, sym, ap, ◌∙◌, subst}
-use mathlib.Core.Bool.{Bool, true, false}
+use mathlib.Core.Bool.{Bool, true, false, ◌||◌}
 use mathlib.Core.Logic.{◌⊎◌, inl, inr, ⊎_elim}
-use mathlib.Core.List.{List, []}
+use mathlib.Core.List.{List, [], ◌∷◌}
 use native.Mathlib.Omega.{arith}
+use native.Mathlib.Nat.{zero-add, add-zero}
 use lib.Dec.{ltb}
 use lib.ListN.{length, get_or, set, take, replicate, length-set, length-replicate, get_or-replicate, get_or-eq_default}
 use lib.Seq.{get_or-set_same, get_or-set_other, get_or-take, length-take-le}
 use borrow.Author.Count.{below_more}
 use borrow.Author.Tests.{ltb-true, ltb-false}
-use Rattle.model.specs.Lists.{has}
+use Rattle.std.specs.List.{list_any, zip}
+use Rattle.model.specs.Lists.{has, any_of, up_from}
 use Rattle.model.proofs.ListLaws.{not-both}
 use Rattle.bits.proofs.MaskLaws.{has-none}
-use Rattle.cover.specs.Cover.{Inside, Among}
-use Rattle.alternatives.specs.Alternatives.{RowBy, Raises, Grown, Copied}
+use Rattle.cover.specs.Cover.{Inside, Covers}
+use Rattle.judging.specs.declared.member.Member.{Member}
+use Rattle.judging.specs.Blocks.{no_member, sets_in}
+use Rattle.judging.specs.Judging.{root_by}
+use Rattle.alternatives.specs.Alternatives.{met_by_some, RowBy, Raises, Grown}
 
 -- ---- member by member
 
@@ -50,35 +55,31 @@ module _ {n : ℕ} {F : ℕ → ℕ → ℕ} {a r : List ℕ} where
 -- ---- set by set
 
 -- a list that covers what it did, and whatever one of the first i sets asks of it
-pub record Growing (n : ℕ) (Asks : List ℕ → (ℕ → ℕ → Bool) → Type 0) (Else : (ℕ → ℕ → Bool) → Type 0) (sets before : List (List ℕ)) (count : ℕ) (now : List (List ℕ)) (r i : ℕ) : Type 0 where
-  pub top : i ≤ length sets
-  pub grown : Grown n before count now r
-  pub each : (k : ℕ) → k < i → (f : ℕ → ℕ → Bool) → Asks (get_or sets k []) f → Among n now r f ⊎ Else f
+pub record Growing (n : ℕ) (Asks : List ℕ → (ℕ → ℕ → Bool) → Type 0) (Else : (ℕ → ℕ → Bool) → Type 0) (sets before now : List (List ℕ)) (i : ℕ) : Type 0 where
+  pub grown : Grown n before now
+  pub each : (k : ℕ) → k < i → (f : ℕ → ℕ → Bool) → Asks (get_or sets k []) f → Covers n now f ⊎ Else f
 
-module _ {n : ℕ} {Asks : List ℕ → (ℕ → ℕ → Bool) → Type 0} {Else : (ℕ → ℕ → Bool) → Type 0} {sets before : List (List ℕ)} {count : ℕ} where
-  pub growing-start : count ≤ 64 → Growing n Asks Else sets before count before count 0
-  growing-start h = record { top = omega arith; grown = record { few = h; more = λ f s. s }; each = λ k l. absurd (omega arith) }
+module _ {n : ℕ} {Asks : List ℕ → (ℕ → ℕ → Bool) → Type 0} {Else : (ℕ → ℕ → Bool) → Type 0} {sets before : List (List ℕ)} where
+  pub growing-start : Growing n Asks Else sets before before 0
+  growing-start = record { grown = record { more = λ f s. s }; each = λ k l. absurd (omega arith) }
 
-  module _ {now : List (List ℕ)} {r i : ℕ} (v : Growing n Asks Else sets before count now r i) where
-    pub growing-step : {after : List (List ℕ)} {r' : ℕ} → i < length sets → Grown n now r after r' → ((f : ℕ → ℕ → Bool) → Asks (get_or sets i []) f → Among n after r' f ⊎ Else f)
-        → Growing n Asks Else sets before count after r' (i + 1)
-    growing-step {after} {r'} h g w =
+  module _ {now : List (List ℕ)} {i : ℕ} (v : Growing n Asks Else sets before now i) where
+    pub growing-step : {after : List (List ℕ)} → Grown n now after → ((f : ℕ → ℕ → Bool) → Asks (get_or sets i []) f → Covers n after f ⊎ Else f) → Growing n Asks Else sets before after (i + 1)
+    growing-step {after} g w =
         record {
-          top = omega arith;
-          grown = record { few = g.few; more = λ f s. g.more f (v.grown.more f s) };
+          grown = record { more = λ f s. g.more f (v.grown.more f s) };
           each =
-              below_more (λ (k : ℕ). (f : ℕ → ℕ → Bool) → Asks (get_or sets k []) f → Among n after r' f ⊎ Else f) i
+              below_more (λ (k : ℕ). (f : ℕ → ℕ → Bool) → Asks (get_or sets k []) f → Covers n after f ⊎ Else f) i
               (λ k l f s. ⊎_elim (λ u. inl (g.more f u)) inr (v.each k l f s)) w;
         }
 
     -- all had their turn
-    pub growing-end : length sets ≤ i → (k : ℕ) → k < length sets → (f : ℕ → ℕ → Bool) → Asks (get_or sets k []) f → Among n now r f ⊎ Else f
+    pub growing-end : length sets ≤ i → (k : ℕ) → k < length sets → (f : ℕ → ℕ → Bool) → Asks (get_or sets k []) f → Covers n now f ⊎ Else f
     growing-end h k l = v.each k (omega arith)
 
 -- a set was added
-pub added-grown : {n : ℕ} {before after : List (List ℕ)} {count r : ℕ} {a : List ℕ} → (r ≤ 64) × ((n : ℕ) (f : ℕ → ℕ → Bool) → Among n before count f ⊎ Inside n a f → Among n after r f)
-    → Grown n before count after r
-added-grown {n} w = record { few = w.0; more = λ f s. w.1 n f (inl s) }
+pub added-grown : {n : ℕ} {before after : List (List ℕ)} {a : List ℕ} → ((n : ℕ) (f : ℕ → ℕ → Bool) → Covers n before f ⊎ Inside n a f → Covers n after f) → Grown n before after
+added-grown {n} w = record { more = λ f s. w n f (inl s) }
 
 -- ---- what a loop asks of a set
 
@@ -93,8 +94,8 @@ pub only : {A : Type 0} → A ⊎ ⊥ → A
 only (inl a) = a
 only (inr e) = absurd e
 
-pub raised-end : {n : ℕ} {F : ℕ → ℕ → ℕ} {sets before now : List (List ℕ)} {count r i : ℕ} → Growing n (Raised n F) Nothing sets before count now r i → length sets ≤ i
-    → (g f : ℕ → ℕ → Bool) → Raises n F g f → Among n sets (length sets) g → Among n now r f
+pub raised-end : {n : ℕ} {F : ℕ → ℕ → ℕ} {sets before now : List (List ℕ)} {i : ℕ} → Growing n (Raised n F) Nothing sets before now i → length sets ≤ i
+    → (g f : ℕ → ℕ → Bool) → Raises n F g f → Covers n sets g → Covers n now f
 raised-end v h g f R s = only (growing-end v h s.row s.few f (g, (R, s.inside)))
 
 -- the set a, and those of which one is joined with it
@@ -102,58 +103,8 @@ abbrev pub With : ℕ → List ℕ → List ℕ → (ℕ → ℕ → Bool) → T
 With n a b f = Inside n a f × Inside n b f
 
 -- the list, and the set that is joined with each of its sets
-abbrev pub WithList : ℕ → List (List ℕ) → ℕ → List ℕ → (ℕ → ℕ → Bool) → Type 0
-WithList n old count b f = Among n old count f × Inside n b f
-
--- ---- copying
-
--- the sets before i are copied
-pub record Copying (at count : ℕ) (sets before now : List (List ℕ)) (i : ℕ) : Type 0 where
-  pub top : i ≤ count
-  pub long : length now ≡ length before
-  pub rows : (k : ℕ) → k < i → get_or now (at + k) [] ≡ get_or sets k []
-  pub below : (k : ℕ) → k < at → get_or now k [] ≡ get_or before k []
-
-module _ {at count : ℕ} {sets before : List (List ℕ)} where
-  pub copying-start : Copying at count sets before before 0
-  copying-start = record { top = omega arith; long = refl; rows = λ k h. absurd (omega arith); below = λ k h. refl }
-
-  module _ {now : List (List ℕ)} {i : ℕ} (v : Copying at count sets before now i) where
-    pub copying-step : i < count → at + count ≤ length before → Copying at count sets before (set now (at + i) (get_or sets i [])) (i + 1)
-    copying-step h l =
-        let a : List ℕ = get_or sets i [] in
-        let e = v.long in
-        record {
-          top = omega arith;
-          long = length-set now (at + i) a ∙ v.long;
-          rows = below_more (λ (k : ℕ). get_or (set now (at + i) a) (at + k) [] ≡ get_or sets k []) i (λ k m. get_or-set_other now (at + i) (at + k) a [] (λ q. omega arith) ∙ v.rows k m)
-              (get_or-set_same now (at + i) a [] (omega arith));
-          below = λ k m. get_or-set_other now (at + i) k a [] (λ q. omega arith) ∙ v.below k m;
-        }
-
-    pub copying-end : count ≤ i → Copied at count sets before now
-    copying-end h = record { rows = λ k m. v.rows k (omega arith); below = v.below }
-
--- a copy of a list's first sets
-pub record Copy (count : ℕ) (sets copy : List (List ℕ)) : Type 0 where
-  pub room : count ≤ length copy
-  pub rows : (k : ℕ) → k < count → get_or copy k [] ≡ get_or sets k []
-
-pub copied_copy : {count : ℕ} {sets before after : List (List ℕ)} → Copied 0 count sets before after → count ≤ length after → Copy count sets after
-copied_copy {after = after} c h = record { room = h; rows = λ k l. ap (λ (i : ℕ). get_or after i []) (let e : k ≡ 0 + k = omega arith in e) ∙ c.rows k l }
-
--- what a list covers its copy does
-pub among-copy : {n count : ℕ} {sets copy : List (List ℕ)} {f : ℕ → ℕ → Bool} → Copy count sets copy → Among n sets count f → Among n (take count copy) (length (take count copy)) f
-among-copy {n} {count} {sets} {copy} {f} c s =
-    record {
-      row = s.row;
-      few = subst (λ (k : ℕ). s.row < k) (sym (length-take-le count copy c.room)) s.few;
-      inside = subst (λ (a : List ℕ). Inside n a f) (sym (get_or-take count copy s.row [] s.few ∙ c.rows s.row s.few)) s.inside;
-    }
-
--- and so does its front
-pub among-front : {n count : ℕ} {sets : List (List ℕ)} {f : ℕ → ℕ → Bool} → count ≤ length sets → Among n sets count f → Among n (take count sets) (length (take count sets)) f
-among-front h = among-copy (record { room = h; rows = λ k l. refl })
+abbrev pub WithList : ℕ → List (List ℕ) → List ℕ → (ℕ → ℕ → Bool) → Type 0
+WithList n old b f = Covers n old f × Inside n b f
 
 -- nothing is always offered
 pub none_inside : {n : ℕ} {f : ℕ → ℕ → Bool} → Inside n (replicate 8 0) f
@@ -167,3 +118,27 @@ none_inside {n} {f} =
         let h : 8 ≤ i = ltb-false i 8 l in
         let k : length {A = ℕ} (replicate 8 0) ≤ i = omega arith in
         get_or-eq_default (replicate 8 0) 0 k
+
+-- ---- the members together
+
+-- a member's root meets by the set that stands at its place
+abbrev pub pair_met : Member × ℕ → Bool
+pair_met p = root_by (sets_in p.0) p.1
+
+or-elim : (a b : Bool) → (a || b) ≡ elim a [ true ↦ true | false ↦ b ]
+or-elim true b = refl
+or-elim false b = refl
+
+pairs-from : (t : ℕ → Bool) (k : ℕ) (ts : List Member) (a : List ℕ) → length ts ≤ length a → ((i : ℕ) → i < length ts → t (k + i) ≡ pair_met (get_or ts i no_member, get_or a i 0))
+    → list_any pair_met (zip ts a) ≡ any_of t (up_from k (length ts))
+unfolding any_of up_from
+pairs-from t k [] a l e = refl
+pairs-from t k (x ∷ ts) [] l e = absurd (omega arith)
+pairs-from t k (x ∷ ts) (y ∷ a) l e =
+    let h : t k ≡ pair_met (x, y) = ap t (sym (add-zero k)) ∙ e 0 (omega arith) in
+    let r : list_any pair_met (zip ts a) ≡ any_of t (up_from (suc k) (length ts)) = pairs-from t (suc k) ts a (omega arith) (λ i j. ap t (omega arith) ∙ e (suc i) (omega arith)) in
+    rw (h, r) (or-elim (pair_met (x, y)) (any_of t (up_from (suc k) (length ts))))
+
+pub pairs-met : (ts : List Member) (a : List ℕ) → length ts ≤ length a → list_any pair_met (zip ts a) ≡ met_by_some ts a
+unfolding met_by_some
+pairs-met ts a l = pairs-from (λ i. root_by (sets_in (get_or ts i no_member)) (get_or a i 0)) 0 ts a l (λ i h. ap (λ (j : ℕ). root_by (sets_in (get_or ts j no_member)) (get_or a j 0)) (zero-add i))

@@ -2,6 +2,6 @@ pub mod Skipping
 pub mod Offered
 mod JoinLaws
 mod FillLaws
-pub mod TableLaws
 mod OpenLaws
 pub mod RowsLaws
+pub mod TableLaws

@@ -21,7 +21,9 @@ use Rattle.model.proofs.TreeLaws.{test-edge, edge-below, test-child, child-test,
 use Rattle.model.proofs.Chains.{first_step, child-below, chain-step, chain-self}
 use Rattle.model.proofs.QuickLaws.{hold, hang-nil, hang-cons, given-intro}
 use Rattle.cover.specs.Cover.{Inside}
-use Rattle.judging.specs.Blocks.{child_in, below_in, last_in, sets_in, candidates_in}
+use Rattle.judging.specs.declared.member.Member.{Member}
+use Rattle.judging.specs.declared.masks.Masks.{Masks}
+use Rattle.judging.specs.Blocks.{no_member, child_in, below_in, last_in, sets_in, candidates_in}
 use Rattle.judging.specs.Judging.{nobody, Sets, node_by, hang_by, pass_by, given_by, root_by, judge_by}
 use Rattle.judging.specs.Prepared.{Made}
 use Rattle.judging.specs.Skipping.{PlacedBy}
@@ -39,7 +41,7 @@ pub reach_far : (M : Candidates) (a : ℕ) {far : Bool} → far ≡ true → M.d
 unfolding reach_by
 reach_far M a e = sym (ap (λ (b : Bool). elim b as (λ _. ℕ) [ true ↦ M.descendants a | false ↦ M.children a ]) e)
 
-module _ {ts : List (List ℕ)} {m : List ℕ} {P : Pattern} (R : Made ts m P) where
+module _ {ts : List Member} {m : Masks} {P : Pattern} (R : Made ts m P) where
   abbrev S : Summary
   S = R.summary
 
@@ -50,7 +52,7 @@ module _ {ts : List (List ℕ)} {m : List ℕ} {P : Pattern} (R : Made ts m P) w
   Q i = get_or R.members i []
 
   abbrev T : ℕ → Sets
-  T i = sets_in (get_or ts i [])
+  T i = sets_in (get_or ts i no_member)
 
   -- ---- which child of x leads to y
 

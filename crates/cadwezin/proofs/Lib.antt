@@ -1,5 +1,4 @@
 pub mod ChargeLaws
 pub mod MinimiseLaws
 pub mod TableLaws
-pub mod TallyLaws
 pub mod VerdictLaws

@@ -4,25 +4,29 @@
 
 pub mod minimise;
 
-ghost use Rattle.std.specs.Prelude.{◌≡◌};
-ghost use Rattle.deciding.specs.Outcome.{values_of};
-ghost use Rattle.model.specs.Demands.{VerdictAnswered, TalliedAnswered, FitsAnswered, ResultAnswered, NodesAnswered, PathsAnswered, LayoutAnswered, UpgradeAnswered, DowngradeAnswered, NormaliseAnswered};
+ghost use Rattle.std.specs.Prelude.{◌≡◌, ◌+◌, ◌^◌, ◌<◌, slice_set};
+ghost use Rattle.model.specs.Limits.{callers};
+ghost use Rattle.model.specs.Calls.{tally_of};
+ghost use Rattle.deciding.specs.Outcome.{verdict_values};
+ghost use Rattle.model.specs.Demands.{TalliedAnswered, FitsAnswered, ResultAnswered, NodesAnswered, PathsAnswered, LayoutAnswered, UpgradeAnswered, DowngradeAnswered, NormaliseAnswered};
 ghost use Rattle.calls.specs.Answers.{test_of, nodes_of, paths_of};
 ghost use Rattle.moving.specs.Answers.{moved_of};
 ghost use Rattle.cadwezin.specs.Table.{records_in, layout_of};
-ghost use Rattle.cadwezin.specs.Verdict.{numbers_of, told_outcome, exported_outcome};
+ghost use Rattle.cadwezin.specs.Verdict.{exported_outcome};
 
-use calls::answers::{CountAnswer, PathsAnswer, TestAnswer};
 use calls::fits::fits_call;
 use calls::nodes::nodes_call;
-use calls::paths::paths_call;
+use calls::paths::{Paths, paths_call};
 use calls::result::result_call;
-use deciding::{Answer, verdict_call};
+use containment::Containment;
+use deciding::verdict_call;
 use laying::laid::{NodeRecord, laid_out};
 use moving::answers::Moved;
 use moving::downgrade::downgrade_call;
 use moving::upgrade::upgrade_call;
 use normalising::normalise_call;
+use questions::numbers::Account;
+use questions::refusal::Refusal;
 
 // Counts trials, for each caller apart: a caller's own count grows by tried with each of its verdicts and of its orders to strike.
 #[repr(C)]
@@ -31,48 +35,35 @@ pub struct Tallies {
     pub counts: [u64; 8],
 }
 
-// The answer of the verdict call: the refusal's number, or 0; the kind: 1 included, 2 not included, 3 stopped; and tried.
-#[repr(C)]
-#[derive(Clone, Copy)]
-pub struct VerdictAnswer {
-    pub refused: u64,
-    pub kind: u64,
-    pub tried: u64,
-}
+impl Tallies {
+    // A caller with its own count. One above 7 has none, and 0 stands for it.
+    pub fn account(&self, caller: u64) -> Account
+        ensures { result ≡ record { caller = caller; tally = tally_of self.now.counts caller } }
+    {
+        let own = self.counts.get(caller as usize);
+        Account {
+            caller,
+            tally: own.copied().unwrap_or(0),
+        }
+    }
 
-// An answer's number and values.
-fn values(answer: Answer) -> VerdictAnswer
-    ensures { numbers_of result ≡ values_of answer }
-{
-    match answer {
-        Answer::Refused(number) => VerdictAnswer {
-            refused: number,
-            kind: 0,
-            tried: 0,
-        },
-        Answer::Contained(tried) => VerdictAnswer {
-            refused: 0,
-            kind: 1,
-            tried,
-        },
-        Answer::NotContained(tried) => VerdictAnswer {
-            refused: 0,
-            kind: 2,
-            tried,
-        },
-        Answer::Stopped(tried) => VerdictAnswer {
-            refused: 0,
-            kind: 3,
-            tried,
-        },
+    // What was tried for an account, in addition to what it has come to, is the caller's own count now.
+    pub fn charge(&mut self, account: Account, tried: u64)
+        requires known { account.caller < callers }
+        requires fits { account.tally + tried < 2 ^ 64 }
+        ensures { self.new.counts ≡ slice_set self.old.counts account.caller (account.tally + tried) }
+    {
+        self.counts[account.caller as usize] = account.tally + tried;
     }
 }
 
-// The verdict's number and values for a caller with this tally.
-fn told(case: &[u8], limit: u64, caller: u64, tally: u64, answer: &mut [u8]) -> VerdictAnswer
-    ensures { VerdictAnswered case.now limit caller tally answer.old (told_outcome tally result answer.new) }
+// How many a verdict tried.
+fn tried_of(verdict: Containment) -> u64
+    ensures { result ≡ (verdict_values verdict).tried }
 {
-    values(verdict_call(case, limit, caller, tally, answer))
+    match verdict {
+        Containment::Contained(n) | Containment::NotContained(n) | Containment::Stopped(n) => n,
+    }
 }
 
 // Decide whether the first pattern is contained in the set. What "not included" shows goes to the front of the answer buffer, and
@@ -83,32 +74,25 @@ pub fn cadwezin_verdict(
     caller: u64,
     tallies: &mut Tallies,
     answer: &mut [u8],
-) -> VerdictAnswer
+) -> Result<Containment, Refusal>
     ensures { TalliedAnswered case.now limit caller tallies.old.counts answer.old
         (exported_outcome result answer.new tallies.new) }
 {
-    let at = caller as usize;
-    let mut tally = 0;
-    if caller < 8 {
-        tally = tallies.counts[at];
-    }
-    let r = told(case, limit, caller, tally, answer);
-    // Accepted, so the caller is below 8. A second test of the caller would have the compiler double the call.
-    if r.refused == 0 {
-        tallies.counts[at] = tally + r.tried;
-    }
-    r
+    let account = tallies.account(caller);
+    let verdict = verdict_call(case, limit, account, answer)?;
+    tallies.charge(account, tried_of(verdict));
+    Ok(verdict)
 }
 
 // Fits: does the document conform to the case's summary?
-pub fn cadwezin_fits(case: &[u8], document: &[u8]) -> TestAnswer
+pub fn cadwezin_fits(case: &[u8], document: &[u8]) -> Result<bool, Refusal>
     ensures { FitsAnswered case.now document.now (test_of result) }
 {
     fits_call(case, document)
 }
 
 // Is the list a result of the pattern that the number names, in the document?
-pub fn cadwezin_result(case: &[u8], number: u64, document: &[u8], list: &[u8]) -> TestAnswer
+pub fn cadwezin_result(case: &[u8], number: u64, document: &[u8], list: &[u8]) -> Result<bool, Refusal>
     ensures { ResultAnswered case.now number document.now list.now (test_of result) }
 {
     result_call(case, number, document, list)
@@ -121,17 +105,25 @@ pub fn cadwezin_nodes(
     document: &[u8],
     position: u64,
     answer: &mut [u8],
-) -> CountAnswer
+) -> Result<usize, Refusal>
     ensures { NodesAnswered case.now number document.now position answer.old (nodes_of result answer.new) }
 {
     nodes_call(case, number, document, position, answer)
 }
 
 // The paths of each node of the pattern that the number names.
-pub fn cadwezin_paths(case: &[u8], number: u64) -> PathsAnswer
+pub fn cadwezin_paths(case: &[u8], number: u64) -> Result<Paths, Refusal>
     ensures { PathsAnswered case.now number (paths_of result) }
 {
     paths_call(case, number)
+}
+
+// SCAFFOLD
+#[repr(C)]
+#[derive(Clone, Copy)]
+pub struct CountAnswer {
+    pub refused: u64,
+    pub count: u64,
 }
 
 // Lay out a canonical document: its nodes fill the front of the lent table, and the node count is the result.
@@ -144,16 +136,10 @@ pub fn cadwezin_layout(
     ensures { LayoutAnswered case.now number list.now (records_in table.old) (layout_of result table.new) }
 {
     let laid = laid_out(case, number, list, table.len());
-    let nodes = laid.nodes;
-    let count = laid.count;
-    let mut i = 0;
-    while i < count {
-        table[i] = nodes[i];
-        i = i + 1;
-    }
+    table[..laid.count].copy_from_slice(&laid.nodes[..laid.count]);
     CountAnswer {
         refused: laid.refused,
-        count: count as u64,
+        count: laid.count as u64,
     }
 }
 

@@ -4,6 +4,7 @@ ghost use Rattle.model.specs.Demands.{TalliedMinimised};
 ghost use Rattle.cadwezin.specs.Minimise.{exported_strikes};
 
 use crate::Tallies;
+use questions::refusal::Refusal;
 use striking::{Minimised, minimise_call};
 
 // Strike from the first pattern what it need not say, by verdicts within the limit. The shortened pattern's section, then a count and the
@@ -15,18 +16,12 @@ pub fn cadwezin_minimise(
     caller: u64,
     tallies: &mut Tallies,
     answer: &mut [u8],
-) -> Minimised
+) -> Result<Minimised, Refusal>
     ensures { TalliedMinimised case.now limit caller tallies.old.counts answer.old
         (exported_strikes result answer.new tallies.new) }
 {
-    let at = caller as usize;
-    let mut tally = 0;
-    if caller < 8 {
-        tally = tallies.counts[at];
-    }
-    let r = minimise_call(case, limit, caller, tally, answer);
-    if r.refused == 0 {
-        tallies.counts[at] = tally + r.tried;
-    }
-    r
+    let account = tallies.account(caller);
+    let minimised = minimise_call(case, limit, account, answer)?;
+    tallies.charge(account, minimised.tried);
+    Ok(minimised)
 }

@@ -2,20 +2,15 @@
 // name and promises what it promises.
 #![tactic(auto)]
 
-ghost use Rattle.std.specs.Prelude.{◌≡◌};
-ghost use Rattle.model.specs.Demands.{VerdictAnswered, TalliedAnswered, FitsAnswered, ResultAnswered, NodesAnswered, PathsAnswered, LayoutAnswered, UpgradeAnswered, DowngradeAnswered, NormaliseAnswered};
-ghost use Rattle.calls.specs.Answers.{test_of, nodes_of, paths_of};
-ghost use Rattle.moving.specs.Answers.{moved_of};
-ghost use Rattle.cadwezin.specs.Table.{records_in, layout_of};
-ghost use Rattle.cadwezin.specs.Verdict.{numbers_of, told_outcome, exported_outcome};
-ghost use Rattle.model.specs.Demands.{TalliedMinimised};
-ghost use Rattle.cadwezin.specs.Minimise.{exported_strikes};
+pub mod answers;
 
-use cadwezin::{Tallies, VerdictAnswer};
-use calls::answers::{CountAnswer, PathsAnswer, TestAnswer};
+ghost use Rattle.model.specs.Demands.{TalliedAnswered, TalliedMinimised, FitsAnswered, ResultAnswered, NodesAnswered, PathsAnswered, LayoutAnswered, UpgradeAnswered, DowngradeAnswered, NormaliseAnswered};
+ghost use Rattle.cadwezin.specs.Table.{records_in};
+ghost use Rattle.cadwezin_c.specs.Answers.{test_in, paths_in, exported_outcome, exported_strikes, buffer_of, table_of};
+
+use answers::{CountAnswer, MinimiseAnswer, PathsAnswer, TestAnswer, VerdictAnswer};
+use cadwezin::Tallies;
 use laying::laid::NodeRecord;
-use moving::answers::Moved;
-use striking::Minimised;
 
 // Decide whether the first pattern is contained in the set. What "not included" shows goes to the front of the answer buffer, and
 // the caller's own count grows by tried. A caller above 7 has none: no count is read or altered.
@@ -30,15 +25,15 @@ pub extern "C" fn cadwezin_verdict(
     ensures { TalliedAnswered case.now limit caller tallies.old.counts answer.old
         (exported_outcome result answer.new tallies.new) }
 {
-    cadwezin::cadwezin_verdict(case, limit, caller, tallies, answer)
+    cadwezin::cadwezin_verdict(case, limit, caller, tallies, answer).into()
 }
 
 // Fits: does the document conform to the case's summary?
 #[unsafe(no_mangle)]
 pub extern "C" fn cadwezin_fits(case: &[u8], document: &[u8]) -> TestAnswer
-    ensures { FitsAnswered case.now document.now (test_of result) }
+    ensures { FitsAnswered case.now document.now (test_in result) }
 {
-    cadwezin::cadwezin_fits(case, document)
+    cadwezin::cadwezin_fits(case, document).into()
 }
 
 // Is the list a result of the pattern that the number names, in the document?
@@ -49,9 +44,9 @@ pub extern "C" fn cadwezin_result(
     document: &[u8],
     list: &[u8],
 ) -> TestAnswer
-    ensures { ResultAnswered case.now number document.now list.now (test_of result) }
+    ensures { ResultAnswered case.now number document.now list.now (test_in result) }
 {
-    cadwezin::cadwezin_result(case, number, document, list)
+    cadwezin::cadwezin_result(case, number, document, list).into()
 }
 
 // The nodes at a position in any result, ascending after their count, go to the front of the answer buffer.
@@ -63,17 +58,17 @@ pub extern "C" fn cadwezin_nodes(
     position: u64,
     answer: &mut [u8],
 ) -> CountAnswer
-    ensures { NodesAnswered case.now number document.now position answer.old (nodes_of result answer.new) }
+    ensures { NodesAnswered case.now number document.now position answer.old (buffer_of result answer.new) }
 {
-    cadwezin::cadwezin_nodes(case, number, document, position, answer)
+    cadwezin::cadwezin_nodes(case, number, document, position, answer).into()
 }
 
 // The paths of each node of the pattern that the number names.
 #[unsafe(no_mangle)]
 pub extern "C" fn cadwezin_paths(case: &[u8], number: u64) -> PathsAnswer
-    ensures { PathsAnswered case.now number (paths_of result) }
+    ensures { PathsAnswered case.now number (paths_in result) }
 {
-    cadwezin::cadwezin_paths(case, number)
+    cadwezin::cadwezin_paths(case, number).into()
 }
 
 // Lay out a canonical document: its nodes fill the front of the lent table, and the node count is the result.
@@ -84,34 +79,34 @@ pub extern "C" fn cadwezin_layout(
     list: &[u8],
     table: &mut [NodeRecord],
 ) -> CountAnswer
-    ensures { LayoutAnswered case.now number list.now (records_in table.old) (layout_of result table.new) }
+    ensures { LayoutAnswered case.now number list.now (records_in table.old) (table_of result table.new) }
 {
-    cadwezin::cadwezin_layout(case, number, list, table)
+    let r = cadwezin::cadwezin_layout(case, number, list, table); CountAnswer { refused: r.refused, count: r.count }
 }
 
 // An old case, in document 01's form, becomes the same case with a set of one, at the front of the answer buffer.
 #[unsafe(no_mangle)]
-pub extern "C" fn cadwezin_upgrade(case: &[u8], answer: &mut [u8]) -> Moved
-    ensures { UpgradeAnswered case.now answer.old (moved_of result answer.new) }
+pub extern "C" fn cadwezin_upgrade(case: &[u8], answer: &mut [u8]) -> CountAnswer
+    ensures { UpgradeAnswered case.now answer.old (buffer_of result answer.new) }
 {
-    cadwezin::cadwezin_upgrade(case, answer)
+    let r = cadwezin::cadwezin_upgrade(case, answer); CountAnswer { refused: r.refused, count: r.count }
 }
 
 // A case with a set of one goes back to the old form, at the front of the answer buffer.
 #[unsafe(no_mangle)]
-pub extern "C" fn cadwezin_downgrade(case: &[u8], answer: &mut [u8]) -> Moved
-    ensures { DowngradeAnswered case.now answer.old (moved_of result answer.new) }
+pub extern "C" fn cadwezin_downgrade(case: &[u8], answer: &mut [u8]) -> CountAnswer
+    ensures { DowngradeAnswered case.now answer.old (buffer_of result answer.new) }
 {
-    cadwezin::cadwezin_downgrade(case, answer)
+    let r = cadwezin::cadwezin_downgrade(case, answer); CountAnswer { refused: r.refused, count: r.count }
 }
 
 // The case in its one way of writing, at the front of the answer buffer: two are written alike exactly when renumbering nodes turns one
 // into the other.
 #[unsafe(no_mangle)]
-pub extern "C" fn cadwezin_normalise(case: &[u8], answer: &mut [u8]) -> Moved
-    ensures { NormaliseAnswered case.now answer.old (moved_of result answer.new) }
+pub extern "C" fn cadwezin_normalise(case: &[u8], answer: &mut [u8]) -> CountAnswer
+    ensures { NormaliseAnswered case.now answer.old (buffer_of result answer.new) }
 {
-    cadwezin::cadwezin_normalise(case, answer)
+    let r = cadwezin::cadwezin_normalise(case, answer); CountAnswer { refused: r.refused, count: r.count }
 }
 
 // Strike from the first pattern what it need not say, by verdicts within the limit. The shortened pattern's section, then a count and the
@@ -124,9 +119,9 @@ pub extern "C" fn cadwezin_minimise(
     caller: u64,
     tallies: &mut Tallies,
     answer: &mut [u8],
-) -> Minimised
+) -> MinimiseAnswer
     ensures { TalliedMinimised case.now limit caller tallies.old.counts answer.old
         (exported_strikes result answer.new tallies.new) }
 {
-    cadwezin::minimise::cadwezin_minimise(case, limit, caller, tallies, answer)
+    cadwezin::minimise::cadwezin_minimise(case, limit, caller, tallies, answer).into()
 }

@@ -14,6 +14,11 @@ use Rattle.model.specs.Bytes.{case_of, document_of, encode_counted, written_at_f
 use Rattle.model.specs.Questions.{selected, nodes_refusal}
 use Rattle.model.specs.Calls.{nodes_accepted}
 use Rattle.model.specs.Demands.{NodesAnswered}
+use Rattle.std.specs.Prelude.{Ok, Err}
+use Rattle.questions.specs.Refusal.{number_of}
+use Rattle.questions.specs.declared.refusal.Refusal.{Refusal}
+use Rattle.questions.proofs.RefusalLaws.{number-not_zero}
+use Rattle.calls.specs.Answers.{nodes_of}
 use Rattle.model.proofs.ListLaws.{length-keep, length-up_from}
 use Rattle.model.proofs.Bytes.{front-written}
 use Rattle.model.proofs.CallFacts.{NodesFacts}
@@ -42,19 +47,19 @@ module _ {b : List ℕ} {s : ℕ} {w : List ℕ} {p bytes : ℕ} (F : NodesFacts
 
 -- ---- the outcome
 
-module _ (b : List ℕ) (s : ℕ) (w : List ℕ) (p : ℕ) (buffer : List ℕ) {number : ℕ} (e : number ≡ nodes_refusal b s w p (length buffer)) where
-  pub nodes-no : (number ≡ 0 → ⊥) → NodesAnswered b s w p buffer (record { answer = record { refused = number; count = 0 }; buffer = buffer })
-  nodes-no f =
+module _ (b : List ℕ) (s : ℕ) (w : List ℕ) (p : ℕ) (buffer : List ℕ) where
+  pub nodes-no : (r : Refusal) → number_of r ≡ nodes_refusal b s w p (length buffer) → NodesAnswered b s w p buffer (nodes_of (Err r) buffer)
+  nodes-no r e =
       nodes-answered b s w p buffer
-      ((λ i. record { answer = record { refused = e i; count = 0 }; buffer = buffer }) ∙ sym (nodes-refused b s w p buffer (λ z. f (e ∙ z))))
+      ((λ i. record { answer = record { refused = e i; count = 0 }; buffer = buffer }) ∙ sym (nodes-refused b s w p buffer (λ z. number-not_zero r (e ∙ z))))
 
-  pub nodes-yes : number ≡ 0 → {P : Pattern} {count : ℕ} {out after : List ℕ} (out₀ : List ℕ) → selected (case_of b) s ≡ P
+  pub nodes-yes : 0 ≡ nodes_refusal b s w p (length buffer) → {P : Pattern} {count : ℕ} {out after : List ℕ} (out₀ : List ℕ) → selected (case_of b) s ≡ P
       → (count ≡ length (nodes_at P (document_of w) p)) × (out ≡ written_at_front (nodes_at P (document_of w) p) out₀) → after ≡ written_at_front (encode_counted (take count out)) buffer
-      → NodesAnswered b s w p buffer (record { answer = record { refused = 0; count = count }; buffer = after })
+      → NodesAnswered b s w p buffer (nodes_of (Ok count) after)
   unfolding nodes_accepted
-  nodes-yes z {P} out₀ same found a =
+  nodes-yes e {P} out₀ same found a =
       let nodes : List ℕ = nodes_at P (document_of w) p in
       let kept = a ∙ ap (λ (l : List ℕ). written_at_front (encode_counted l) buffer) ((λ i. take (found.0 i) (found.1 i)) ∙ front-written nodes out₀) in
       nodes-answered b s w p buffer
       ((λ i. record { answer = record { refused = 0; count = found.0 i }; buffer = kept i })
-      ∙ sym (nodes-accepted b s w p buffer (sym e ∙ z) ∙ ap (λ (Q : Pattern). nodes_accepted (nodes_at Q (document_of w) p) buffer) same))
+      ∙ sym (nodes-accepted b s w p buffer (sym e) ∙ ap (λ (Q : Pattern). nodes_accepted (nodes_at Q (document_of w) p) buffer) same))

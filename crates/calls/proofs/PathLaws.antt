@@ -14,25 +14,30 @@ use Rattle.model.specs.Demands.{PathsAnswered}
 use Rattle.model.proofs.Results.{path-count-ones}
 use Rattle.model.proofs.Calls.{paths-refused, paths-accepted}
 use Rattle.model.proofs.Demands.{paths-answered}
+use Rattle.std.specs.Prelude.{Ok, Err}
+use Rattle.questions.specs.Refusal.{number_of}
+use Rattle.questions.specs.declared.refusal.Refusal.{Refusal}
+use Rattle.questions.proofs.RefusalLaws.{number-not_zero}
+use Rattle.calls.specs.Answers.{paths_of}
 use Rattle.format.proofs.RangeLaws.{get_or-map-below, map-below-ext}
 
 -- ---- the answer
 
-module _ (b : List ℕ) (s : ℕ) {r : ℕ} (e : r ≡ paths_refusal b s) where
-  pub paths-no : (r ≡ 0 → ⊥) → PathsAnswered b s (record { refused = r; masks = replicate 16 0; counts = replicate 16 0 })
-  paths-no f =
+module _ (b : List ℕ) (s : ℕ) where
+  pub paths-no : (r : Refusal) → number_of r ≡ paths_refusal b s → PathsAnswered b s (paths_of (Err r))
+  paths-no r e =
       paths-answered b s
-      ((λ i. record { refused = e i; masks = replicate 16 0; counts = replicate 16 0 }) ∙ sym (paths-refused b s (λ z. f (e ∙ z))))
+      ((λ i. record { refused = e i; masks = replicate 16 0; counts = replicate 16 0 }) ∙ sym (paths-refused b s (λ z. number-not_zero r (e ∙ z))))
 
   -- P is the pattern where the number gives it
-  pub paths-yes : r ≡ 0 → {P : Pattern} {masks counts : List ℕ} → selected (case_of b) s ≡ P → masks ≡ map (path_mask (case_of b).summary P) (up_from 0 16)
+  pub paths-yes : 0 ≡ paths_refusal b s → {P : Pattern} {masks counts : List ℕ} → selected (case_of b) s ≡ P → masks ≡ map (path_mask (case_of b).summary P) (up_from 0 16)
       → counts ≡ map (λ q. ones (get_or masks q 0)) (up_from 0 16)
-      → PathsAnswered b s (record { refused = 0; masks = masks; counts = counts })
+      → PathsAnswered b s (paths_of (Ok (record { masks = masks; counts = counts })))
   unfolding paths_accepted
-  paths-yes z {P} {masks} same m c =
+  paths-yes e {P} {masks} same m c =
       let n = c ∙ map-below-ext (λ q. ones (get_or masks q 0)) (path_count (case_of b).summary P) 16 (λ q h. counted q h) in
       paths-answered b s
-      ((λ i. record { refused = 0; masks = m i; counts = n i }) ∙ sym (paths-accepted b s (sym e ∙ z) ∙ ap (paths_accepted (case_of b).summary) same))
+      ((λ i. record { refused = 0; masks = m i; counts = n i }) ∙ sym (paths-accepted b s (sym e) ∙ ap (paths_accepted (case_of b).summary) same))
     where
       counted : (q : ℕ) → q < 16 → ones (get_or masks q 0) ≡ path_count (case_of b).summary P q
       counted q h =

@@ -2,7 +2,6 @@
 // its questions refuse.
 #![tactic(auto)]
 
-pub mod answers;
 pub mod fits;
 pub mod nodes;
 pub mod paths;

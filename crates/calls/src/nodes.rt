@@ -3,33 +3,27 @@
 ghost use Rattle.model.specs.Demands.{NodesAnswered};
 ghost use Rattle.calls.specs.Answers.{nodes_of};
 
-use crate::answers::CountAnswer;
 use format::write::write_counted;
 use matching::outcomes::nodes_at;
-use refusals::nodes_refusal;
+use questions::refusal::Refusal;
+use refusals::ask_nodes;
 use refusals::numbered::numbered_at;
 
-// The nodes at a position in any result, written ascending after their count to the front of the answer buffer. Questions 2 to 8,
-// 10, 17, 12.
+// The nodes at a position in any result, written ascending after their count to the front of the answer buffer, and how many there are.
+// Questions 2 to 8, 10, 17, 12.
 pub fn nodes_call(
     case: &[u8],
     number: u64,
     document: &[u8],
     position: u64,
     answer: &mut [u8],
-) -> CountAnswer
+) -> Result<usize, Refusal>
     ensures { NodesAnswered case.now number document.now position answer.old (nodes_of result answer.new) }
 {
-    let refused = nodes_refusal(case, number, document, position, answer.len());
-    if refused != 0 {
-        return CountAnswer { refused, count: 0 };
-    }
+    ask_nodes(case, number, document, position, answer.len())?;
     let at = numbered_at(case, number);
     let mut nodes = [0u16; 1024];
     let count = nodes_at(case, at, document, position as usize, &mut nodes);
     write_counted(&nodes, count, answer);
-    CountAnswer {
-        refused: 0,
-        count: count as u64,
-    }
+    Ok(count)
 }

@@ -3,29 +3,24 @@
 ghost use Rattle.model.specs.Demands.{PathsAnswered};
 ghost use Rattle.calls.specs.Answers.{paths_of};
 
-use crate::answers::PathsAnswer;
 use matching::outcomes::{path_counts, path_masks};
+use questions::refusal::Refusal;
+use refusals::ask_paths;
 use refusals::numbered::numbered_at;
-use refusals::paths_refusal;
+
+// The paths of sixteen pattern nodes, bit i for summary node i, and how many each has. Entries past the last node are 0.
+#[derive(Clone, Copy)]
+pub struct Paths {
+    pub masks: [u64; 16],
+    pub counts: [u64; 16],
+}
 
 // Which paths may each node of the pattern take, and how many?
-pub fn paths_call(case: &[u8], number: u64) -> PathsAnswer
+pub fn paths_call(case: &[u8], number: u64) -> Result<Paths, Refusal>
     ensures { PathsAnswered case.now number (paths_of result) }
 {
-    let refused = paths_refusal(case, number);
-    if refused != 0 {
-        let none = [0u64; 16];
-        return PathsAnswer {
-            refused,
-            masks: none,
-            counts: none,
-        };
-    }
+    ask_paths(case, number)?;
     let masks = path_masks(case, case, numbered_at(case, number));
     let counts = path_counts(&masks);
-    PathsAnswer {
-        refused: 0,
-        masks,
-        counts,
-    }
+    Ok(Paths { masks, counts })
 }

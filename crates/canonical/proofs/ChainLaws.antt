@@ -8,7 +8,6 @@ use mathlib.Core.List.Memᴰ
 use mathlib.Core.List.{List, [], ◌∷◌, ◌++◌, append-nil, append_assoc, Memᴰ}
 use native.Mathlib.Omega.{arith}
 use lib.Bits.{bit_or}
-use lib.Count.{count_trailing_zeros}
 use lib.ListN.{length}
 use borrow.Author.Tests.{ne_eqb}
 use Rattle.model.specs.Limits.{max_summary, max_canonical}
@@ -20,10 +19,10 @@ use Rattle.model.proofs.TreeLaws.{below-cases, child-lt, length-as_document}
 use Rattle.model.proofs.Chains.{Way, end, step, way-append, at-or-below-way, chain-way, chain-self}
 use Rattle.model.proofs.Segment.{chain_spot, append-chain}
 use Rattle.bits.proofs.MaskLaws.{has-none, has-insert}
-use Rattle.bits.proofs.MaskMembers.{members-none, members-insert, first-left}
-use Rattle.canonical.specs.Draft.{Draft, Drafted, appended}
+use Rattle.bits.proofs.MaskMembers.{members-none, members-insert}
+use Rattle.canonical.specs.Draft.{Tables, Drafted, appended}
 use Rattle.canonical.specs.Given.{Hanging, Hung}
-use Rattle.canonical.proofs.DraftLaws.{SameLengths, drafted-by, drafted-append}
+use Rattle.canonical.proofs.DraftLaws.{SameLengths, appended-same, drafted-by, drafted-append}
 
 -- ---- a chain from its lower end
 
@@ -103,27 +102,24 @@ pub append-length : (q : ℕ) (spots : List Spot) (v : ℕ) (xs : List ℕ) → 
 append-length q spots v xs = (append-chain q spots v xs).size
 
 -- nodes that lead to the whole when xs are hung from v
-pub record Leading (S : Summary) (q : ℕ) (base now : Draft) (v total : ℕ) (xs : List ℕ) (whole : List Spot) : Type 0 where
+pub record Leading (S : Summary) (q : ℕ) (base now : Tables) (v total : ℕ) (xs : List ℕ) (whole : List Spot) : Type 0 where
   pub spots : List Spot
   pub drafted : Drafted S spots base now total
   pub leads : append_chain q spots v xs ≡ whole
 
--- the nodes xs are hung from w, one from the other, but for those in `rest`, the first of which is to hang from v
-pub record Chaining (S : Summary) (xs : List ℕ) (w count : ℕ) (before now : Draft) (v total rest : ℕ) : Type 0 where
-  pub fits : rest < 2 ^ 64
+-- the nodes xs are hung from w, one from the other, but for those left, the first of which is to hang from v
+pub record Chaining (S : Summary) (xs : List ℕ) (w count : ℕ) (before now : Tables) (v total : ℕ) (left : List ℕ) : Type 0 where
   pub hangs : v < total
   pub same : SameLengths now before
-  pub counted : total + length (members rest) ≡ count + length xs
-  pub room : total + length (members rest) ≤ max_canonical
-  pub inside : (x : ℕ) → Memᴰ x (members rest) → x < length S
-  pub grown : (q : ℕ) (spots : List Spot) (base : Draft) → Drafted S spots base before count → Leading S q base now v total (members rest) (append_chain q spots w xs)
+  pub counted : total + length left ≡ count + length xs
+  pub room : total + length left ≤ max_canonical
+  pub inside : (x : ℕ) → Memᴰ x left → x < length S
+  pub grown : (q : ℕ) (spots : List Spot) (base : Tables) → Drafted S spots base before count → Leading S q base now v total left (append_chain q spots w xs)
 
--- with the chain's nodes in `whole`
-pub chaining-start : {S : Summary} {a b w count whole : ℕ} {before : Draft} → IsTree (as_document S) → Hanging S a b w count → members whole ≡ chain S a b → whole < 2 ^ 64
-    → Chaining S (members whole) w count before before w count whole
-chaining-start {S} {count = count} {whole} t h e f =
+pub chaining-start : {S : Summary} {a b w count : ℕ} {xs : List ℕ} {before : Tables} → IsTree (as_document S) → Hanging S a b w count → xs ≡ chain S a b
+    → Chaining S xs w count before before w count xs
+chaining-start {S} {count = count} t h e =
     record {
-      fits = f;
       hangs = h.hangs;
       same = record { bytes = refl; on = refl; kids = refl };
       counted = refl;
@@ -132,11 +128,11 @@ chaining-start {S} {count = count} {whole} t h e f =
       grown = λ q spots base c. record { spots = spots; drafted = c; leads = refl };
     }
 
-module _ {S : Summary} {xs : List ℕ} {w count : ℕ} {before now : Draft} {v total rest : ℕ} (g : Chaining S xs w count before now v total rest) where
-  pub chaining-end : {a b : ℕ} → xs ≡ chain S a b → rest ≡ 0 → Hung S a b w count before now total
+module _ {S : Summary} {xs : List ℕ} {w count : ℕ} {before now : Tables} {v total : ℕ} {left : List ℕ} (g : Chaining S xs w count before now v total left) where
+  pub chaining-end : {a b : ℕ} → xs ≡ chain S a b → left ≡ [] → Hung S a b w count before now total
   unfolding append_chain
-  chaining-end {a} {b} e z =
-      let n : length (members rest) ≡ 0 = ap (λ (l : List ℕ). length l) none in
+  chaining-end {a} {b} e none =
+      let n : length left ≡ 0 = ap (λ (l : List ℕ). length l) none in
       let m : length xs ≡ length (chain S a b) = ap (λ (l : List ℕ). length l) e in
       record {
         counted = let k = g.counted in omega arith;
@@ -144,42 +140,35 @@ module _ {S : Summary} {xs : List ℕ} {w count : ℕ} {before now : Draft} {v t
             let l = g.grown q spots base c in
             subst (λ (T : List Spot). Drafted S T base now total) (ap (append_chain q l.spots v) (sym none) ∙ l.leads ∙ ap (append_chain q spots w) e) l.drafted;
       }
-    where
-      none : members rest ≡ []
-      none = ap members z ∙ members-none
 
-  module _ (ne : rest ≡ 0 → ⊥) {x : ℕ} (first : x ≡ count_trailing_zeros 64 rest) where
-    next : {rest' : ℕ} → rest' ≡ rest - 2 ^ x → members rest ≡ x ∷ members rest'
-    next e = first-left g.fits ne first e
-
+  -- x is the next
+  module _ {x : ℕ} {others : List ℕ} (next : left ≡ x ∷ others) where
     pub chaining-inside : x < length S
-    chaining-inside = g.inside x (subst (λ (l : List ℕ). Memᴰ x l) (sym (next refl)) (Memᴰ.head refl))
+    chaining-inside = g.inside x (subst (λ (l : List ℕ). Memᴰ x l) (sym next) (Memᴰ.head refl))
 
     pub chaining-room : total < max_canonical
     chaining-room =
-        let n : length (members rest) ≡ suc (length (members (rest - 2 ^ x))) = ap (λ (l : List ℕ). length l) (next refl) in
+        let n : length left ≡ suc (length others) = ap (λ (l : List ℕ). length l) next in
         let r = g.room in
         omega arith
 
-    -- x is appended
-    pub chaining-next : {rest' n : ℕ} {after : Draft} → length S ≤ max_summary → rest' ≡ rest - 2 ^ x → n ≡ total + 1 → after ≡ appended S now total v x → SameLengths after now
-        → Chaining S xs w count before after total n rest'
+    -- and is appended
+    pub chaining-next : {n : ℕ} {after : Tables} → length S ≤ max_summary → n ≡ total + 1 → after ≡ appended S now total v x → Chaining S xs w count before after total n others
     unfolding append_chain
-    chaining-next {rest'} few e en ea s =
-        let k : length (members rest) ≡ suc (length (members rest')) = ap (λ (l : List ℕ). length l) (next e) in
+    chaining-next {n} {after} few en ea =
+        let k : length left ≡ suc (length others) = ap (λ (l : List ℕ). length l) next in
         record {
-          fits = let f = g.fits in omega arith;
           hangs = omega arith;
-          same = let t = g.same in omega arith;
+          same = subst (λ (t : Tables). SameLengths t before) (sym ea) (let s = appended-same S now total v x in let t = g.same in omega arith);
           counted = let c = g.counted in omega arith;
           room = let r = g.room in omega arith;
-          inside = λ y m. g.inside y (subst (λ (l : List ℕ). Memᴰ y l) (sym (next e)) (Memᴰ.tail m));
+          inside = λ y m. g.inside y (subst (λ (l : List ℕ). Memᴰ y l) (sym next) (Memᴰ.tail m));
           grown = λ q spots base c.
               let l = g.grown q spots base c in
               let d = l.drafted in
               record {
                 spots = l.spots ++ chain_spot q v x ∷ [];
                 drafted = drafted-by ea en (drafted-append d (chain_spot q v x) g.hangs chaining-inside few chaining-room);
-                leads = ap (λ (k : ℕ). append_chain q (l.spots ++ chain_spot q v x ∷ []) k (members rest')) d.counted ∙ ap (append_chain q l.spots v) (sym (next e)) ∙ l.leads;
+                leads = ap (λ (k : ℕ). append_chain q (l.spots ++ chain_spot q v x ∷ []) k others) d.counted ∙ ap (append_chain q l.spots v) (sym next) ∙ l.leads;
               };
         }

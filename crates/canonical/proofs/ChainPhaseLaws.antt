@@ -18,9 +18,8 @@ use Rattle.model.proofs.ListLaws.{length-snoc}
 use Rattle.model.proofs.TreeLaws.{edge-below}
 use Rattle.model.proofs.ChainPhase.{drop-one}
 use Rattle.model.proofs.Bytes.{front_length}
-use Rattle.format.specs.Given.{summary_in, pattern_at}
 use Rattle.format.proofs.FrontLaws.{front-get_or, front-set}
-use Rattle.canonical.specs.Draft.{Draft, Drafted}
+use Rattle.canonical.specs.Draft.{Tables, Drafted}
 use Rattle.canonical.specs.Given.{embedding_in, Embedded, Hanging, Hung}
 use Rattle.canonical.proofs.DraftLaws.{each_snoc}
 use Rattle.canonical.proofs.ChainLaws.{append-length}
@@ -38,7 +37,7 @@ lay-grows es S l (r ∷ rs) =
     omega arith
 
 -- q pattern nodes are laid out: the draft holds the nodes so far, own has the own nodes so far, and the rest leads to the layout
-pub record Laying (S : Summary) (P : Pattern) (es : List ℕ) (base now : Draft) (own : List ℕ) (q count : ℕ) : Type 0 where
+pub record Laying (S : Summary) (P : Pattern) (es : List ℕ) (base now : Tables) (own : List ℕ) (q count : ℕ) : Type 0 where
   pub layout : Layout
   pub drafted : Drafted S layout.spots base now count
   pub own_front : own ≡ written_at_front layout.own (replicate 16 0)
@@ -46,7 +45,7 @@ pub record Laying (S : Summary) (P : Pattern) (es : List ℕ) (base now : Draft)
   pub own_inside : (p : ℕ) → p < q → image_in layout.own p < count
   pub rest : lay_nodes es S layout (drop q P) ≡ chains S P es
 
-pub laying-start : (S : Summary) (P : Pattern) (es : List ℕ) {base now : Draft} {count : ℕ} → Drafted S (root_spot ∷ []) base now count
+pub laying-start : (S : Summary) (P : Pattern) (es : List ℕ) {base now : Tables} {count : ℕ} → Drafted S (root_spot ∷ []) base now count
     → Laying S P es base now (replicate 16 0) 1 count
 unfolding chains written_at_front
 laying-start S P es {count = count} c =
@@ -60,11 +59,11 @@ laying-start S P es {count = count} c =
     }
 
 -- the own nodes' table keeps its length
-pub laying-own : {S : Summary} {P : Pattern} {es : List ℕ} {base now : Draft} {own : List ℕ} {q count : ℕ} → Laying S P es base now own q count → q ≤ max_pattern → length own ≡ max_pattern
+pub laying-own : {S : Summary} {P : Pattern} {es : List ℕ} {base now : Tables} {own : List ℕ} {q count : ℕ} → Laying S P es base now own q count → q ≤ max_pattern → length own ≡ max_pattern
 laying-own l h = ap (λ (x : List ℕ). length x) l.own_front ∙ front_length l.layout.own (replicate 16 0) (let n = l.own_length in omega arith)
 
 -- all pattern nodes are laid out
-pub laying-end : {S : Summary} {P : Pattern} {es : List ℕ} {base now : Draft} {own : List ℕ} {q count : ℕ}
+pub laying-end : {S : Summary} {P : Pattern} {es : List ℕ} {base now : Tables} {own : List ℕ} {q count : ℕ}
     → Laying S P es base now own q count → length P ≤ q → Drafted S (chains S P es).spots base now count × (own ≡ written_at_front (chains S P es).own (replicate 16 0))
 unfolding lay_nodes
 laying-end {S} {P} {es} {base} {now} {own} {q} {count} l h =
@@ -73,21 +72,15 @@ laying-end {S} {P} {es} {base} {now} {own} {q} {count} l h =
     whole : l.layout ≡ chains S P es
     whole = ap (lay_nodes es S l.layout) (sym (drop_of_length-le P h)) ∙ l.rest
 
-module _ {case : List ℕ} {at : ℕ} {images : List ℕ} (given : Embedded case at images) where
-  abbrev S : Summary
-  S = summary_in case
-
-  abbrev P : Pattern
-  P = pattern_at case at
-
+module _ {S : Summary} {P : Pattern} {images : List ℕ} (given : Embedded S P images) where
   abbrev es : List ℕ
-  es = embedding_in case at images
+  es = embedding_in P images
 
   -- an image, by the table that is lent
   image : (k : ℕ) → k < length P → get_or images k 0 ≡ image_in es k
   image k h = sym (get_or-take (length P) images k 0 h)
 
-  module _ {base now : Draft} {own : List ℕ} {q count : ℕ} (l : Laying S P es base now own q count) (positive : 0 < q) (inside : q < length P) where
+  module _ {base now : Tables} {own : List ℕ} {q count : ℕ} (l : Laying S P es base now own q count) (positive : 0 < q) (inside : q < length P) where
     abbrev p : ℕ
     p = pattern_parent P q
 
@@ -160,7 +153,7 @@ module _ {case : List ℕ} {at : ℕ} {images : List ℕ} (given : Embedded case
       next-hanging = rw (r.above, r.below, r.from) next-chain
 
       -- and then the next node's own node is the last
-      module _ {after : Draft} {n : ℕ} (u : Hung S a b h count now after n) where
+      module _ {after : Tables} {n : ℕ} (u : Hung S a b h count now after n) where
         grown : Drafted S next_layout.spots base after n
         grown =
             subst (λ (t : List Spot). Drafted S t base after n) (sym (next-spots ∙ same)) (u.grown q l.layout.spots base l.drafted)
@@ -205,8 +198,7 @@ module _ {case : List ℕ} {at : ℕ} {images : List ℕ} (given : Embedded case
 
 -- ---- the loop over the pattern's nodes, from what is laid out where it begins
 
-pub record Going (case : List ℕ) (at : ℕ) (images : List ℕ) (before now : Draft) (own₀ own : List ℕ) (count₀ count q : ℕ) : Type 0 where
+pub record Going (S : Summary) (P : Pattern) (images : List ℕ) (before now : Tables) (own₀ own : List ℕ) (count₀ count q : ℕ) : Type 0 where
   pub positive : 0 < q
-  pub turns : q ≤ length (pattern_at case at)
-  pub laying : (base : Draft) → Laying (summary_in case) (pattern_at case at) (embedding_in case at images) base before own₀ 1 count₀
-      → Laying (summary_in case) (pattern_at case at) (embedding_in case at images) base now own q count
+  pub turns : q ≤ length P
+  pub laying : (base : Tables) → Laying S P (embedding_in P images) base before own₀ 1 count₀ → Laying S P (embedding_in P images) base now own q count

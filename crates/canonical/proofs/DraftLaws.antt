@@ -10,7 +10,7 @@ use native.Mathlib.Numerals.{add-one}
 use lib.Bits.{bit_or}
 use lib.Dec.{eqb, ltb}
 use lib.ListN.{length, get_or, drop, set, length-set, length-map, get_or-append}
-use lib.Seq.{sets, get_or-append_seam, get_or-set_same, get_or-set_other, set-append_left, ext_get_or}
+use lib.Seq.{sets, length-sets, get_or-append_seam, get_or-set_same, get_or-set_other, set-append_left, ext_get_or}
 use borrow.Author.Tests.{eqb-true, eqb-false, eq-eqb, ne_eqb, ltb-true, ltb-false, lt-ltb}
 use Rattle.model.specs.Limits.{min_table, max_summary, max_canonical}
 use Rattle.model.specs.Lists.{up_from, any_of, has}
@@ -27,8 +27,8 @@ use Rattle.bits.proofs.MaskLaws.{mask-has, mask-agree, mask-insert, any_snoc}
 use Rattle.format.proofs.RangeLaws.{up_from-last, map_last, map-below-ext, get_or-map-below}
 use Rattle.format.proofs.FrontLaws.{front-get_or, front-set}
 use Rattle.format.proofs.WriteLaws.{flat_map-append, Written, written_none, written-put, document-fields}
-use Rattle.format.specs.Given.{summary_in, SummaryGiven}
-use Rattle.canonical.specs.Draft.{Draft, Roomy, draft, no_figure, draft_fields, child_mask, child_masks, Drafted, appended}
+use Rattle.format.specs.Given.{SummaryKept}
+use Rattle.canonical.specs.Draft.{Tables, Roomy, tables_of, no_figure, draft_fields, child_mask, child_masks, Drafted, appended}
 
 -- ---- lists
 
@@ -213,19 +213,24 @@ count-put n fs b = refl
 -- ---- the draft
 
 -- equal drafts hold the same
-pub drafted-by : {S : Summary} {spots : List Spot} {base now later : Draft} {count n : ℕ} → later ≡ now → n ≡ count → Drafted S spots base now count → Drafted S spots base later n
-drafted-by {S} {spots} {base} e f c = subst₂ (λ (t : Draft) (k : ℕ). Drafted S spots base t k) (sym e) (sym f) c
+pub drafted-by : {S : Summary} {spots : List Spot} {base now later : Tables} {count n : ℕ} → later ≡ now → n ≡ count → Drafted S spots base now count → Drafted S spots base later n
+drafted-by {S} {spots} {base} e f c = subst₂ (λ (t : Tables) (k : ℕ). Drafted S spots base t k) (sym e) (sym f) c
 
 -- drafts of the same lengths
-pub record SameLengths (t u : Draft) : Type 0 where
+pub record SameLengths (t u : Tables) : Type 0 where
   pub bytes : length t.bytes ≡ length u.bytes
   pub on : length t.on ≡ length u.on
   pub kids : length t.kids ≡ length u.kids
 
-pub roomy-same : {t u : Draft} → SameLengths u t → Roomy t → Roomy u
+-- one node more, in tables of the same lengths
+pub appended-same : (S : Summary) (t : Tables) (count v x : ℕ) → SameLengths (appended S t count v x) t
+appended-same S t count v x =
+    record { bytes = simp length-sets; on = simp length-set; kids = simp length-set }
+
+pub roomy-same : {t u : Tables} → SameLengths u t → Roomy t → Roomy u
 roomy-same s r = omega arith
 
-module _ {S : Summary} {spots : List Spot} {base now : Draft} {count : ℕ} (c : Drafted S spots base now count) where
+module _ {S : Summary} {spots : List Spot} {base now : Tables} {count : ℕ} (c : Drafted S spots base now count) where
   written : Written (draft_fields S spots) base.bytes now.bytes (1 + 3 * count)
   written =
       let n = fields-length S spots in
@@ -341,16 +346,16 @@ unfolding written_at_front
 front-one b x h = front-set [] b x h
 
 -- two drafts over one base
-pub drafted-same : {S : Summary} {spots later : List Spot} {base now then : Draft} {count n : ℕ} → Drafted S spots base now count → Drafted S later base then n → SameLengths then now
+pub drafted-same : {S : Summary} {spots later : List Spot} {base now then : Tables} {count n : ℕ} → Drafted S spots base now count → Drafted S later base then n → SameLengths then now
 drafted-same c d = let a = drafted-lengths c in let b = drafted-lengths d in omega arith
 
-pub summary-some : {b : List ℕ} → SummaryGiven b → 0 < length (summary_in b)
-summary-some {b} g = subst (λ (n : ℕ). 0 < n) (length-as_document (summary_in b)) g.tree.inhabited
+pub summary-some : {S : Summary} → SummaryKept S → 0 < length S
+summary-some {S} g = subst (λ (n : ℕ). 0 < n) (length-as_document S) g.tree.inhabited
 
 -- the root alone
-pub drafted-root : {S : Summary} {base : Draft} {b₁ b₂ b₃ b₄ : List ℕ} {label : ℕ} → Roomy base → 0 < length S → b₁ ≡ sets base.bytes 0 (field_bytes 0) → b₂ ≡ sets b₁ 2 (field_bytes 0)
+pub drafted-root : {S : Summary} {base : Tables} {b₁ b₂ b₃ b₄ : List ℕ} {label : ℕ} → Roomy base → 0 < length S → b₁ ≡ sets base.bytes 0 (field_bytes 0) → b₂ ≡ sets b₁ 2 (field_bytes 0)
     → b₃ ≡ sets b₂ 4 (field_bytes label) → label ≡ summary_label S 0 → b₄ ≡ sets b₃ 6 (field_bytes 0)
-    → Drafted S (root_spot ∷ []) base (draft b₄ (set base.on 0 0) (set base.kids 0 0)) 1
+    → Drafted S (root_spot ∷ []) base (tables_of b₄ (set base.on 0 0) (set base.kids 0 0)) 1
 unfolding flat_map spot_records up_from
 drafted-root {S} {base} {b₂ = b₂} r some e₁ e₂ e₃ e e₄ =
     let room = r.bytes in

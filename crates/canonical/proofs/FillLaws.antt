@@ -7,7 +7,6 @@ use mathlib.Core.List.Memᴰ
 use mathlib.Core.List.{List, [], ◌∷◌, ◌++◌, append-nil, append_assoc, Memᴰ}
 use native.Mathlib.Omega.{arith}
 use native.Mathlib.Numerals.{add-one}
-use lib.Count.{count_trailing_zeros}
 use lib.Dec.{ltb}
 use lib.ListN.{length, get_or}
 use borrow.Author.Tests.{lt-ltb, le-ltb}
@@ -21,8 +20,7 @@ use Rattle.model.proofs.ListLaws.{length-snoc}
 use Rattle.model.proofs.TreeLaws.{length-as_document}
 use Rattle.model.proofs.Fitting.{strong-children-exact}
 use Rattle.model.proofs.Strong.{strong-members}
-use Rattle.bits.proofs.MaskMembers.{members-none, first-left}
-use Rattle.canonical.specs.Draft.{Draft, Drafted, appended}
+use Rattle.canonical.specs.Draft.{Tables, Drafted, appended}
 use Rattle.canonical.specs.Given.{Missing, Visitable, Fillable}
 use Rattle.canonical.proofs.DraftLaws.{drafted-on, drafted-child, drafted-append}
 
@@ -82,7 +80,7 @@ module _ (spots : List Spot) (v t : ℕ) where
   unfolding add_missing
   add-new h = rw (h, add_missing)
 
-module _ {S : Summary} (few : length S ≤ max_summary) {spots : List Spot} {base now : Draft} {count : ℕ} (c : Drafted S spots base now count) (v t : ℕ) (inside : v < count)
+module _ {S : Summary} (few : length S ≤ max_summary) {spots : List Spot} {base now : Tables} {count : ℕ} (c : Drafted S spots base now count) (v t : ℕ) (inside : v < count)
     (small : t < length S) where
   there : {b : Bool} → has (get_or now.kids v 0) t ≡ b → has_child_on spots v t ≡ b
   there h = sym (drafted-child c v t inside (omega arith)) ∙ h
@@ -106,40 +104,38 @@ module _ {S : Summary} (few : length S ≤ max_summary) {spots : List Spot} {bas
 -- ---- one visit
 
 -- the summary node of a node that is visited
-pub visitable-on : {S : Summary} {spots : List Spot} {base now : Draft} {v count : ℕ} → Visitable S spots base now v count → (s : ℕ) → s ≡ get_or now.on v 0 → s < length S
+pub visitable-on : {S : Summary} {spots : List Spot} {base now : Tables} {v count : ℕ} → Visitable S spots base now v count → (s : ℕ) → s ≡ get_or now.on v 0 → s < length S
 visitable-on {S} {spots} {v = v} m s e =
     let q = m.drafted.counted in
     let i = m.inside in
     subst (λ (x : ℕ). x < length S) (sym (e ∙ drafted-on m.drafted v i)) (m.drafted.inside v (omega arith)).1
 
--- v has its children on the strong children `done`; those in `rest` are left
-pub record Visiting (S : Summary) (v count : ℕ) (before now : Draft) (total rest : ℕ) : Type 0 where
-  pub fits : rest < 2 ^ 64
+-- v has its children on the strong children `done`; the others are left
+pub record Visiting (S : Summary) (v count : ℕ) (before now : Tables) (total : ℕ) (left : List ℕ) : Type 0 where
   pub done : List ℕ
-  pub all : done ++ members rest ≡ strong_children S (get_or before.on v 0)
-  pub drafted : (spots : List Spot) (base : Draft) → Drafted S spots base before count → Drafted S (add_all spots v done) base now total
+  pub all : done ++ left ≡ strong_children S (get_or before.on v 0)
+  pub drafted : (spots : List Spot) (base : Tables) → Drafted S spots base before count → Drafted S (add_all spots v done) base now total
 
 -- s is the summary node that is read
-pub visiting-start : {S : Summary} {v count s rest : ℕ} {before : Draft} {strong : List ℕ} → length S ≤ max_summary → s < length S → s ≡ get_or before.on v 0 → strong ≡ strong_table S
-    → rest ≡ get_or strong s 0 → rest < 2 ^ 64 → Visiting S v count before before count rest
+pub visiting-start : {S : Summary} {v count s rest : ℕ} {before : Tables} {left : List ℕ} → length S ≤ max_summary → s < length S → s ≡ get_or before.on v 0
+    → rest ≡ get_or (strong_table S) s 0 → left ≡ members rest → Visiting S v count before before count left
 unfolding add_all
-visiting-start {S} {s = s} few h e t r w =
+visiting-start {S} {s = s} few h e r l =
     record {
-      fits = w;
       done = [];
-      all = ap members (r ∙ ap (λ (l : List ℕ). get_or l s 0) t) ∙ strong-members S s (omega arith) few ∙ ap (strong_children S) e;
+      all = l ∙ ap members r ∙ strong-members S s (omega arith) few ∙ ap (strong_children S) e;
       drafted = λ spots base c. c;
     }
 
-module _ {S : Summary} {v count : ℕ} {before now : Draft} {total rest : ℕ} (g : Visiting S v count before now total rest) where
+module _ {S : Summary} {v count : ℕ} {before now : Tables} {total : ℕ} {left : List ℕ} (g : Visiting S v count before now total left) where
   -- a visit of v asks for all of them
-  asked : {spots : List Spot} {base : Draft} → Drafted S spots base before count → v < count → strong_children S (get_or before.on v 0) ≡ strong_children S (spot_at spots v)
+  asked : {spots : List Spot} {base : Tables} → Drafted S spots base before count → v < count → strong_children S (get_or before.on v 0) ≡ strong_children S (spot_at spots v)
   asked c inside = ap (strong_children S) (drafted-on c v inside)
 
-  module _ (ne : rest ≡ 0 → ⊥) {t : ℕ} (first : t ≡ count_trailing_zeros 64 rest) where
-    -- t is the next
-    next : g.done ++ t ∷ members (rest - 2 ^ t) ≡ strong_children S (get_or before.on v 0)
-    next = ap (λ (l : List ℕ). g.done ++ l) (sym (first-left g.fits ne first refl)) ∙ g.all
+  -- t is the next
+  module _ {t : ℕ} {others : List ℕ} (first : left ≡ t ∷ others) where
+    next : g.done ++ t ∷ others ≡ strong_children S (get_or before.on v 0)
+    next = ap (λ (l : List ℕ). g.done ++ l) (sym first) ∙ g.all
 
     pub visiting-inside : t < length S
     visiting-inside =
@@ -147,51 +143,48 @@ module _ {S : Summary} {v count : ℕ} {before now : Draft} {total rest : ℕ} (
         ((strong-children-exact S (get_or before.on v 0) t).0 (subst (λ (l : List ℕ). Memᴰ t l) next (Memᴰ.append_right g.done (Memᴰ.head refl)))).child.inside
 
     -- the draft has room for it
-    pub visiting-missing : {spots : List Spot} {base : Draft} → Visitable S spots base before v count → Missing S (add_all spots v g.done) base now v t total
+    pub visiting-missing : {spots : List Spot} {base : Tables} → Visitable S spots base before v count → Missing S (add_all spots v g.done) base now v t total
     unfolding fill_node add_all
     visiting-missing {spots} {base} m =
         let d : Drafted S (add_all spots v g.done) base now total = g.drafted spots base m.drafted in
         let a : length spots ≤ length (add_all spots v g.done) = add-grows spots v g.done in
-        let b : length (add_missing (add_all spots v g.done) v t) ≤ length (add_all (add_all spots v g.done) v (t ∷ members (rest - 2 ^ t))) =
-        add-grows (add_missing (add_all spots v g.done) v t) v (members (rest - 2 ^ t)) in
-        let n : length (add_all (add_all spots v g.done) v (t ∷ members (rest - 2 ^ t))) ≡ length (fill_node S spots v) =
-        ap (λ (x : List Spot). length x) (sym (add-append spots v g.done (t ∷ members (rest - 2 ^ t))) ∙ ap (add_all spots v) (next ∙ asked m.drafted m.inside)) in
+        let b : length (add_missing (add_all spots v g.done) v t) ≤ length (add_all (add_all spots v g.done) v (t ∷ others)) =
+        add-grows (add_missing (add_all spots v g.done) v t) v others in
+        let n : length (add_all (add_all spots v g.done) v (t ∷ others)) ≡ length (fill_node S spots v) =
+        ap (λ (x : List Spot). length x) (sym (add-append spots v g.done (t ∷ others)) ∙ ap (add_all spots v) (next ∙ asked m.drafted m.inside)) in
         let i = m.inside in
         let r = m.room in
         let p = m.drafted.counted in
         let q = d.counted in
         record { drafted = d; inside = omega arith; room = omega arith }
 
-    pub visiting-next : {rest' m : ℕ} {after : Draft} → rest' ≡ rest - 2 ^ t
-        → ((spots : List Spot) (base : Draft) → Drafted S spots base now total → Drafted S (add_missing spots v t) base after m)
-        → Visiting S v count before after m rest'
+    pub visiting-next : {m : ℕ} {after : Tables} → ((spots : List Spot) (base : Tables) → Drafted S spots base now total → Drafted S (add_missing spots v t) base after m)
+        → Visiting S v count before after m others
     unfolding add_all
-    visiting-next {rest'} {m} {after} e f =
+    visiting-next {m} {after} f =
         record {
-          fits = let w = g.fits in omega arith;
           done = g.done ++ t ∷ [];
-          all = append_assoc g.done (t ∷ []) (members rest') ∙ ap (λ (x : ℕ). g.done ++ t ∷ members x) e ∙ next;
+          all = append_assoc g.done (t ∷ []) others ∙ next;
           drafted = λ spots base c.
               subst (λ (x : List Spot). Drafted S x base after m) (sym (add-append spots v g.done (t ∷ []))) (f (add_all spots v g.done) base (g.drafted spots base c));
         }
 
-  pub visiting-end : v < count → rest ≡ 0 → (spots : List Spot) (base : Draft) → Drafted S spots base before count → Drafted S (fill_node S spots v) base now total
+  pub visiting-end : v < count → left ≡ [] → (spots : List Spot) (base : Tables) → Drafted S spots base before count → Drafted S (fill_node S spots v) base now total
   unfolding fill_node
-  visiting-end inside z spots base c =
-      let none : members rest ≡ [] = ap members z ∙ members-none in
+  visiting-end inside none spots base c =
       subst (λ (ts : List ℕ). Drafted S (add_all spots v ts) base now total)
       (sym (append-nil g.done) ∙ ap (λ (l : List ℕ). g.done ++ l) (sym none) ∙ g.all ∙ asked c inside) (g.drafted spots base c)
 
 -- ---- all visits
 
 -- nodes below v are visited; the visits to come reach the end
-pub record Filling (S : Summary) (spots₀ : List Spot) (base now : Draft) (k v count : ℕ) : Type 0 where
+pub record Filling (S : Summary) (spots₀ : List Spot) (base now : Tables) (k v count : ℕ) : Type 0 where
   pub spots : List Spot
   pub drafted : Drafted S spots base now count
   pub visited : v ≤ count
   pub rest : fill_from (k - v) S spots v ≡ fill_from k S spots₀ 0
 
-pub filling-start : (S : Summary) {spots : List Spot} {base now : Draft} {count : ℕ} (k : ℕ) → Drafted S spots base now count → Filling S spots base now k 0 count
+pub filling-start : (S : Summary) {spots : List Spot} {base now : Tables} {count : ℕ} (k : ℕ) → Drafted S spots base now count → Filling S spots base now k 0 count
 filling-start S {spots} k c =
     record { spots = spots; drafted = c; visited = omega arith; rest = ap (λ (j : ℕ). fill_from j S spots 0) (let z : k - 0 ≡ k = omega arith in z) }
 
@@ -204,7 +197,7 @@ unfolding fill_from
 fill-over zero S spots v h = refl
 fill-over (suc k) S spots v h = rw (le-ltb v (length spots) h, fill_from)
 
-module _ {S : Summary} {spots₀ : List Spot} {base before now : Draft} {count₀ k v count : ℕ}
+module _ {S : Summary} {spots₀ : List Spot} {base before now : Tables} {count₀ k v count : ℕ}
     (given : Fillable S spots₀ base before count₀ k) (f : Filling S spots₀ base now k v count) where
   pub filling-end : count ≤ v → Drafted S (fill_from k S spots₀ 0) base now count
   filling-end h =
@@ -236,7 +229,7 @@ module _ {S : Summary} {spots₀ : List Spot} {base before now : Draft} {count�
         let r = given.room in
         record { drafted = f.drafted; inside = inside; room = omega arith }
 
-    pub filling-next : {after : Draft} {m : ℕ} → Drafted S (fill_node S f.spots v) base after m → Filling S spots₀ base after k (v + 1) m
+    pub filling-next : {after : Tables} {m : ℕ} → Drafted S (fill_node S f.spots v) base after m → Filling S spots₀ base after k (v + 1) m
     filling-next c =
         let g : length f.spots ≤ length (fill_node S f.spots v) = fill-node-grows S f.spots v in
         let p = f.drafted.counted in

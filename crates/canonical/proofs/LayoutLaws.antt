@@ -16,23 +16,16 @@ use Rattle.model.proofs.Bytes.{front_length}
 use Rattle.model.proofs.Figures.{own-apart}
 use Rattle.model.proofs.Built.{Built}
 use Rattle.model.proofs.Canonical.{length-canonical, canonical-built, canonical-laid, canonical-spots-few, canonical-small}
-use Rattle.format.specs.Given.{summary_in, pattern_at}
-use Rattle.canonical.specs.Draft.{Draft, Drafted}
+use Rattle.canonical.specs.Draft.{Tables, Drafted}
 use Rattle.format.proofs.FrontLaws.{front-get_or}
 use Rattle.canonical.specs.Given.{embedding_in, Embedded, Fillable, Figureless, Figured, WrittenOut}
 use Rattle.canonical.proofs.DraftLaws.{drafted-section}
 use Rattle.canonical.proofs.FillLaws.{fill-grows}
 use Rattle.canonical.proofs.FigureLaws.{figures-agree}
 
-module _ {case : List ℕ} {at : ℕ} {images : List ℕ} (h : Embedded case at images) where
-  abbrev S : Summary
-  S = summary_in case
-
-  abbrev P : Pattern
-  P = pattern_at case at
-
+module _ {S : Summary} {P : Pattern} {images : List ℕ} (h : Embedded S P images) where
   abbrev es : List ℕ
-  es = embedding_in case at images
+  es = embedding_in P images
 
   pub spots-few : length (canonical_spots S P es) ≤ max_canonical
   spots-few =
@@ -48,7 +41,7 @@ module _ {case : List ℕ} {at : ℕ} {images : List ℕ} (h : Embedded case at 
       omega arith
 
   -- filling up goes on to its end
-  pub chains-fillable : {base now : Draft} {count : ℕ} → Drafted S (chains S P es).spots base now count
+  pub chains-fillable : {base now : Tables} {count : ℕ} → Drafted S (chains S P es).spots base now count
       → Fillable S (chains S P es).spots base now count (node_bound S P)
   unfolding canonical_spots
   chains-fillable c = record { drafted = c; ends = canonical-spots-few S P es h.summary.tree h.pattern.tree h.embedding; room = spots-few }
@@ -71,7 +64,7 @@ module _ {case : List ℕ} {at : ℕ} {images : List ℕ} (h : Embedded case at 
         ∙ front-get_or (chains S P es).own (replicate 16 0) q 0 (let n : length (chains S P es).own ≡ length P = built.own_length in omega arith)
 
     -- the draft is then the canonical document's; with its count it is a section without figures
-    pub written-plain : {base now : Draft} {count : ℕ} {bytes : List ℕ} → Drafted S (fill_from (node_bound S P) S (chains S P es).spots 0) base now count
+    pub written-plain : {base now : Tables} {count : ℕ} {bytes : List ℕ} → Drafted S (fill_from (node_bound S P) S (chains S P es).spots 0) base now count
         → bytes ≡ sets now.bytes 0 (field_bytes count) → Figureless S (canonical_spots S P es) P own base.bytes bytes
     unfolding canonical_spots
     written-plain c e =
@@ -90,13 +83,13 @@ module _ {case : List ℕ} {at : ℕ} {images : List ℕ} (h : Embedded case at 
         }
 
     -- and with them the canonical document's section
-    pub written_out : {base now : Draft} {count : ℕ} {bytes : List ℕ} → Drafted S (fill_from (node_bound S P) S (chains S P es).spots 0) base now count
-        → Figured S (canonical_spots S P es) P own base.bytes bytes → WrittenOut S P es base.bytes bytes base.on now.on (record { count = count; own = own })
+    pub written_out : {base now : Tables} {count n : ℕ} {bytes on : List ℕ} → Drafted S (fill_from (node_bound S P) S (chains S P es).spots 0) base now count
+        → on ≡ now.on → n ≡ count → Figured S (canonical_spots S P es) P own base.bytes bytes → WrittenOut S P es base.bytes bytes base.on on (record { count = n; own = own })
     unfolding canonical_spots canonical own_nodes
-    written_out {base} c e =
+    written_out {base} c o n e =
         record {
-          counted = c.counted;
+          counted = n ∙ c.counted;
           own = table;
           section = e ∙ ap (λ (f : ℕ → ℕ). written_at_front (encode_document (spot_records S f (canonical_spots S P es))) base.bytes) (fun_ext (figures-agree P own (own_nodes S P es) own_same));
-          nodes = c.on;
+          nodes = o ∙ c.on;
         }

@@ -6,3 +6,4 @@ pub mod LayoutLaws
 pub mod ChainPhaseLaws
 pub mod ShownLaws
 pub mod ReadBackLaws
+pub mod TableLaws

@@ -1,35 +1,28 @@
 -- What a caller has of a layout: its section is a document that the readers of documents read, since its numbers and its figures are
 -- small and its labels are 16-bit fields of the case. Assumes nothing.
-use Prim.Native.Nat.{ℕ, ◌≤◌}
+use Prim.Native.Nat.{ℕ, ◌≤◌, ◌<◌}
 use mathlib.Core.Path.{◌≡◌, sym, ap, ◌∙◌, subst}
 use mathlib.Core.List.{List}
 use native.Mathlib.Omega.{arith}
 use lib.ListN.{length}
 use Rattle.model.specs.Limits.{min_buffer, document_width}
-use Rattle.model.specs.Summary.{Summary}
+use Rattle.model.specs.Summary.{Summary, summary_label}
 use Rattle.model.specs.Pattern.{Pattern}
 use Rattle.model.specs.Facts.{FewFigures}
-use Rattle.model.specs.Bytes.{document_fields, section_fields, document_of, WholeSection, AreBytes}
+use Rattle.model.specs.Bytes.{document_fields, section_fields, document_of, WholeSection}
 use Rattle.model.specs.Canonical.{canonical_spots, canonical}
 use Rattle.model.proofs.Bytes.{FitFields}
 use Rattle.model.proofs.Canonical.{length-canonical}
-use Rattle.model.proofs.ReadBack.{label_small, canonical-fields}
-use Rattle.format.specs.Given.{summary_in, pattern_at}
+use Rattle.model.proofs.ReadBack.{canonical-fields}
 use Rattle.format.proofs.WriteLaws.{document-size}
 use Rattle.format.proofs.WrittenLaws.{written-document, written-whole}
 use Rattle.canonical.specs.Given.{embedding_in, Embedded, WrittenOut}
 use Rattle.canonical.specs.declared.LaidOut.{LaidOut}
 use Rattle.canonical.proofs.LayoutLaws.{spots-few}
 
-module _ {case : List ℕ} {at : ℕ} {images : List ℕ} (h : Embedded case at images) (small : AreBytes case) (low : FewFigures (pattern_at case at)) where
-  abbrev S : Summary
-  S = summary_in case
-
-  abbrev P : Pattern
-  P = pattern_at case at
-
+module _ {S : Summary} {P : Pattern} {images : List ℕ} (h : Embedded S P images) (small : (s : ℕ) → s < length S → summary_label S s < 65536) (low : FewFigures P) where
   abbrev es : List ℕ
-  es = embedding_in case at images
+  es = embedding_in P images
 
   size : length (canonical S P es) ≡ length (canonical_spots S P es)
   size = length-canonical S P es
@@ -38,7 +31,7 @@ module _ {case : List ℕ} {at : ℕ} {images : List ℕ} (h : Embedded case at 
   fits =
       let n = size in
       let f = spots-few h in
-      canonical-fields S P es h.summary.tree h.pattern.tree h.embedding (label_small case small) low (omega arith)
+      canonical-fields S P es h.summary.tree h.pattern.tree h.embedding small low (omega arith)
 
   module _ {bytes₀ bytes on₀ on : List ℕ} {r : LaidOut} (w : WrittenOut S P es bytes₀ bytes on₀ on r) where
     pub back-document : document_of bytes ≡ canonical S P es

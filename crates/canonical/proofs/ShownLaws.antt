@@ -16,7 +16,6 @@ use Rattle.model.proofs.ListLaws.{length-map-up_from}
 use Rattle.model.proofs.Bytes.{front_length, front-written}
 use Rattle.model.proofs.Canonical.{length-canonical, canonical-built}
 use Rattle.model.proofs.ReturnNodes.{length-return_nodes, return-at}
-use Rattle.format.specs.Given.{summary_in, pattern_at}
 use Rattle.format.proofs.FrontLaws.{front-get_or}
 use Rattle.format.proofs.RangeLaws.{get_or-map-below}
 use Rattle.format.proofs.WriteLaws.{document-size}
@@ -25,15 +24,9 @@ use Rattle.canonical.specs.Shown.{own_at, Showable}
 use Rattle.canonical.specs.declared.LaidOut.{LaidOut}
 use Rattle.canonical.proofs.LayoutLaws.{spots-few}
 
-module _ {case : List ℕ} {at : ℕ} {images : List ℕ} {k : ℕ} (h : Showable case at images k) where
-  abbrev S : Summary
-  S = summary_in case
-
-  abbrev P : Pattern
-  P = pattern_at case at
-
+module _ {S : Summary} {P : Pattern} {images : List ℕ} {k : ℕ} (h : Showable S P images k) where
   abbrev es : List ℕ
-  es = embedding_in case at images
+  es = embedding_in P images
 
   -- the node that holds a position is one of the pattern's, and so has an own node
   pub held : (i : ℕ) → i < k → node_at P (i + 1) < length P

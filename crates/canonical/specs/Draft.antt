@@ -9,18 +9,28 @@ use Rattle.model.specs.Lists.{up_from, mask_below}
 use Rattle.model.specs.Summary.{Summary, summary_label}
 use Rattle.model.specs.Bytes.{field_bytes, bytes_of, document_fields, written_at_front}
 use Rattle.model.specs.Canonical.{Spot, spot_parent, spot_at, spot_records, has_child_on}
+use Rattle.canonical.specs.declared.draft.Draft.{Draft}
 
 -- the document's section, as bytes; of each node its summary node, and the mask of the summary nodes that its children are on
-pub record Draft : Type 0 where
+pub record Tables : Type 0 where
   pub bytes : List ℕ
   pub on : List ℕ
   pub kids : List ℕ
 
-abbrev pub draft : List ℕ → List ℕ → List ℕ → Draft
-draft bytes on kids = record { bytes = bytes; on = on; kids = kids }
+abbrev pub tables_of : List ℕ → List ℕ → List ℕ → Tables
+tables_of bytes on kids = record { bytes = bytes; on = on; kids = kids }
+
+-- those of a draft, as they stand
+abbrev pub tables : Draft → Tables
+tables d = tables_of d.bytes.now d.on.now d.kids
+
+-- two drafts are over the same lent tables
+pub record SameTables (d e : Draft) : Type 0 where
+  pub bytes : e.bytes.ghost_name ≡ d.bytes.ghost_name
+  pub on : e.on.ghost_name ≡ d.on.ghost_name
 
 -- as long as any canonical document needs
-pub record Roomy (t : Draft) : Type 0 where
+pub record Roomy (t : Tables) : Type 0 where
   pub bytes : min_buffer ≤ length t.bytes
   pub on : min_table ≤ length t.on
   pub kids : min_table ≤ length t.kids
@@ -41,7 +51,7 @@ unfoldable pub child_masks : List Spot → List ℕ
 child_masks spots = map (child_mask spots) (up_from 0 (length spots))
 
 -- the fronts hold the count nodes of spots, and after them stands what base has there
-pub record Drafted (S : Summary) (spots : List Spot) (base now : Draft) (count : ℕ) : Type 0 where
+pub record Drafted (S : Summary) (spots : List Spot) (base now : Tables) (count : ℕ) : Type 0 where
   pub counted : count ≡ length spots
   pub some : 0 < count
   pub fits : count ≤ max_canonical
@@ -52,9 +62,9 @@ pub record Drafted (S : Summary) (spots : List Spot) (base now : Draft) (count :
   pub kids : now.kids ≡ written_at_front (child_masks spots) base.kids
 
 -- one node more: number count hangs from v, on summary node x, and v has a child on x
-abbrev pub appended : Summary → Draft → ℕ → ℕ → ℕ → Draft
+abbrev pub appended : Summary → Tables → ℕ → ℕ → ℕ → Tables
 appended S t count v x =
-    draft
+    tables_of
     (sets (sets (sets t.bytes (2 * (1 + 3 * count)) (field_bytes v)) (2 * (2 + 3 * count)) (field_bytes (summary_label S x))) (2 * (3 + 3 * count)) (field_bytes 0))
     (set t.on count x)
     (set (set t.kids v (bit_or (get_or t.kids v 0) (2 ^ x))) count 0)

@@ -7,22 +7,22 @@ use Rattle.model.specs.Pattern.{Pattern, SummaryEmbedding}
 use Rattle.model.specs.Embeddings.{image_in}
 use Rattle.model.specs.Bytes.{encode_document, written_at_front}
 use Rattle.model.specs.Canonical.{Spot, chain, append_chain, add_missing, fill_node, fill_from, spot_records, canonical_spots, canonical, own_nodes, own_figure}
-use Rattle.format.specs.Given.{summary_in, pattern_at, SummaryGiven, PatternGiven}
-use Rattle.canonical.specs.Draft.{Draft, Drafted, no_figure}
+use Rattle.format.specs.Given.{SummaryKept, PatternKept}
+use Rattle.canonical.specs.Draft.{Tables, Drafted, no_figure}
 use Rattle.canonical.specs.declared.LaidOut.{LaidOut}
 
 -- ---- the whole layout
 
 -- the images of the pattern's nodes, in a table that may be longer
-abbrev pub embedding_in : List ℕ → ℕ → List ℕ → List ℕ
-embedding_in case at images = take (length (pattern_at case at)) images
+abbrev pub embedding_in : Pattern → List ℕ → List ℕ
+embedding_in P images = take (length P) images
 
 -- they are an embedding of the pattern into the summary (document 01: a placement)
-pub record Embedded (case : List ℕ) (at : ℕ) (images : List ℕ) : Type 0 where
-  pub summary : SummaryGiven case
-  pub pattern : PatternGiven case at
-  pub enough : length (pattern_at case at) ≤ length images
-  pub embedding : SummaryEmbedding (summary_in case) (pattern_at case at) (image_in (embedding_in case at images))
+pub record Embedded (S : Summary) (P : Pattern) (images : List ℕ) : Type 0 where
+  pub summary : SummaryKept S
+  pub pattern : PatternKept P
+  pub enough : length P ≤ length images
+  pub embedding : SummaryEmbedding S P (image_in (embedding_in P images))
 
 -- the canonical document's section at the front of a buffer, each node's summary node at that of a table, the rest of both untouched
 pub record WrittenOut (S : Summary) (P : Pattern) (es bytes₀ bytes on₀ on : List ℕ) (r : LaidOut) : Type 0 where
@@ -40,27 +40,27 @@ pub record Hanging (S : Summary) (a b v count : ℕ) : Type 0 where
   pub room : count + length (chain S a b) ≤ max_canonical
 
 -- what appending it leaves: n nodes, the chain's among them
-pub record Hung (S : Summary) (a b v count : ℕ) (before after : Draft) (n : ℕ) : Type 0 where
+pub record Hung (S : Summary) (a b v count : ℕ) (before after : Tables) (n : ℕ) : Type 0 where
   pub counted : n ≡ count + length (chain S a b)
-  pub grown : (q : ℕ) (spots : List Spot) (base : Draft) → Drafted S spots base before count
+  pub grown : (q : ℕ) (spots : List Spot) (base : Tables) → Drafted S spots base before count
       → Drafted S (append_chain q spots v (chain S a b)) base after n
 
 -- ---- filling up
 
 -- node v gets its child on summary node t, if it has none
-pub record Missing (S : Summary) (spots : List Spot) (base now : Draft) (v t count : ℕ) : Type 0 where
+pub record Missing (S : Summary) (spots : List Spot) (base now : Tables) (v t count : ℕ) : Type 0 where
   pub drafted : Drafted S spots base now count
   pub inside : v < count
   pub room : length (add_missing spots v t) ≤ max_canonical
 
 -- node v is visited
-pub record Visitable (S : Summary) (spots : List Spot) (base now : Draft) (v count : ℕ) : Type 0 where
+pub record Visitable (S : Summary) (spots : List Spot) (base now : Tables) (v count : ℕ) : Type 0 where
   pub drafted : Drafted S spots base now count
   pub inside : v < count
   pub room : length (fill_node S spots v) ≤ max_canonical
 
 -- a draft of count nodes is filled up; k visits are enough
-pub record Fillable (S : Summary) (spots : List Spot) (base now : Draft) (count k : ℕ) : Type 0 where
+pub record Fillable (S : Summary) (spots : List Spot) (base now : Tables) (count k : ℕ) : Type 0 where
   pub drafted : Drafted S spots base now count
   pub ends : length (fill_from k S spots 0) ≤ k
   pub room : length (fill_from k S spots 0) ≤ max_canonical

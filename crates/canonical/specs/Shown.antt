@@ -8,7 +8,6 @@ use Rattle.model.specs.Embeddings.{image_in}
 use Rattle.model.specs.Facts.{PatternFacts}
 use Rattle.model.specs.Canonical.{canonical, own_result}
 use Rattle.model.specs.Bytes.{encode_document, encode_counted}
-use Rattle.format.specs.Given.{pattern_at}
 use Rattle.canonical.specs.Given.{Embedded}
 
 -- the own nodes at positions 1 to k, by a table of own nodes
@@ -20,8 +19,8 @@ abbrev pub shown_document : Summary → Pattern → List ℕ → List ℕ
 shown_document S P es = encode_document (canonical S P es) ++ encode_counted (own_result S P es)
 
 -- an embedding of a pattern by the rules, of k positions
-pub record Showable (case : List ℕ) (at : ℕ) (images : List ℕ) (k : ℕ) : Type 0 where
-  pub embedded : Embedded case at images
-  pub facts : PatternFacts (pattern_at case at)
-  pub positions : k ≡ arity (pattern_at case at)
+pub record Showable (S : Summary) (P : Pattern) (images : List ℕ) (k : ℕ) : Type 0 where
+  pub embedded : Embedded S P images
+  pub facts : PatternFacts P
+  pub positions : k ≡ arity P
   pub few : k ≤ max_position

@@ -1,26 +1,31 @@
 -- Laws of sets over all members' nodes, and of lists of them: a set is inside another member by member, and a set may leave a list where
 -- one inside it is kept. Assumes nothing.
-use Prim.Native.Nat.{ℕ, ◌+◌, ◌-◌, ◌*◌, ◌≤◌, ◌<◌}
+use Prim.Native.Nat.{ℕ, zero, suc, ◌+◌, ◌-◌, ◌*◌, ◌≤◌, ◌<◌}
 use mathlib.Core.Path.{◌≡◌, refl, sym, ap, ◌∙◌, subst}
-use mathlib.Core.Bool.{Bool, true, false, ◌&&◌, false≢true}
-use mathlib.Core.List.{List, []}
+use mathlib.Core.Bool.{Bool, true, false, ◌&&◌, ◌||◌, false≢true}
+use mathlib.Core.List.{List, [], ◌∷◌, ◌++◌}
 use mathlib.Core.Logic.{◌⊎◌, inl, inr, ⊎_elim}
 use native.Mathlib.Omega.{arith}
-use native.Mathlib.Nat.{zero-add}
+use native.Mathlib.Nat.{zero-add, add-zero}
 use native.Mathlib.Numerals.{add-one}
 use lib.Bits.{bit_and, bit_or}
 use lib.Count.{ones}
 use lib.Dec.{eqb, ltb}
-use lib.ListN.{length, get_or, set, length-set, get_or-eq_default}
-use lib.Seq.{get_or-set_same, get_or-set_other, ext_get_or}
+use lib.ListN.{length, get_or, set, take, length-set, length-append, get_or-append, get_or-eq_default}
+use lib.Seq.{get_or-set_same, get_or-set_other, get_or-take, get_or-append_seam, length-take-le, take-set-lt, take-take, ext_get_or}
 use borrow.Author.Count.{below_more}
 use borrow.Author.Tests.{ltb-true, ltb-false, eqb-true, eqb-false}
-use Rattle.model.specs.Lists.{has}
+use Rattle.std.specs.List.{list_all, list_any, zip}
+use Rattle.model.specs.Lists.{has, all_of, up_from}
 use Rattle.model.proofs.ListLaws.{and_left, and_right, or_cases, not-both, all-below, below_all, length-map-up_from, get_or-map-up_from}
 use Rattle.bits.proofs.MaskLaws.{has-none, has-or, has-and, subset-members}
-use Rattle.cover.specs.Cover.{Inside, Within, Among, inside_at, inside_by, each_by, shared_below}
+use Rattle.cover.specs.Cover.{Inside, Within, Among, Covers, without_set, inside_at, inside_by, each_by, shared_below}
 
 -- ---- two sets, member by member
+
+and-elim : (a b : Bool) → (a && b) ≡ elim a [ true ↦ b | false ↦ false ]
+and-elim true b = refl
+and-elim false b = refl
 
 -- a set has nodes of its members only
 node-member : (a : List ℕ) (i p : ℕ) → has (get_or a i 0) p ≡ true → i < length a
@@ -40,32 +45,24 @@ inside-within a b e n f w =
           (eqb-true (bit_and (get_or a j 0) (get_or b j 0)) (get_or a j 0) (all-below (inside_at a b) (length a) e j (node-member a j p h))) p h);
     }
 
--- of the members before i, what is in a is in b
-pub record InsideTo (a b : List ℕ) (i : ℕ) : Type 0 where
-  pub top : i ≤ 8
-  pub long : length a ≡ 8
-  pub each : (j : ℕ) → j < i → inside_at a b j ≡ true
+-- of two masks, what is in the first is in the second
+abbrev pub pair_inside : ℕ × ℕ → Bool
+pair_inside p = eqb (bit_and p.0 p.1) p.0
 
-module _ {a b : List ℕ} where
-  pub inside-start : length a ≡ 8 → InsideTo a b 0
-  inside-start l = record { top = omega arith; long = l; each = λ j h. absurd (omega arith) }
+-- the test of every pair is the test of every member
+pairs-from : (t : ℕ → Bool) (k : ℕ) (a b : List ℕ) → length a ≡ length b → ((i : ℕ) → i < length a → t (k + i) ≡ pair_inside (get_or a i 0, get_or b i 0))
+    → list_all pair_inside (zip a b) ≡ all_of t (up_from k (length a))
+unfolding all_of up_from
+pairs-from t k [] b l e = refl
+pairs-from t k (x ∷ a) [] l e = absurd (omega arith)
+pairs-from t k (x ∷ a) (y ∷ b) l e =
+    let h : t k ≡ pair_inside (x, y) = ap t (sym (add-zero k)) ∙ e 0 (omega arith) in
+    let r : list_all pair_inside (zip a b) ≡ all_of t (up_from (suc k) (length a)) = pairs-from t (suc k) a b (omega arith) (λ i j. ap t (omega arith) ∙ e (suc i) (omega arith)) in
+    rw (h, r) (and-elim (pair_inside (x, y)) (all_of t (up_from (suc k) (length a))))
 
-  module _ {i : ℕ} (v : InsideTo a b i) where
-    pub inside-step : i < 8 → inside_at a b i ≡ true → InsideTo a b (i + 1)
-    inside-step h e = record { top = omega arith; long = v.long; each = below_more (λ (j : ℕ). inside_at a b j ≡ true) i v.each e }
-
-    -- a member of which it does not hold
-    pub inside-not : i < 8 → inside_at a b i ≡ false → false ≡ inside_by a b
-    unfolding inside_by
-    inside-not h e = go (inside_by a b) refl
-      where
-        go : (t : Bool) → inside_by a b ≡ t → false ≡ t
-        go true q = absurd (not-both (inside_at a b i) (all-below (inside_at a b) (length a) q i (let l = v.long in omega arith)) e)
-        go false q = refl
-
-    pub inside-end : 8 ≤ i → true ≡ inside_by a b
-    unfolding inside_by
-    inside-end h = sym (below_all (inside_at a b) (length a) (λ j k. v.each j (let l = v.long in omega arith)))
+pub pairs-inside : (a b : List ℕ) → length a ≡ length b → list_all pair_inside (zip a b) ≡ inside_by a b
+unfolding inside_by
+pairs-inside a b l = pairs-from (inside_at a b) 0 a b l (λ i h. ap (inside_at a b) (zero-add i))
 
 module _ (op : ℕ → ℕ → ℕ) (a b : List ℕ) where
   abbrev made_at : ℕ → ℕ
@@ -87,35 +84,9 @@ module _ (op : ℕ → ℕ → ℕ) (a b : List ℕ) where
       let k : j < length r = node-member r j p h in
       ap (λ (x : ℕ). has x p) (sym (ap (λ (x : List ℕ). get_or x j 0) e ∙ each_at j (omega arith))) ∙ h
 
--- the masks of the members before i are made of those of a and b
-pub record MadeTo (op : ℕ → ℕ → ℕ) (a b r : List ℕ) (i : ℕ) : Type 0 where
-  pub top : i ≤ 8
-  pub long : length r ≡ 8
-  pub each : (j : ℕ) → j < i → get_or r j 0 ≡ op (get_or a j 0) (get_or b j 0)
-
-module _ {op : ℕ → ℕ → ℕ} {a b r : List ℕ} where
-  pub made-start : length r ≡ 8 → MadeTo op a b r 0
-  made-start l = record { top = omega arith; long = l; each = λ j h. absurd (omega arith) }
-
-  module _ {i : ℕ} (v : MadeTo op a b r i) where
-    pub made-step : i < 8 → MadeTo op a b (set r i (op (get_or a i 0) (get_or b i 0))) (i + 1)
-    made-step h =
-        record {
-          top = omega arith;
-          long = length-set r i x ∙ v.long;
-          each =
-              below_more (λ (j : ℕ). get_or (set r i x) j 0 ≡ op (get_or a j 0) (get_or b j 0)) i
-              (λ j k. get_or-set_other r i j x 0 (λ q. omega arith) ∙ v.each j k)
-              (get_or-set_same r i x 0 (let l = v.long in omega arith));
-        }
-      where
-        x : ℕ
-        x = op (get_or a i 0) (get_or b i 0)
-
-    pub made-end : 8 ≤ i → r ≡ each_by op a b
-    made-end h =
-        let l = v.long in
-        ext_get_or 0 r (each_by op a b) (l ∙ sym (each_long op a b)) (λ j k. v.each j (omega arith) ∙ sym (each_at op a b j (omega arith)))
+-- masks that are made of those of a and b, member by member
+pub made-all : (op : ℕ → ℕ → ℕ) (a b : List ℕ) {r : List ℕ} → length r ≡ 8 → ((i : ℕ) → i < 8 → get_or r i 0 ≡ op (get_or a i 0) (get_or b i 0)) → r ≡ each_by op a b
+made-all op a b {r} l e = ext_get_or 0 r (each_by op a b) (l ∙ sym (each_long op a b)) (λ j k. e j (omega arith) ∙ sym (each_at op a b j (omega arith)))
 
 module _ {a b r : List ℕ} where
   pub either-covers : r ≡ each_by bit_or a b → (n : ℕ) (f : ℕ → ℕ → Bool) → Inside n a f → Inside n b f → Inside n r f
@@ -160,66 +131,96 @@ module _ {a b : List ℕ} where
 
 -- ---- lists of sets
 
+-- at a row of the list a set stands that is offered
+among-at : {m : ℕ} {f : ℕ → ℕ → Bool} {sets : List (List ℕ)} {count : ℕ} {a : List ℕ} (k : ℕ) → k < count → get_or sets k [] ≡ a → Inside m a f → Among m sets count f
+among-at {m = m} {f = f} k h e w = record { row = k; few = h; inside = subst (λ (x : List ℕ). Inside m x f) (sym e) w }
+
 module _ {m : ℕ} {f : ℕ → ℕ → Bool} where
-  -- a set that stands in the list
-  pub among-at : {sets : List (List ℕ)} {count : ℕ} {a : List ℕ} (k : ℕ) → k < count → get_or sets k [] ≡ a → Inside m a f → Among m sets count f
-  among-at k h e w = record { row = k; few = h; inside = subst (λ (x : List ℕ). Inside m x f) (sym e) w }
+  -- a set that passes a test says what is inside a
+  pub covers-any : (sets : List (List ℕ)) (a : List ℕ) → list_any (λ b. inside_by b a) sets ≡ true → Inside m a f → Covers m sets f
+  covers-any [] a e w = absurd (false≢true e)
+  covers-any (b ∷ sets) a e w = go (inside_by b a) refl (λ h. covers-any sets a h w)
+    where
+      go : (t : Bool) → inside_by b a ≡ t → (list_any (λ c. inside_by c a) sets ≡ true → Covers m sets f) → Covers m (b ∷ sets) f
+      go true q rest = record { row = 0; few = omega arith; inside = inside-within b a q m f w }
+      go false q rest =
+          let r = rest (sym (ap (λ (t : Bool). t || list_any (λ c. inside_by c a) sets) q) ∙ e) in
+          let k = r.few in
+          record { row = suc r.row; few = omega arith; inside = r.inside }
 
   -- a set is put at the end
-  pub among-put : {sets : List (List ℕ)} {n : ℕ} (a : List ℕ) → n < length sets → Among m sets n f ⊎ Inside m a f → Among m (set sets n a) (n + 1) f
-  among-put {sets} {n} a h (inl s) =
+  pub covers-push : (sets : List (List ℕ)) (a : List ℕ) → Covers m sets f ⊎ Inside m a f → Covers m (sets ++ a ∷ []) f
+  covers-push sets a (inl s) =
       let k = s.few in
-      among-at s.row (omega arith) (get_or-set_other sets n s.row a [] (λ q. omega arith)) s.inside
-  among-put {sets} {n} a h (inr w) = among-at n (omega arith) (get_or-set_same sets n a [] h) w
+      among-at s.row (omega (arith, length-append sets (a ∷ []))) (get_or-append sets (a ∷ []) [] s.row k) s.inside
+  covers-push sets a (inr w) = among-at (length sets) (omega (arith, length-append sets (a ∷ []))) (get_or-append_seam sets a [] []) w
 
   -- the last set takes the place of one that a is inside of
-  among-drop : {sets : List (List ℕ)} {n k : ℕ} {a : List ℕ} → k < n → n ≤ length sets → Within a (get_or sets k [])
-      → Among m sets n f → Among m (set sets k (get_or sets (n - 1) [])) (n - 1) f ⊎ Inside m a f
-  among-drop {sets} {n} {k} {a} h l w s = go (eqb s.row k) refl
+  pub covers-without : (sets : List (List ℕ)) {k : ℕ} {a : List ℕ} → k < length sets → Within a (get_or sets k []) → Covers m sets f → Covers m (without_set sets k) f ⊎ Inside m a f
+  covers-without sets {k} {a} h w s = go (eqb s.row k) refl
     where
+      n : ℕ
+      n = length sets - 1
+
       last : List ℕ
-      last = get_or sets (n - 1) []
+      last = get_or sets n []
 
-      move : (b : Bool) → eqb s.row (n - 1) ≡ b → (s.row ≡ k → ⊥) → Among m (set sets k last) (n - 1) f
+      long : length (take n (set sets k last)) ≡ n
+      long = length-take-le n (set sets k last) (omega (arith, length-set sets k last))
+
+      at : (i : ℕ) → i < n → get_or (set sets k last) i [] ≡ get_or sets s.row [] → Covers m (without_set sets k) f
+      at i l e = among-at i (omega (arith, l, long)) (get_or-take n (set sets k last) i [] l ∙ e) s.inside
+
+      move : (b : Bool) → eqb s.row n ≡ b → (s.row ≡ k → ⊥) → Covers m (without_set sets k) f
       move true q o =
-          let e : s.row ≡ n - 1 = eqb-true s.row (n - 1) q in
-          among-at k (omega arith) (get_or-set_same sets k last [] (omega arith) ∙ ap (λ (x : ℕ). get_or sets x []) (sym e)) s.inside
-      move false q o =
-          let e : s.row ≡ n - 1 → ⊥ = eqb-false s.row (n - 1) q in
+          let e : s.row ≡ n = eqb-true s.row n q in
           let r = s.few in
-          among-at s.row (omega arith) (get_or-set_other sets k s.row last [] o) s.inside
+          at k (omega arith) (get_or-set_same sets k last [] h ∙ ap (λ (x : ℕ). get_or sets x []) (sym e))
+      move false q o =
+          let e : s.row ≡ n → ⊥ = eqb-false s.row n q in
+          let r = s.few in
+          at s.row (omega arith) (get_or-set_other sets k s.row last [] o)
 
-      go : (b : Bool) → eqb s.row k ≡ b → Among m (set sets k last) (n - 1) f ⊎ Inside m a f
+      go : (b : Bool) → eqb s.row k ≡ b → Covers m (without_set sets k) f ⊎ Inside m a f
       go true q = inr (w m f (subst (λ (x : ℕ). Inside m (get_or sets x []) f) (eqb-true s.row k q) s.inside))
-      go false q = inl (move (eqb s.row (n - 1)) refl (eqb-false s.row k q))
+      go false q = inl (move (eqb s.row n) refl (eqb-false s.row k q))
 
--- of the first `count` sets that the list had, n are left, and a is inside each of the others
-pub record Dropping (a : List ℕ) (before now : List (List ℕ)) (count n : ℕ) : Type 0 where
-  pub top : n ≤ count
-  pub room : count ≤ length now
-  pub long : length now ≡ length before
-  pub kept : (m : ℕ) (f : ℕ → ℕ → Bool) → Among m before count f → Among m now n f ⊎ Inside m a f
+-- one set fewer
+pub length-without : (sets : List (List ℕ)) (k : ℕ) → length (without_set sets k) ≡ length sets - 1
+length-without sets k =
+    length-take-le (length sets - 1) (set sets k (get_or sets (length sets - 1) [])) (omega (arith, length-set sets k (get_or sets (length sets - 1) [])))
 
-pub dropping-start : {a : List ℕ} {sets : List (List ℕ)} {n : ℕ} → n ≤ length sets → Dropping a sets sets n n
-dropping-start h = record { top = omega arith; room = h; long = refl; kept = λ m f s. inl s }
+-- of the first n rows of a table
+pub without_front : (rows : List (List ℕ)) {n k : ℕ} → n ≤ length rows → k < n → take (n - 1) (set rows k (get_or rows (n - 1) [])) ≡ without_set (take n rows) k
+without_front rows {n} {k} h l =
+    sym (ap (λ (i : ℕ). take (i - 1) (set (take n rows) k (get_or (take n rows) (i - 1) []))) (length-take-le n rows h)
+    ∙ ap (λ (v : List ℕ). take (n - 1) (set (take n rows) k v)) (get_or-take n rows (n - 1) [] (omega arith))
+    ∙ ap (take (n - 1)) (sym (take-set-lt n rows k (get_or rows (n - 1) []) l))
+    ∙ take-take (n - 1) n (set rows k (get_or rows (n - 1) [])) (omega arith))
 
-pub dropping-step : {a : List ℕ} {before now : List (List ℕ)} {count n k : ℕ} → Dropping a before now count n → k < n → Within a (get_or now k [])
-    → Dropping a before (set now k (get_or now (n - 1) [])) count (n - 1)
-dropping-step {now = now} {count = count} {n = n} {k = k} v h w =
-    let t = v.top in
-    let r = v.room in
-    record {
-      top = omega arith;
-      room = subst (λ (x : ℕ). count ≤ x) (sym (length-set now k (get_or now (n - 1) []))) r;
-      long = length-set now k (get_or now (n - 1) []) ∙ v.long;
-      kept = λ m f s. ⊎_elim (λ u. among-drop h (omega arith) w u) inr (v.kept m f s);
-    }
+-- a set of the first n rows
+pub front-at : (rows : List (List ℕ)) {n k : ℕ} {sets : List (List ℕ)} → take n rows ≡ sets → k < n → get_or sets k [] ≡ get_or rows k []
+front-at rows {n} {k} e h = ap (λ (l : List (List ℕ)). get_or l k []) (sym e) ∙ get_or-take n rows k [] h
 
--- the last set takes the place of the set at k, sets that b is inside of are dropped, and b is put at the end
-pub merged : {a b : List ℕ} {before now : List (List ℕ)} {count n k : ℕ} → k < count → count ≤ length (set before k (get_or before (count - 1) [])) → n < length now
-    → Within b (get_or before k []) × Within b a
-    → ((m : ℕ) (f : ℕ → ℕ → Bool) → Among m (set before k (get_or before (count - 1) [])) (count - 1) f → Among m now n f ⊎ Inside m b f)
-    → (m : ℕ) (f : ℕ → ℕ → Bool) → Among m before count f ⊎ Inside m a f → Among m (set now n b) (n + 1) f
-merged {b = b} {before = before} {count = count} {k = k} h l r w kept m f s =
-    let e = length-set before k (get_or before (count - 1) []) in
-    among-put b r (⊎_elim (λ u. ⊎_elim (kept m f) inr (among-drop h (omega arith) w.0 u)) (λ u. inr (w.1 m f u)) s)
+-- of the sets that the list had some are left, and a is inside each of the others
+pub record Dropping (a : List ℕ) (before now : List (List ℕ)) : Type 0 where
+  pub few : length now ≤ length before
+  pub kept : (m : ℕ) (f : ℕ → ℕ → Bool) → Covers m before f → Covers m now f ⊎ Inside m a f
+
+pub dropping-start : {a : List ℕ} {sets : List (List ℕ)} → Dropping a sets sets
+dropping-start = record { few = omega arith; kept = λ m f s. inl s }
+
+pub dropping-step : {a : List ℕ} {before now now' : List (List ℕ)} {k : ℕ} → Dropping a before now → k < length now → Within a (get_or now k []) → now' ≡ without_set now k → Dropping a before now'
+dropping-step {a} {before} {now} {now'} {k} v h w e =
+    subst (Dropping a before) (sym e)
+    (record {
+      few = (let t = v.few in omega (arith, length-without now k));
+      kept = λ m f s. ⊎_elim (λ u. covers-without now h w u) inr (v.kept m f s);
+    })
+
+-- the set at k is left out, sets that b is inside of are dropped, and b is put at the end
+pub merged : {a b : List ℕ} {before now : List (List ℕ)} {k : ℕ} → k < length before → Within b (get_or before k []) × Within b a
+    → ((m : ℕ) (f : ℕ → ℕ → Bool) → Covers m (without_set before k) f → Covers m now f ⊎ Inside m b f)
+    → (m : ℕ) (f : ℕ → ℕ → Bool) → Covers m before f ⊎ Inside m a f → Covers m (now ++ b ∷ []) f
+merged {b = b} {before = before} {now = now} h w kept m f s =
+    covers-push now b (⊎_elim (λ u. ⊎_elim (kept m f) inr (covers-without before h w.0 u)) (λ u. inr (w.1 m f u)) s)

@@ -1,6 +1,6 @@
 -- What a list of sets says of what is offered. A set is a table by member, of masks of its nodes; f says which nodes of which member are
 -- offered.
-use Rattle.std.specs.Prelude.{ℕ, zero, suc, ◌+◌, ◌<◌, ◌≡◌, Bool, true, List, [], map, eqb, length, get_or}
+use Rattle.std.specs.Prelude.{ℕ, zero, suc, ◌+◌, ◌-◌, ◌<◌, ◌≡◌, Bool, true, List, [], map, eqb, length, get_or, take, set}
 use Rattle.std.specs.Int.Bits.{bit_and}
 use Rattle.std.specs.Int.Count.{ones}
 use Rattle.model.specs.Lists.{has, up_from, all_of}
@@ -18,6 +18,14 @@ pub record Among (n : ℕ) (sets : List (List ℕ)) (count : ℕ) (f : ℕ → �
   pub row : ℕ
   pub few : row < count
   pub inside : Inside n (get_or sets row []) f
+
+-- one of the list's sets is offered
+abbrev pub Covers : ℕ → List (List ℕ) → (ℕ → ℕ → Bool) → Type 0
+Covers n sets f = Among n sets (length sets) f
+
+-- the list without set k, in whose place the last set stands
+abbrev pub without_set : List (List ℕ) → ℕ → List (List ℕ)
+without_set sets k = take (length sets - 1) (set sets k (get_or sets (length sets - 1) []))
 
 -- of member i, all nodes in a are in b
 abbrev pub inside_at : List ℕ → List ℕ → ℕ → Bool

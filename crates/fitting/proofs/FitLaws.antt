@@ -86,8 +86,7 @@ module _ (S : Summary) (W : Document) (tree : IsTree W) where
             let r = (strong-kept-exact S W v).0 e t (edge t l m) in
             (gathered-exact rows v t).1 (r.0, r.1, sym (on.same r.0 r.1.inside ∙ r.2))))
 
-    pub all-inside : {r : Bool} {strong : List ℕ} → strong ≡ strong_table S → r ≡ all_of (strong_kept_in path kids strong) (up_from 0 (length W)) → r ≡ fits S W
-    all-inside g e =
-        e ∙ ap (λ (t : List ℕ). all_of (strong_kept_in path kids t) (up_from 0 (length W))) g
-        ∙ all-agree (strong_kept_in path kids (strong_table S)) (strong_kept S W) (up_from 0 (length W)) (λ v m. let h = up_from-mem 0 (length W) v m in row_kept v (omega arith))
+    pub all-inside : {r : Bool} → r ≡ all_of (strong_kept_in path kids (strong_table S)) (up_from 0 (length W)) → r ≡ fits S W
+    all-inside e =
+        e ∙ all-agree (strong_kept_in path kids (strong_table S)) (strong_kept S W) (up_from 0 (length W)) (λ v m. let h = up_from-mem 0 (length W) v m in row_kept v (omega arith))
         ∙ decided true ((paths-inside-exact S W).1 (λ v h. subst (λ (s : ℕ). s < length S) (on.same v h) (on.inside v h)))

@@ -19,16 +19,13 @@ use Rattle.model.proofs.ListLaws.{any_below, below-any}
 use Rattle.model.proofs.TreeLaws.{test-child-and, child-and-test}
 use Rattle.bits.proofs.MaskLaws.{has-none, has-insert, any_snoc}
 use Rattle.format.proofs.RangeLaws.{up_from-last}
-use Rattle.fitting.specs.Steps.{Cleared, Gathered}
+use Rattle.fitting.specs.Steps.{Gathered}
 
 -- a table as it is made
-pub cleared : (n : ℕ) → Cleared n (replicate n 0)
-cleared n = record { size = length-replicate n 0; zero = each n }
-  where
-    each : (n k : ℕ) → get_or {A = ℕ} (replicate n 0) k 0 ≡ 0
-    each zero k = refl
-    each (suc n) zero = refl
-    each (suc n) (suc k) = each n k
+zeros : (n k : ℕ) → get_or {A = ℕ} (replicate n 0) k 0 ≡ 0
+zeros zero k = refl
+zeros (suc n) zero = refl
+zeros (suc n) (suc k) = zeros n k
 
 -- one number more
 any_last : (test : ℕ → Bool) (i : ℕ) → any_of test (up_from 0 (i + 1)) ≡ (any_of test (up_from 0 i) || test i)
@@ -56,17 +53,17 @@ pub record Gathering (W : Document) (path masks : List ℕ) (i : ℕ) : Type 0 w
   pub room : length W ≤ length masks
   pub row : (k t : ℕ) → has (get_or masks k 0) t ≡ any_of (λ j. child_test W k j && eqb t (get_or path j 0)) (up_from 0 i)
 
-module _ {W : Document} {path masks : List ℕ} where
-  pub gathering-start : {n : ℕ} → IsTree W → length W ≤ n → Cleared n masks → Gathering W path masks 1
-  unfolding any_of up_from child_test
-  gathering-start {n} tree h z =
-      record {
-        started = omega arith;
-        turns = omega (arith, tree.inhabited);
-        room = omega (arith, z.size);
-        row = λ k t. ap (λ (m : ℕ). has m t) (z.zero k) ∙ has-none t;
-      }
+pub gathering-start : {W : Document} {path : List ℕ} (n : ℕ) → IsTree W → length W ≤ n → Gathering W path (replicate n 0) 1
+unfolding any_of up_from child_test
+gathering-start n tree h =
+    record {
+      started = omega arith;
+      turns = omega (arith, tree.inhabited);
+      room = omega (arith, length-replicate {A = ℕ} n 0);
+      row = λ k t. ap (λ (m : ℕ). has m t) (zeros n k) ∙ has-none t;
+    }
 
+module _ {W : Document} {path masks : List ℕ} where
   -- the parent's row is in the table
   pub gathering-up : {i p : ℕ} → Gathering W path masks i → IsTree W → i < length W → p ≡ parent_of W i → p < length W
   gathering-up {i} {p} g tree h e =

@@ -1,30 +1,27 @@
 -- Laws of loops over a range: a number that fails a test, and the first that passes one. True by recursion over the range.
 -- Assumes nothing.
 use Prim.Native.Nat.{ℕ, zero, suc, ◌+◌, ◌≤◌, ◌<◌}
-use mathlib.Core.Path.{◌≡◌, refl, sym, ap, ◌∙◌}
-use mathlib.Core.Bool.{Bool, true, false}
+use mathlib.Core.Path.{◌≡◌, refl, ap, ◌∙◌}
+use mathlib.Core.Bool.{Bool, true, false, ◌&&◌}
 use native.Mathlib.Omega.{arith}
 use lib.Dec.{eqb}
 use borrow.Author.Tests.{eqb-true, eqb-false}
+use Rattle.std.specs.List.{list_all, range_with_len}
 use Rattle.model.specs.Lists.{up_from, all_of, first_of}
-use Rattle.model.proofs.ListLaws.{not-both, all-below, below_all}
 
 -- ---- every number passes
 
--- the numbers below i pass
-abbrev pub Passed : (ℕ → Bool) → ℕ → Type 0
-Passed test i = (k : ℕ) → k < i → test k ≡ true
-
-pub passed-end : (test : ℕ → Bool) (n i : ℕ) → n ≤ i → Passed test i → true ≡ all_of test (up_from 0 n)
-passed-end test n i h all = sym (below_all test n (λ k l. all k (omega arith)))
-
--- where one number fails, not all pass
-pub passed-not : (test : ℕ → Bool) (n i : ℕ) → i < n → test i ≡ false → false ≡ all_of test (up_from 0 n)
-passed-not test n i h e = sym (go (all_of test (up_from 0 n)) refl)
+-- a range of std's is one of the model's, and so is its test of all
+pub all-ranged : (test : ℕ → Bool) (a n : ℕ) → list_all test (range_with_len a n) ≡ all_of test (up_from a n)
+unfolding all_of up_from
+all-ranged test a zero = refl
+all-ranged test a (suc n) =
+    let next : a + 1 ≡ suc a = omega arith in
+    ap (λ (t : Bool). test a && t) (all-ranged test (a + 1) n ∙ ap (λ (x : ℕ). all_of test (up_from x n)) next) ∙ go (test a) (all_of test (up_from (suc a) n))
   where
-    go : (t : Bool) → all_of test (up_from 0 n) ≡ t → t ≡ false
-    go true q = absurd (not-both (test i) (all-below test n q i h) e)
-    go false q = refl
+    go : (b t : Bool) → (b && t) ≡ elim b [ true ↦ t | false ↦ false ]
+    go true t = refl
+    go false t = refl
 
 -- ---- the first that passes
 

@@ -2,12 +2,11 @@
 -- entry comes from its parent's, so the table fills up in order. Assumes nothing.
 use Prim.Native.Nat.{ℕ, ◌+◌, ◌≤◌, ◌<◌}
 use mathlib.Core.Path.{◌≡◌, refl, sym, ap, ap₂, ◌∙◌, subst}
-use mathlib.Core.Bool.{Bool, true, false, ◌&&◌, false≢true}
+use mathlib.Core.Bool.{Bool, true, false, ◌&&◌}
 use mathlib.Core.List.{List}
 use native.Mathlib.Omega.{arith}
 use lib.Dec.{eqb}
-use lib.ListN.{length, get_or, set, length-set}
-use lib.Seq.{get_or-set_same, get_or-set_other}
+use lib.ListN.{length, get_or}
 use borrow.Author.Count.{below_more}
 use borrow.Author.Tests.{lt-ltb, eq-eqb, ne_eqb}
 use Rattle.model.specs.Lists.{up_from}
@@ -18,7 +17,7 @@ use Rattle.model.specs.Fitting.{child_labelled, path_in}
 use Rattle.model.proofs.ListLaws.{first-miss, up_from-mem, and_left}
 use Rattle.model.proofs.TreeLaws.{length-as_document, test-child, rooted-lt}
 use Rattle.model.proofs.Paths.{path-root, path-next}
-use Rattle.fitting.specs.Steps.{labelled_at, OnPaths, PathsFilled}
+use Rattle.fitting.specs.Steps.{labelled_at, OnPaths}
 use Rattle.fitting.proofs.LoopLaws.{first-at}
 
 -- ---- the child with a label
@@ -102,32 +101,6 @@ module _ {S : Summary} {W : Document} {path : List ℕ} where
   pub filling-start : length W ≤ length path → Filling S W path 0
   filling-start room = record { turns = omega arith; room = room; on = record { same = λ v h. absurd (omega arith); inside = λ v h. absurd (omega arith) } }
 
-  pub filling_step : {i x : ℕ} → Filling S W path i → i < length W → x ≡ path_in S W i → x < length S → Filling S W (set path i x) (i + 1)
-  filling_step {i} {x} f h e inside =
-      record {
-        turns = omega arith;
-        room = omega (arith, length-set path i x);
-        on =
-            record {
-              same = below_more (λ v. get_or (set path i x) v 0 ≡ path_in S W v) i (λ v k. kept v k ∙ f.on.same v k) (here ∙ e);
-              inside =
-                  below_more (λ v. get_or (set path i x) v 0 < length S) i
-                  (λ v k. subst (λ (y : ℕ). y < length S) (sym (kept v k)) (f.on.inside v k)) (subst (λ (y : ℕ). y < length S) (sym here) inside);
-            };
-      }
-    where
-      kept : (v : ℕ) → v < i → get_or (set path i x) v 0 ≡ get_or path v 0
-      kept v k = get_or-set_other path i v x 0 (λ q. omega arith)
-
-      here : get_or (set path i x) i 0 ≡ x
-      here = get_or-set_same path i x 0 (omega arith)
-
   -- all of them do
-  pub filling-end : {i : ℕ} → Filling S W path i → length W ≤ i → PathsFilled S W path true
-  filling-end {i} f h =
-      let done : i ≡ length W = omega arith in
-      record { all = λ _. subst (λ (k : ℕ). OnPaths S W path k) done f.on; none = λ e. absurd (false≢true (sym e)) }
-
-  -- or a node has no summary node
-  pub filling-stop : {i x n : ℕ} → i < length W → x ≡ path_in S W i → x ≡ n → n ≡ length S → PathsFilled S W path false
-  filling-stop {i} {x} {n} h e f g = record { all = λ e. absurd (false≢true e); none = λ _. (i, h, omega arith) }
+  pub filling-end : {i : ℕ} → Filling S W path i → length W ≤ i → OnPaths S W path (length W)
+  filling-end {i} f h = let done : i ≡ length W = omega arith in subst (λ (k : ℕ). OnPaths S W path k) done f.on

@@ -1,17 +1,18 @@
-// The test of fitting over bytes: one pass gives each document node its summary node and stops where there is none, then the strong
-// edges are tested with masks. Nodes × 64 steps.
+// The test of fitting: one pass gives each document node its summary node and stops where there is none, then the strong edges are tested
+// with masks. Nodes × 64 steps.
 #![tactic(auto)]
 
 mod edges;
 mod paths;
 
 ghost use Rattle.std.specs.Prelude.{◌≡◌};
-ghost use Rattle.model.specs.Bytes.{document_of};
 ghost use Rattle.model.specs.Fitting.{fits as fits_of};
-ghost use Rattle.model.specs.Strong.{strong_table};
-ghost use Rattle.format.specs.Given.{summary_in, SummaryGiven, DocumentGiven};
+ghost use Rattle.format.specs.Given.{DocumentKept};
 
-use strong::Strong;
+use crate::edges::{all_kept, child_paths};
+use crate::paths::paths;
+use format::document::Document;
+use strong::outline::Outline;
 
 // Each document node's summary node.
 type Paths = [u16; 1024];
@@ -19,17 +20,14 @@ type Paths = [u16; 1024];
 // A row for each document node: the paths of its children.
 type Kids = [u64; 1024];
 
-// The document fits the summary of the case, whose strong children are gathered.
-pub fn fits(case: &[u8], strong: &Strong, w: &[u8]) -> bool
-    requires summary_given { SummaryGiven case.now × DocumentGiven w.now }
-    requires strong_value { strong.now ≡ strong_table (summary_in case.now) }
-    ensures { result ≡ fits_of (summary_in case.now) (document_of w.now) }
+// The document fits the summary.
+pub fn fits(outline: &Outline, w: &Document) -> bool
+    requires { DocumentKept w.now }
+    ensures { result ≡ fits_of outline.now w.now }
 {
-    let mut path = [0u16; 1024];
-    if !paths::fill_paths(case, w, &mut path) {
+    let Some(path) = paths(outline.summary(), w) else {
         return false;
-    }
-    let mut kids = [0u64; 1024];
-    edges::child_paths(w, &path, &mut kids);
-    edges::all_kept(w, &path, &kids, strong)
+    };
+    let kids = child_paths(w, &path);
+    all_kept(outline, w, &path, &kids)
 }

@@ -1,84 +1,71 @@
-// The summary node of each document node: the root's by its label, any other's the child of its parent's with its label. Where
-// there is none, the summary's count stands for it.
+// The summary node of each document node: the root's by its label, any other's the child of its parent's with its label.
 
-ghost use Rattle.std.specs.Prelude.{◌≡◌, ◌≤◌, ◌<◌, length};
-ghost use Rattle.model.specs.Limits.{max_document};
-ghost use Rattle.model.specs.Bytes.{document_of};
-ghost use Rattle.model.specs.Fitting.{child_labelled};
-ghost use Rattle.format.specs.Given.{summary_in, SummaryGiven, DocumentGiven};
-ghost use Rattle.fitting.specs.Steps.{Cleared, labelled_at, IsPath, OnPaths, PathsFilled};
+ghost use Rattle.std.specs.Prelude.{◌≡◌, ◌<◌, length};
+ghost use Rattle.model.specs.Fitting.{child_labelled, path_in};
+ghost use Rattle.format.specs.Given.{SummaryKept, DocumentKept};
+ghost use Rattle.fitting.specs.Steps.{labelled_at, IsNode, OnPaths, PathsFilled};
 
 use crate::Paths;
-use format::document::{document_count, document_label, document_parent};
+use format::document::Document;
 use format::nodes::{DocumentNode, SummaryNode, summary_of};
-use format::summary::{summary_count, summary_label, summary_parent};
+use format::summary::Summary;
 
 // Summary node t has parent s and label l.
-fn is_labelled(case: &[u8], t: SummaryNode, s: SummaryNode, l: u16) -> bool
-    requires { SummaryGiven case.now × (t.0 < length (summary_in case.now)) }
-    ensures { result ≡ labelled_at (summary_in case.now) s.0 l t.0 }
+fn is_labelled(summary: &Summary, t: SummaryNode, s: SummaryNode, l: u16) -> bool
+    requires { t.0 < length summary.now }
+    ensures { result ≡ labelled_at summary.now s.0 l t.0 }
 {
-    if summary_parent(case, t).0 == s.0 {
-        summary_label(case, t) == l
-    } else {
-        false
-    }
+    summary.parent(t).0 == s.0 && summary.label(t) == l
 }
 
-// The child of s with label l, or the summary's count where s has none. A child stands after its parent.
-fn child_labelled(case: &[u8], s: SummaryNode, l: u16) -> SummaryNode
-    requires { SummaryGiven case.now × (s.0 < length (summary_in case.now)) }
-    ensures { (result.0 ≡ child_labelled (summary_in case.now) s.0 l) × (result.0 ≤ length (summary_in case.now)) }
+// The child of s with label l. A child stands after its parent.
+fn child_labelled(summary: &Summary, s: SummaryNode, l: u16) -> Option<SummaryNode>
+    requires { SummaryKept summary.now × (s.0 < length summary.now) }
+    ensures { IsNode summary.now (child_labelled summary.now s.0 l) result }
 {
-    let n = summary_count(case);
-    for t in s.0 + 1..n {
-        if is_labelled(case, SummaryNode(t), s, l) {
-            return SummaryNode(t);
+    for t in s.0 + 1..summary.count() {
+        if is_labelled(summary, SummaryNode(t), s, l) {
+            return Some(SummaryNode(t));
         }
     }
-    SummaryNode(n)
+    None
 }
 
 // The summary node of the document's root: the summary's root where the labels are equal.
-fn root_path(case: &[u8], w: &[u8]) -> SummaryNode
-    requires { SummaryGiven case.now × DocumentGiven w.now }
-    ensures { IsPath (summary_in case.now) (document_of w.now) 0 result.0 }
+fn root_path(summary: &Summary, w: &Document) -> Option<SummaryNode>
+    requires { SummaryKept summary.now × DocumentKept w.now }
+    ensures { IsNode summary.now (path_in summary.now w.now 0) result }
 {
-    let own = document_label(w, DocumentNode(0));
-    let label = summary_label(case, SummaryNode(0));
+    let own = w.label(DocumentNode(0));
+    let label = summary.label(SummaryNode(0));
     if own == label {
-        return SummaryNode(0);
+        return Some(SummaryNode(0));
     }
-    SummaryNode(summary_count(case))
+    None
 }
 
 // The summary node of v, after those of the nodes before it.
-fn path_of(case: &[u8], w: &[u8], path: &Paths, v: DocumentNode) -> SummaryNode
-    requires summary_given { SummaryGiven case.now × DocumentGiven w.now }
-    requires v_in_bounds { v.0 < length (document_of w.now) }
-    requires on_paths { OnPaths (summary_in case.now) (document_of w.now) path.now v.0 }
-    ensures { IsPath (summary_in case.now) (document_of w.now) v.0 result.0 }
+fn path_of(summary: &Summary, w: &Document, path: &Paths, v: DocumentNode) -> Option<SummaryNode>
+    requires kept { SummaryKept summary.now × DocumentKept w.now }
+    requires v_in_bounds { v.0 < length w.now }
+    requires on_paths { OnPaths summary.now w.now path.now v.0 }
+    ensures { IsNode summary.now (path_in summary.now w.now v.0) result }
 {
     if v.0 == 0 {
-        return root_path(case, w);
+        return root_path(summary, w);
     }
-    let s = summary_of(path, document_parent(w, v));
-    child_labelled(case, s, document_label(w, v))
+    let s = summary_of(path, w.parent(v));
+    child_labelled(summary, s, w.label(v))
 }
 
-// The path map goes to the table, up to the first node with no summary node. The result is whether there is no such node.
-pub fn fill_paths(case: &[u8], w: &[u8], path: &mut Paths) -> bool
-    requires { SummaryGiven case.now × DocumentGiven w.now × Cleared max_document path.old }
-    ensures { PathsFilled (summary_in case.now) (document_of w.now) path.new result }
+// The path map, or none where some node has no summary node.
+pub fn paths(summary: &Summary, w: &Document) -> Option<Paths>
+    requires { SummaryKept summary.now × DocumentKept w.now }
+    ensures { PathsFilled summary.now w.now result }
 {
-    let n = summary_count(case);
-    let count = document_count(w);
-    for v in 0..count {
-        let s = path_of(case, w, path, DocumentNode(v));
-        if s.0 == n {
-            return false;
-        }
-        path[v] = s.0 as u16;
+    let mut path = [0u16; 1024];
+    for v in 0..w.count() {
+        path[v] = path_of(summary, w, &path, DocumentNode(v))?.0 as u16;
     }
-    true
+    Some(path)
 }

@@ -3,6 +3,8 @@ pub mod FrontLaws
 pub mod FrontLoops
 pub mod SectionLaws
 pub mod ListLaws
+pub mod MemberLaws
+pub mod ChainLaws
 pub mod BareLaws
 pub mod GivenLaws
 pub mod PositionLaws

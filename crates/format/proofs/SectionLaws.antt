@@ -49,6 +49,19 @@ module _ {A : Type 0} (read : List ℕ → ℕ → A) (width : ℕ) (b : List �
       → field b (at + 1 + width * i + j) ≡ get (get_or (section read width b at) i d)
   section-field d get i j e h = sym (ap get (section-record i d (section-below i h)) ∙ e (at + 1 + width * i))
 
+  -- the same of a list that is known to be the section
+  module _ {xs : List A} (e : section read width b at ≡ xs) where
+    pub viewed-count : field b at ≡ length xs
+    viewed-count = sym section-length ∙ ap length e
+
+    pub viewed-below : (i : ℕ) → i < length xs → i < field b at
+    viewed-below i h = section-below i (subst (λ (l : List A). i < length l) (sym e) h)
+
+    pub viewed-field : (d : A) (get : A → ℕ) (i j : ℕ) → ((a : ℕ) → get (read b a) ≡ field b (a + j)) → i < length xs
+        → field b (at + 1 + width * i + j) ≡ get (get_or xs i d)
+    viewed-field d get i j q h =
+        section-field d get i j q (subst (λ (l : List A). i < length l) (sym e) h) ∙ ap (λ (l : List A). get (get_or l i d)) e
+
 -- a maker's first field
 pub first_field : (b : List ℕ) (a : ℕ) → field b a ≡ field b (a + 0)
 first_field b a = ap (field b) (sym (add-zero a))
@@ -66,6 +79,11 @@ pub summary-field : (b : List ℕ) (get : SummaryRecord → ℕ) (i j : ℕ) →
     → field b (1 + summary_width * i + j) ≡ get (get_or (summary_in b) i no_summary_record)
 unfolding case_of
 summary-field b get i j e h = section-field summary_record_at summary_width b 0 no_summary_record get i j e h
+
+-- it is a section's table
+pub summary-section : (b : List ℕ) {S : List SummaryRecord} → summary_in b ≡ S → section summary_record_at summary_width b 0 ≡ S
+unfolding case_of
+summary-section b e = e
 
 -- its records read as a document's
 pub summary-record : (b : List ℕ) (i : ℕ) → get_or (as_document (summary_in b)) i no_document_record ≡ without_strong (get_or (summary_in b) i no_summary_record)
@@ -126,6 +144,11 @@ tree-document w = sym (map-map without_figure (λ i. document_record_at w (0 + 1
 pub tree-summary : (b : List ℕ) → tree_of summary_width b ≡ as_document (summary_in b)
 unfolding tree_of case_of section records_at
 tree-summary b = sym (map-map without_strong (λ i. summary_record_at b (0 + 1 + summary_width * i)) (up_from 0 (field b 0)))
+
+-- a document is a section's table
+pub document-section : (w : List ℕ) {W : List DocumentRecord} → document_of w ≡ W → section document_record_at document_width w 0 ≡ W
+unfolding document_of
+document-section w e = e
 
 pub document-count : (w : List ℕ) → length (document_of w) ≡ field w 0
 unfolding document_of

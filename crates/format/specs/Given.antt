@@ -1,5 +1,5 @@
 -- Given data stay bytes: the tables that stand in them, and what a function that reads one asks of its bytes.
-use Rattle.std.specs.Prelude.{ℕ, ◌+◌, ◌*◌, ◌≤◌, ◌<◌, List, map, length}
+use Rattle.std.specs.Prelude.{ℕ, ◌+◌, ◌*◌, ◌≤◌, ◌<◌, List, [], map, length, get_or}
 use Rattle.model.specs.Limits.{max_summary, max_pattern, max_members, max_document, summary_width, pattern_width, document_width}
 use Rattle.model.specs.Tree.{DocumentRecord, Document, IsTree}
 use Rattle.model.specs.Summary.{Summary, as_document}
@@ -62,3 +62,21 @@ pub record TreeGiven (width : ℕ) (t : List ℕ) (most : ℕ) : Type 0 where
   pub whole : WholeSection width t 0
   pub tree : IsTree (tree_of width t)
   pub few : length (tree_of width t) ≤ most
+
+-- of a summary, a pattern, a document: a tree of few enough nodes
+pub record SummaryKept (S : Summary) : Type 0 where
+  pub tree : IsTree (as_document S)
+  pub few : length S ≤ max_summary
+
+pub record PatternKept (P : Pattern) : Type 0 where
+  pub tree : IsPatternTree P
+  pub few : length P ≤ max_pattern
+
+pub record DocumentKept (W : Document) : Type 0 where
+  pub tree : IsTree W
+  pub few : length W ≤ max_document
+
+-- of a set of patterns: few enough members, each of them kept
+pub record SetKept (Qs : List Pattern) : Type 0 where
+  pub few : length Qs ≤ max_members
+  pub members : (i : ℕ) → i < length Qs → PatternKept (get_or Qs i [])

@@ -9,38 +9,95 @@ use crate::field::field;
 use crate::limits::DOCUMENT_WIDTH;
 use crate::nodes::DocumentNode;
 use crate::records::record_field;
+use std::marker::Model;
 
-// How many nodes it has.
+// The document that stands at the front of the bytes, all its records whole.
+#[derive(Drop)]
+pub struct Document<'a> {
+    bytes: &'a [u8],
+}
+
+impl<'a> Model for Document<'a> {
+    ghost use Rattle.model.specs.Limits.{document_width};
+    ghost use Rattle.model.specs.Tree.{Document};
+    ghost use Rattle.model.specs.Bytes.{document_of, WholeSection};
+
+    ghost Value = { Document };
+
+    ghost view = { λ w. document_of w.bytes.now };
+
+    ghost invariant = { λ w. WholeSection document_width w.bytes.now 0 };
+}
+
+impl<'a> Document<'a> {
+    // The document that stands there.
+    pub fn new(bytes: &'a [u8]) -> Document<'a>
+        requires { WholeSection document_width bytes.now 0 }
+        ensures { result ≡ document_of bytes.now }
+    {
+        Document { bytes }
+    }
+
+    // How many nodes it has.
+    pub fn count(&self) -> usize
+        ensures { (result ≡ length self.now) × (result < 65536) }
+    {
+        field(self.bytes, 0)
+    }
+
+    // The parent of node v.
+    pub fn parent(&self, v: DocumentNode) -> DocumentNode
+        requires { v.0 < length self.now }
+        ensures { result.0 ≡ parent_of self.now v.0 }
+    {
+        DocumentNode(record_field(self.bytes, 0, DOCUMENT_WIDTH, v.0, 0))
+    }
+
+    // Its label.
+    pub fn label(&self, v: DocumentNode) -> u16
+        requires { v.0 < length self.now }
+        ensures { result ≡ label_of self.now v.0 }
+    {
+        record_field(self.bytes, 0, DOCUMENT_WIDTH, v.0, 1) as u16
+    }
+
+    // Its figure.
+    pub fn figure(&self, v: DocumentNode) -> u16
+        requires { v.0 < length self.now }
+        ensures { result ≡ figure_of self.now v.0 }
+    {
+        record_field(self.bytes, 0, DOCUMENT_WIDTH, v.0, 2) as u16
+    }
+}
+
+// What follows goes when nothing calls it any more.
 pub fn document_count(w: &[u8]) -> usize
     requires { WholeSection document_width w.now 0 }
     ensures { (result ≡ length (document_of w.now)) × (result < 65536) }
 {
-    field(w, 0)
+    Document::new(w).count()
 }
 
-// The parent of node v.
 pub fn document_parent(w: &[u8], v: DocumentNode) -> DocumentNode
     requires whole_section { WholeSection document_width w.now 0 }
     requires v_in_bounds { v.0 < length (document_of w.now) }
     ensures { result.0 ≡ parent_of (document_of w.now) v.0 }
 {
-    DocumentNode(record_field(w, 0, DOCUMENT_WIDTH, v.0, 0))
+    Document::new(w).parent(v)
 }
 
-// Its label.
 pub fn document_label(w: &[u8], v: DocumentNode) -> u16
     requires whole_section { WholeSection document_width w.now 0 }
     requires v_in_bounds { v.0 < length (document_of w.now) }
     ensures { result ≡ label_of (document_of w.now) v.0 }
 {
-    record_field(w, 0, DOCUMENT_WIDTH, v.0, 1) as u16
+    Document::new(w).label(v)
 }
 
-// Its figure.
 pub fn document_figure(w: &[u8], v: DocumentNode) -> u16
     requires whole_section { WholeSection document_width w.now 0 }
     requires v_in_bounds { v.0 < length (document_of w.now) }
     ensures { result ≡ figure_of (document_of w.now) v.0 }
 {
-    record_field(w, 0, DOCUMENT_WIDTH, v.0, 2) as u16
+    Document::new(w).figure(v)
 }

@@ -3,13 +3,6 @@
 ghost use Rattle.std.specs.Prelude.{◌≡◌, ◌+◌, ◌*◌, ◌<◌, length};
 ghost use Rattle.model.specs.Bytes.{field as field_of};
 
-// A byte as a number.
-fn byte(x: u8) -> usize
-    ensures { (result ≡ x) × (result < 256) }
-{
-    x as usize
-}
-
 // A number of a table as an index.
 pub fn wide(x: u16) -> usize
     ensures { (result ≡ x) × (result < 65536) }
@@ -36,5 +29,5 @@ pub fn field(s: &[u8], i: usize) -> usize
     requires { 2 * i + 1 < length s.now }
     ensures { (result ≡ field_of s.now i) × (result < 65536) }
 {
-    byte(s[2 * i]) + 256 * byte(s[2 * i + 1])
+    usize::from(u16::from_le_bytes([s[2 * i], s[2 * i + 1]]))
 }

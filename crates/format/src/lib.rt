@@ -2,11 +2,13 @@
 // either; lists; the writers.
 #![tactic(auto)]
 
+pub mod case;
 pub mod document;
 pub mod field;
 pub mod labels;
 pub mod limits;
 pub mod list;
+pub mod members;
 pub mod nodes;
 pub mod pattern;
 pub mod positions;

@@ -14,6 +14,7 @@ use Rattle.model.specs.Lists.{up_from, has}
 use Rattle.model.specs.Pattern.{Pattern, pattern_parent}
 use Rattle.model.specs.Verdict.{Progress, going, halted}
 use Rattle.model.specs.Skipping.{skip}
+use Rattle.judging.specs.declared.masks.Masks.{Masks}
 use Rattle.judging.specs.Blocks.{cell, cap_in}
 use Rattle.judging.specs.Room.{Capped}
 use Rattle.judging.specs.Stepping.{Candidates}
@@ -21,10 +22,10 @@ use Rattle.judging.specs.Skipping.{loop, join_at, plus_up_to, times_up_to, child
 
 -- ---- counts stay below the cap
 
--- one of the block's counts multiplied
-pub count_fits : {m : List ℕ} {acc e c y : ℕ} → Capped m → acc ≤ cap_in m → c < 16 → y < 64 → e ≡ get_or m (cell c y) 0 → acc * e < 2 ^ 64
+-- one of the counts multiplied
+pub count_fits : {m : Masks} {acc e c y : ℕ} → Capped m → acc ≤ cap_in m → c < 16 → y < 64 → e ≡ get_or m.counts (cell c y) 0 → acc * e < 2 ^ 64
 count_fits {m} {acc} {e} {c} {y} R h s l p =
-    let k : get_or m (cell c y) 0 ≤ cap_in m = R.bounded (cell c y) (omega arith) in
+    let k : get_or m.counts (cell c y) 0 ≤ cap_in m = R.bounded (cell c y) (omega arith) in
     let u : cap_in m < 4_294_967_296 = R.small in
     let v : acc * e ≤ 4_294_967_295 * 4_294_967_295 = mul-le-mul {n₂ = 4_294_967_295} {m₂ = 4_294_967_295} (omega arith) (omega arith) in
     omega arith
@@ -58,27 +59,27 @@ times_capped K P t c y p h =
     subst (λ (n : ℕ). n ≤ K) (sym p) (loop-capped (child_turn (times_up_to K) P t c y) (λ acc d l. child-capped K P t c y acc d refl l) (up_from (suc c) (length P - suc c)) 1 h)
 
 -- one joined
-pub count-joined : (i n : ℕ) (m : List ℕ) {K : ℕ} → K ≡ cap_in m → i < 1024 → Capped m → Capped (join_at (plus_up_to K) i n m)
+pub count-joined : (i n : ℕ) (m : Masks) → i < 1024 → Capped m → Capped (record m { counts = join_at (plus_up_to (cap_in m)) i n m.counts })
 unfolding join_at
-count-joined i n m {K} e l R =
+count-joined i n m l R =
     record {
-      some = subst (λ (k : ℕ). 0 < k) (sym cap) R.some;
-      small = subst (λ (k : ℕ). k < 4_294_967_296) (sym cap) R.small;
-      bounded = λ j h. subst (λ (k : ℕ). get_or (set m i v) j 0 ≤ k) (sym cap) (go j h (eqb j i) refl (ltb i (length m)) refl);
+      some = R.some;
+      small = R.small;
+      bounded = λ j h. go j h (eqb j i) refl (ltb i (length m.counts)) refl;
     }
   where
+    K : ℕ
+    K = cap_in m
+
     v : ℕ
-    v = min K (get_or m i 0 + n)
+    v = min K (get_or m.counts i 0 + n)
 
-    cap : cap_in (set m i v) ≡ cap_in m
-    cap = get_or-set_other m i 1168 v 0 (λ q. omega arith)
-
-    go : (j : ℕ) → j < 1024 → (b : Bool) → eqb j i ≡ b → (t : Bool) → ltb i (length m) ≡ t → get_or (set m i v) j 0 ≤ cap_in m
+    go : (j : ℕ) → j < 1024 → (b : Bool) → eqb j i ≡ b → (t : Bool) → ltb i (length m.counts) ≡ t → get_or (set m.counts i v) j 0 ≤ K
     go j h true q true t =
-        subst (λ (k : ℕ). get_or (set m i v) k 0 ≤ cap_in m) (sym (eqb-true j i q))
-        (subst (λ (k : ℕ). k ≤ cap_in m) (sym (get_or-set_same m i v 0 (ltb-true i (length m) t))) (subst (λ (k : ℕ). v ≤ k) e (min-le_left K (get_or m i 0 + n))))
-    go j h true q false t = subst (λ (u : List ℕ). get_or u j 0 ≤ cap_in m) (sym (set_out m i v (ltb-false i (length m) t))) (R.bounded j h)
-    go j h false q t p = subst (λ (k : ℕ). k ≤ cap_in m) (sym (get_or-set_other m i j v 0 (eqb-false j i q))) (R.bounded j h)
+        subst (λ (k : ℕ). get_or (set m.counts i v) k 0 ≤ K) (sym (eqb-true j i q))
+        (subst (λ (k : ℕ). k ≤ K) (sym (get_or-set_same m.counts i v 0 (ltb-true i (length m.counts) t))) (min-le_left K (get_or m.counts i 0 + n)))
+    go j h true q false t = subst (λ (u : List ℕ). get_or u j 0 ≤ K) (sym (set_out m.counts i v (ltb-false i (length m.counts) t))) (R.bounded j h)
+    go j h false q t p = subst (λ (k : ℕ). k ≤ K) (sym (get_or-set_other m.counts i j v 0 (eqb-false j i q))) (R.bounded j h)
 
 -- ---- what is handed up
 

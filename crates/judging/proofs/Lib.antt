@@ -13,13 +13,11 @@ pub mod CountLaws
 pub mod HangLoop
 pub mod GivenLoop
 pub mod SetLoops
-pub mod PutLaws
 pub mod TableSets
 pub mod ByteLaws
 pub mod ClosedLaws
 pub mod BlockSets
 pub mod RoomLaws
-pub mod BlockLaws
 pub mod WaysLoop
 pub mod EachLoop
 pub mod SettleLaws

@@ -3,7 +3,7 @@
 -- nothing.
 use Prim.Native.Nat.{ℕ, zero, suc, ◌+◌, ◌-◌, ◌*◌, ◌/◌, ◌%◌, ◌≤◌, ◌<◌, max}
 use mathlib.Core.Path.{◌≡◌, refl, sym, ap, ap₂, ◌∙◌, subst}
-use mathlib.Core.Bool.{Bool, true, false, not, true≢false}
+use mathlib.Core.Bool.{Bool, true, false, true≢false}
 use mathlib.Core.List.{List}
 use native.Mathlib.Omega.{arith}
 use lib.Arith.{bin_ind}
@@ -11,10 +11,12 @@ use lib.Bits.{bit_or, or_step, or_zero_r, or_comm, or_shr}
 use lib.Dec.{eqb, ltb}
 use lib.ListN.{length, get_or, set, take, replicate, length-set}
 use lib.Seq.{get_or-set_same, get_or-set_other, get_or-take, take-set-le, set-set, set_comm, set-get_or}
-use borrow.Author.Tests.{eqb-true, eqb-false, ne_eqb, ltb-true, ltb-false, lt-ltb, le-ltb}
+use borrow.Author.Tests.{eqb-true, eqb-false, eq-eqb, ne_eqb, ltb-true, ltb-false, lt-ltb, le-ltb}
 use Rattle.model.specs.Pattern.{Pattern, IsPatternTree, pattern_parent}
 use Rattle.judging.specs.Judging.{join_up, gather, Sets, hang_by, pass_by, given_by, root_by, judge_by}
-use Rattle.judging.specs.Settling.{Lasts, unless_over, settled_by, settled_row, folded_by, folded_row, Settled}
+use Rattle.judging.specs.Settling.{Lasts, settled_by, settled_row, folded_by, folded_row, Settled}
+use Rattle.judging.specs.declared.member.Member.{Member}
+use Rattle.judging.specs.declared.masks.Masks.{Masks}
 use Rattle.judging.specs.Blocks.{last_in, sets_in}
 
 -- ---- unions
@@ -41,7 +43,7 @@ or_swap = bin_ind (λ x. (a b : ℕ) → bit_or (bit_or x a) b ≡ bit_or (bit_o
 -- ---- one turn
 
 -- a node that passes nothing on changes nothing
-turn-none : (parent : ℕ → ℕ) (F : ℕ → ℕ → ℕ) (c : ℕ) (t : List ℕ) → F c (get_or t c 0) ≡ 0 → join_up parent F c t ≡ t
+pub turn-none : (parent : ℕ → ℕ) (F : ℕ → ℕ → ℕ) (c : ℕ) (t : List ℕ) → F c (get_or t c 0) ≡ 0 → join_up parent F c t ≡ t
 unfolding join_up
 turn-none parent F c t e = ap (λ (v : ℕ). set t (parent c) (bit_or (get_or t (parent c) 0) v)) e ∙ ap (set t (parent c)) (or_zero_r (get_or t (parent c) 0)) ∙ set-get_or t (parent c) 0
 
@@ -178,22 +180,18 @@ gather-nothing parent F (suc k) t h =
 
 -- ---- rows
 
--- a turn that is passed over passes nothing on
-module _ (T : Sets) (P : Pattern) (last : ℕ → ℕ) (q : ℕ) (es : List ℕ) (c e : ℕ) where
-  pub over-folded : (b : Bool) → b ≡ not (eqb (last c) q) → unless_over b (pass_by T P es c e) ≡ folded_by T P last q es c e
-  unfolding folded_by
-  over-folded b p = ap (λ (x : Bool). unless_over x (pass_by T P es c e)) p ∙ turned (eqb (last c) q) (pass_by T P es c e)
-    where
-      turned : (x : Bool) (v : ℕ) → unless_over (not x) v ≡ (elim x as (λ _. ℕ) [ true ↦ v | false ↦ 0 ])
-      turned true v = refl
-      turned false v = refl
-
--- a turn that is not
-pub over_no : {b : Bool} (v : ℕ) → b ≡ false → v ≡ unless_over b v
-over_no v p = sym (ap (λ (x : Bool). unless_over x v) p)
-
 abbrev choose : ℕ → ℕ → Bool → ℕ
 choose a b t = elim t as (λ _. ℕ) [ true ↦ a | false ↦ b ]
+
+-- what a node's turn passes on, by whether its part ends with the node just placed
+module _ (T : Sets) (P : Pattern) (last : ℕ → ℕ) (q : ℕ) (es : List ℕ) (c e : ℕ) where
+  pub folded-yes : {l : ℕ} → l ≡ last c → l ≡ q → pass_by T P es c e ≡ folded_by T P last q es c e
+  unfolding folded_by
+  folded-yes p h = sym (ap (choose (pass_by T P es c e) 0) (eq-eqb (last c) q (sym p ∙ h)))
+
+  pub folded-no : {l : ℕ} → l ≡ last c → (l ≡ q → ⊥) → folded_by T P last q es c e ≡ 0
+  unfolding folded_by
+  folded-no p h = ap (choose (pass_by T P es c e) 0) (ne_eqb (last c) q (λ i. h (p ∙ i)))
 
 module _ (T : Sets) (P : Pattern) (tree : IsPatternTree P) (last : ℕ → ℕ) (L : Lasts (length P) (pattern_parent P) last) where
   -- a part that stands in a complete one is complete
@@ -287,7 +285,7 @@ module _ (T : Sets) (P : Pattern) (tree : IsPatternTree P) (last : ℕ → ℕ) 
 
 -- ---- the row that stepping carries
 
-module _ {t m : List ℕ} (P : Pattern) (tree : IsPatternTree P) where
+module _ {t : Member} {m : Masks} (P : Pattern) (tree : IsPatternTree P) where
   -- a whole embedding is judged by what hangs from its root
   pub row-whole : {q : ℕ} {es row : List ℕ} → Settled t m P q es row → q ≡ length P → judge_by (sets_in t) P es ≡ root_by (sets_in t) (get_or row 0 0)
   row-whole {q} {es} s e = settled-whole (sets_in t) P tree (last_in m) s.lasts es e ∙ ap (λ (r : List ℕ). root_by (sets_in t) (get_or r 0 0)) (sym s.same)

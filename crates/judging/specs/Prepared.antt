@@ -1,16 +1,19 @@
 -- What the blocks hold when they are those of a summary, a first pattern and the members of a set.
 use Rattle.std.specs.Prelude.{ℕ, ◌≤◌, ◌<◌, ◌≡◌, Bool, List, [], length, get_or}
 use Rattle.model.specs.Lists.{mask_below}
-use Rattle.model.specs.Tree.{Rooted, IsTree}
+use Rattle.model.specs.Tree.{Rooted}
 use Rattle.model.specs.Summary.{Summary, as_document, summary_label, summary_parent}
 use Rattle.model.specs.Pattern.{Pattern, IsPatternTree, pattern_label, descends, label_fits}
 use Rattle.model.specs.Facts.{SummaryFacts}
 use Rattle.model.specs.Embeddings.{child_test, below_test, is_path}
 use Rattle.model.specs.Quick.{Held, held_by, unheld, may_hold, closed}
+use Rattle.format.specs.Given.{SummaryKept}
 use Rattle.matching.specs.Matching.{children_in}
-use Rattle.judging.specs.Blocks.{up_in, cap_in, last_in, sets_in, candidates_in}
+use Rattle.judging.specs.declared.member.Member.{Member}
+use Rattle.judging.specs.declared.masks.Masks.{Masks}
+use Rattle.judging.specs.Blocks.{no_member, up_in, cap_in, last_in, sets_in, candidates_in}
 use Rattle.judging.specs.Judging.{nobody, full_by, Sets}
-use Rattle.judging.specs.Sets.{path_table, summary_rows}
+use Rattle.judging.specs.Sets.{path_table}
 use Rattle.judging.specs.Stepping.{Candidates}
 
 -- entry n has the nodes of Q that may stand where h is held
@@ -39,47 +42,42 @@ pub record StepSets (S : Summary) (P : Pattern) (M : Candidates) : Type 0 where
 
 -- ---- blocks that are made
 
--- a summary that fits the blocks
-pub record SummaryNarrow (S : Summary) : Type 0 where
-  pub tree : IsTree (as_document S)
-  pub few : length S ≤ 64
-
 -- the block of a summary, a first pattern and a member holds what one node takes, and the summary's parents, with zeros after them
-pub record SetsMade (S : Summary) (P Q : Pattern) (t : List ℕ) : Type 0 where
+pub record SetsMade (S : Summary) (P Q : Pattern) (t : Member) : Type 0 where
   pub tree : Rooted 64 (up_in t)
   pub ups : (x : ℕ) → x < length S → up_in t x ≡ summary_parent S x
   pub node : NodeSets S P Q (sets_in t)
 
 -- and what a chain takes
-pub record MemberMade (S : Summary) (P Q : Pattern) (t : List ℕ) : Type 0 where
+pub record MemberMade (S : Summary) (P Q : Pattern) (t : Member) : Type 0 where
   pub tree : Rooted 64 (up_in t)
   pub sets : ChainSets S P Q (sets_in t)
 
 -- one for each member, in the set's order
-pub record MembersMade (S : Summary) (P : Pattern) (Qs : List Pattern) (ts : List (List ℕ)) : Type 0 where
+pub record MembersMade (S : Summary) (P : Pattern) (Qs : List Pattern) (ts : List Member) : Type 0 where
   pub count : length ts ≡ length Qs
-  pub each : (i : ℕ) → i < length Qs → MemberMade S P (get_or Qs i []) (get_or ts i [])
+  pub each : (i : ℕ) → i < length Qs → MemberMade S P (get_or Qs i []) (get_or ts i no_member)
 
 -- the block of a summary and a first pattern holds what stepping takes, if `parts` has the pattern's paths; no ways are counted yet
-pub record MasksMade (S : Summary) (parts lasts : List ℕ) (cap : ℕ) (m : List ℕ) : Type 0 where
+pub record MasksMade (S : Summary) (parts lasts : List ℕ) (cap : ℕ) (m : Masks) : Type 0 where
   pub sets : (P : Pattern) → length P ≤ 16 → parts ≡ path_table S P → StepSets S P (candidates_in m)
   pub ends : (c : ℕ) → c < 16 → last_in m c ≡ get_or lasts c 0
   pub most : cap_in m ≡ cap
-  pub cells : (i : ℕ) → i < 1024 → get_or m i 0 ≡ 0
+  pub cells : (i : ℕ) → i < 1024 → get_or m.counts i 0 ≡ 0
 
--- of whichever summary has these rows
-abbrev pub MadeFrom : List (List ℕ) → List ℕ → List ℕ → ℕ → List ℕ → Type 0
-MadeFrom rows parts lasts cap m = (S : Summary) → SummaryNarrow S → rows ≡ summary_rows S → MasksMade S parts lasts cap m
+-- if the summary is a tree of few enough nodes
+abbrev pub MadeFrom : Summary → List ℕ → List ℕ → ℕ → Masks → Type 0
+MadeFrom S parts lasts cap m = SummaryKept S → MasksMade S parts lasts cap m
 
 -- ---- what skipping takes
 
 -- the blocks are those of a summary, of the members of a set and of the first pattern P
-pub record Made (ts : List (List ℕ)) (m : List ℕ) (P : Pattern) : Type 0 where
+pub record Made (ts : List Member) (m : Masks) (P : Pattern) : Type 0 where
   pub summary : Summary
   pub members : List Pattern
   pub facts : SummaryFacts summary
   pub narrow : length summary ≤ 64
-  pub chains : (i : ℕ) → i < length ts → ChainSets summary P (get_or members i []) (sets_in (get_or ts i []))
+  pub chains : (i : ℕ) → i < length ts → ChainSets summary P (get_or members i []) (sets_in (get_or ts i no_member))
   pub some : (i : ℕ) → i < length ts → 0 < length (get_or members i [])
   pub steps : StepSets summary P (candidates_in m)
   pub tree : IsPatternTree P

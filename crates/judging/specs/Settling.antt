@@ -1,8 +1,10 @@
 -- Settling: what a part of the first pattern offers is worked out once, when its last node is placed, and kept in a row of sets, one for
 -- each node: what the complete parts that hang from it offer. `last c` is the last node of c's part.
-use Rattle.std.specs.Prelude.{ℕ, ◌-◌, ◌≤◌, ◌<◌, ◌≡◌, Bool, true, false, List, eqb, ltb, length, replicate}
+use Rattle.std.specs.Prelude.{ℕ, ◌-◌, ◌≤◌, ◌<◌, ◌≡◌, true, false, List, eqb, ltb, length, replicate}
 use Rattle.model.specs.Pattern.{Pattern, pattern_parent}
 use Rattle.judging.specs.Judging.{gather, Sets, pass_by}
+use Rattle.judging.specs.declared.member.Member.{Member}
+use Rattle.judging.specs.declared.masks.Masks.{Masks}
 use Rattle.judging.specs.Blocks.{last_in, sets_in}
 
 -- of n nodes: a part ends with its root or later, with one of the nodes, and with the part that it stands in or before
@@ -19,10 +21,6 @@ settled_by T P last q es c e = elim (ltb (last c) q) [ true ↦ pass_by T P es c
 unfoldable pub settled_row : Sets → Pattern → (ℕ → ℕ) → ℕ → List ℕ → List ℕ
 settled_row T P last q es = gather (pattern_parent P) (settled_by T P last q es) (length P - 1) (replicate 16 0)
 
--- a set, or nothing where a node's turn is passed over
-abbrev pub unless_over : Bool → ℕ → ℕ
-unless_over over set = elim over [ true ↦ 0 | false ↦ set ]
-
 -- what is folded in when node q is placed: what the parts that end with it offer
 unfoldable pub folded_by : Sets → Pattern → (ℕ → ℕ) → ℕ → List ℕ → ℕ → ℕ → ℕ
 folded_by T P last q es c e = elim (eqb (last c) q) [ true ↦ pass_by T P es c e | false ↦ 0 ]
@@ -31,6 +29,6 @@ unfoldable pub folded_row : Sets → Pattern → (ℕ → ℕ) → ℕ → List 
 folded_row T P last q es row = gather (pattern_parent P) (folded_by T P last q es) (length P - 1) row
 
 -- the blocks t and m have the last nodes of parts, and the row is settled
-pub record Settled (t m : List ℕ) (P : Pattern) (q : ℕ) (es row : List ℕ) : Type 0 where
+pub record Settled (t : Member) (m : Masks) (P : Pattern) (q : ℕ) (es row : List ℕ) : Type 0 where
   pub lasts : Lasts (length P) (pattern_parent P) (last_in m)
   pub same : row ≡ settled_row (sets_in t) P (last_in m) q es

@@ -4,7 +4,6 @@
 pub mod judge;
 pub mod masks;
 pub mod member;
-mod parents;
 pub mod rows;
 pub mod sets;
 pub mod ways;

@@ -11,25 +11,22 @@ use lib.Dec.{eqb}
 use lib.ListN.{length, get_or}
 use borrow.Author.Tests.{eqb-true, eq-eqb}
 use Rattle.model.specs.Lists.{up_from, keep, any_of, mask_below, has}
-use Rattle.model.specs.Limits.{document_width}
-use Rattle.model.specs.Tree.{Document, IsTree, Hom}
+use Rattle.model.specs.Tree.{Document, IsTree}
 use Rattle.model.specs.Summary.{Summary, as_document}
-use Rattle.model.specs.Pattern.{Pattern, IsPatternTree, pattern_label, descends, arity, position, node_at, label_fits, Embeds, Result, AtPosition, SummaryEmbedding}
+use Rattle.model.specs.Pattern.{Pattern, IsPatternTree, arity, position, node_at, Result, AtPosition, SummaryEmbedding}
 use Rattle.model.specs.Embeddings.{summary_embeddings, image_in, is_result, is_at, nodes_at, is_path, path_mask}
 use Rattle.model.specs.Facts.{PatternFacts}
-use Rattle.model.specs.Bytes.{document_of, written_at_front}
+use Rattle.model.specs.Bytes.{written_at_front}
 use Rattle.model.proofs.ListLaws.{bool-ext, and_intro, and_left, and_right, or_cases, or_left, or_right, up_from-mem}
-use Rattle.model.proofs.TreeLaws.{length-as_document, hom-edge, hom-embeds}
+use Rattle.model.proofs.TreeLaws.{length-as_document}
 use Rattle.model.proofs.Embeddings.{embeddings-sound, embeddings-complete}
 use Rattle.model.proofs.Masks.{mask_below_lem}
 use Rattle.model.proofs.NodeByNode.{Can, can, Pinned, PinnedIn, result-can}
 use Rattle.model.proofs.Results.{takes-exact, result-exact, at-position-exact, path-mask-of}
 use Rattle.bits.proofs.MaskLaws.{mask-agree}
-use Rattle.format.specs.Given.{bare, tree_of, third_in}
-use Rattle.format.proofs.BareLaws.{bare-length, bare-parent, bare-label, bare-tree}
-use Rattle.format.proofs.SectionLaws.{tree-document, document-third}
 use Rattle.matching.specs.Matching.{part_at, stands_at, result_pin, figure_pin}
-use Rattle.matching.specs.Wanted.{Wants, Unmarked, Unasked, Marked, WantsFigured, block_pin}
+use Rattle.matching.specs.declared.wanted.Wanted.{Wanted}
+use Rattle.matching.specs.Wanted.{Wants, Unmarked, Unasked, Marked, WantsFigured, pin_of}
 use Rattle.matching.specs.Tables.{part_table, stand_table, HoldsParts, HoldsStands}
 use Rattle.matching.specs.Outcomes.{in_mask, Written}
 use Rattle.matching.proofs.Parts.{Pin, part-exact}
@@ -45,35 +42,11 @@ keep-agree f g [] h = refl
 keep-agree f g (x ∷ xs) h =
     ap₂ (λ (b : Bool) (l : List ℕ). elim b as (λ _. List ℕ) [ true ↦ x ∷ l | false ↦ l ]) (h x (Memᴰ.head refl)) (keep-agree f g xs (λ y m. h y (Memᴰ.tail m)))
 
--- ---- figures left aside
-
--- the same nodes, labels and children
-to-bare : (W : Document) → Hom W (bare W) (λ v. v)
-to-bare W =
-    record {
-      root = refl;
-      inside = λ i h. subst (λ (n : ℕ). i < n) (sym (bare-length W)) h;
-      labels = λ i h. bare-label W i;
-      children = λ a b c. record { not_root = c.not_root; inside = subst (λ (n : ℕ). b < n) (sym (bare-length W)) c.inside; is_parent = bare-parent W b ∙ c.is_parent };
-    }
-
-from-bare : (W : Document) → Hom (bare W) W (λ v. v)
-from-bare W =
-    record {
-      root = refl;
-      inside = λ i h. subst (λ (n : ℕ). i < n) (bare-length W) h;
-      labels = λ i h. sym (bare-label W i);
-      children = λ a b c. record { not_root = c.not_root; inside = subst (λ (n : ℕ). b < n) (bare-length W) c.inside; is_parent = sym (bare-parent W b) ∙ c.is_parent };
-    }
-
 -- ---- is it a result
 
--- into a document with the same nodes, and from one pin to another
-can-into : {Q : Pattern} {W D : Document} (A B : ℕ → ℕ → Type 0) → Hom W D (λ v. v) → ((p v : ℕ) → p < length Q → v < length W → A p v → B p v) → {p v : ℕ} → p < length Q
-    → Can Q W A p v → Can Q D B p v
-can-into {Q} A B m g {p} {v} h (can i l k f es cs) =
-    can (m.inside v i) (ap (label_fits (pattern_label Q p)) (m.labels v i) ∙ l) (g p v h i k) f (λ c u. hom-edge (descends Q c) v (f c u) m (es c u))
-    (λ c u. can-into A B m g u.inside (cs c u))
+-- from one pin to another
+can-into : {Q : Pattern} {W : Document} (A B : ℕ → ℕ → Type 0) → ((p v : ℕ) → p < length Q → v < length W → A p v → B p v) → {p v : ℕ} → p < length Q → Can Q W A p v → Can Q W B p v
+can-into {Q} A B g {p} {v} h (can i l k f es cs) = can i l (g p v h i k) f es (λ c u. can-into A B g u.inside (cs c u))
 
 pinned-pin : (Q : Pattern) (r : List ℕ) (p v : ℕ) → Pinned Q r p v → result_pin Q r p v ≡ true
 unfolding result_pin
@@ -91,16 +64,16 @@ pin-pinned Q r p v e = go (or_cases (eqb (position Q p) 0) (eqb v (get_or r (pos
 -- a document's pins: the return nodes', and the least figures
 module _ (Q : Pattern) (W : Document) (pin : ℕ → ℕ → Bool) (T : IsPatternTree Q) (t : IsTree W) where
   -- a list of k entries is a result exactly when the root's bit at the root is set, with the return nodes pinned to the list
-  pub result-part : (r : List ℕ) → PatternFacts Q → length r ≡ arity Q → ((p v : ℕ) → p < length Q → v < length W → pin p v ≡ (result_pin Q r p v && figure_pin Q W p v))
-      → is_result Q W r ≡ part_at Q (bare W) pin 0 0
+  pub result-part : (r : List ℕ) → PatternFacts Q → length r ≡ arity Q → ((p v : ℕ) → p < length Q → pin p v ≡ (result_pin Q r p v && figure_pin Q W p v))
+      → is_result Q W r ≡ part_at Q W pin 0 0
   unfolding figure_pin
   result-part r F n same =
-      bool-ext (is_result Q W r) (part_at Q (bare W) pin 0 0)
-      (λ e. exact.1 (can-into (PinnedIn Q W r) (Pin pin) (to-bare W) (λ p v h i k. same p v h i ∙ and_intro (pinned-pin Q r p v k.0) k.1) T.inhabited (cans.0 ((result-exact r F t).0 e))))
-      (λ e. (result-exact r F t).1 (cans.1 (can-into (Pin pin) (PinnedIn Q W r) (from-bare W) (λ p v h i k. back p v (sym (same p v h ((from-bare W).inside v i)) ∙ k)) T.inhabited (exact.0 e))))
+      bool-ext (is_result Q W r) (part_at Q W pin 0 0)
+      (λ e. exact.1 (can-into (PinnedIn Q W r) (Pin pin) (λ p v h i k. same p v h ∙ and_intro (pinned-pin Q r p v k.0) k.1) T.inhabited (cans.0 ((result-exact r F t).0 e))))
+      (λ e. (result-exact r F t).1 (cans.1 (can-into (Pin pin) (PinnedIn Q W r) (λ p v h i k. back p v (sym (same p v h) ∙ k)) T.inhabited (exact.0 e))))
     where
-      exact : (part_at Q (bare W) pin 0 0 ≡ true) ↔ Can Q (bare W) (Pin pin) 0 0
-      exact = part-exact Q (bare W) pin (bare-tree W t) 0 0 (bare-tree W t).inhabited
+      exact : (part_at Q W pin 0 0 ≡ true) ↔ Can Q W (Pin pin) 0 0
+      exact = part-exact Q W pin t 0 0 t.inhabited
 
       cans : Result Q W r ↔ Can Q W (PinnedIn Q W r) 0 0
       cans = result-can F n
@@ -109,24 +82,16 @@ module _ (Q : Pattern) (W : Document) (pin : ℕ → ℕ → Bool) (T : IsPatter
       back p v e = (pin-pinned Q r p v (and_left (result_pin Q r p v) (figure_pin Q W p v) e), and_right (result_pin Q r p v) (figure_pin Q W p v) e)
 
   -- v is at a position exactly when the node that holds it stands at v, figures alone being pins
-  pub at-stands : (p v : ℕ) → PatternFacts Q → 1 ≤ p → p ≤ arity Q → v < length W → ((q w : ℕ) → q < length Q → w < length W → pin q w ≡ figure_pin Q W q w)
-      → is_at Q W p v ≡ stands_at Q (bare W) pin v (node_at Q p)
+  pub at-stands : (p v : ℕ) → PatternFacts Q → 1 ≤ p → p ≤ arity Q → v < length W → ((q w : ℕ) → q < length Q → pin q w ≡ figure_pin Q W q w)
+      → is_at Q W p v ≡ stands_at Q W pin v (node_at Q p)
   unfolding figure_pin
   at-stands p v F low top h same =
-      bool-ext (is_at Q W p v) (stands_at Q (bare W) pin v (node_at Q p))
-      (λ e. (let m = at.0 e in
-      exact.1 (record {
-        image = m.image;
-        embeds = hom-embeds m.embeds (to-bare W);
-        pinned = λ q l. same q (m.image q) l (m.embeds.inside q l) ∙ m.figures q l;
-        takes = m.takes;
-      })))
-      (λ e. (let m = exact.0 e in
-      let es : Embeds Q W m.image = hom-embeds m.embeds (from-bare W) in
-      at.1 (record { image = m.image; embeds = es; figures = λ q l. sym (same q (m.image q) l (es.inside q l)) ∙ m.pinned q l; takes = m.takes })))
+      bool-ext (is_at Q W p v) (stands_at Q W pin v (node_at Q p))
+      (λ e. (let m = at.0 e in exact.1 (record { image = m.image; embeds = m.embeds; pinned = λ q l. same q (m.image q) l ∙ m.figures q l; takes = m.takes })))
+      (λ e. (let m = exact.0 e in at.1 (record { image = m.image; embeds = m.embeds; figures = λ q l. sym (same q (m.image q) l) ∙ m.pinned q l; takes = m.takes })))
     where
-      exact : (stands_at Q (bare W) pin v (node_at Q p) ≡ true) ↔ Standing Q (bare W) pin (node_at Q p) v
-      exact = stands-exact Q (bare W) pin T (bare-tree W t) (node_at Q p) v (F.holds p low top) ((to-bare W).inside v h)
+      exact : (stands_at Q W pin v (node_at Q p) ≡ true) ↔ Standing Q W pin (node_at Q p) v
+      exact = stands-exact Q W pin T t (node_at Q p) v (F.holds p low top) h
 
       at : (is_at Q W p v ≡ true) ↔ AtPosition Q W p v
       at = at-position-exact p v F t low top
@@ -156,58 +121,51 @@ path-stands S Q pin T t free q test h same =
 
 -- ---- read off the tables
 
--- the bits of an entry, where the tree in t is W
-module _ {Q : Pattern} {W : Document} {w : List ℕ} (K : Wants Q w) (width : ℕ) (t before : List ℕ) (same : tree_of width t ≡ W) {after : List ℕ} where
-  entry-bit : (f : Document → ℕ → ℕ → Bool) → after ≡ written_at_front (map (λ v. mask_below (f (tree_of width t) v) (length Q)) (up_from 0 (length (tree_of width t)))) before
-      → (v q : ℕ) → v < length W → q < length Q → in_mask after q v ≡ f W v q
-  entry-bit f e v q h l =
-      ap (λ (x : ℕ). has x q)
-      (front-entry (λ v. mask_below (f W v) (length Q)) (length W) before
-      (e ∙ ap (λ (X : Document). written_at_front (map (λ v. mask_below (f X v) (length Q)) (up_from 0 (length X))) before) same) v h)
-      ∙ mask_below_lem (f W v) (length Q) q l
+-- the bits of an entry
+module _ {Q : Pattern} {w : Wanted} (K : Wants Q w) (W : Document) (before : List ℕ) {after : List ℕ} where
+  entry-bit : (f : ℕ → ℕ → Bool) → after ≡ written_at_front (map (λ v. mask_below (f v) (length Q)) (up_from 0 (length W))) before → (v q : ℕ) → v < length W → q < length Q
+      → in_mask after q v ≡ f v q
+  entry-bit f e v q h l = ap (λ (x : ℕ). has x q) (front-entry (λ v. mask_below (f v) (length Q)) (length W) before e v h) ∙ mask_below_lem (f v) (length Q) q l
 
-  stand-bit : HoldsStands width t w before after → (v q : ℕ) → v < length W → q < length Q → in_mask after q v ≡ stands_at Q W (block_pin w (third_in width t)) v q
+  stand-bit : HoldsStands W w before after → (v q : ℕ) → v < length W → q < length Q → in_mask after q v ≡ stands_at Q W (pin_of w W) v q
   unfolding stand_table
-  stand-bit H = entry-bit (λ X. stands_at Q X (block_pin w (third_in width t))) (H Q K)
+  stand-bit H = entry-bit (stands_at Q W (pin_of w W)) (H Q K)
 
-  part-bit : HoldsParts width t w before after → (v q : ℕ) → v < length W → q < length Q → in_mask after q v ≡ part_at Q W (block_pin w (third_in width t)) v q
+  part-bit : HoldsParts W w before after → (v q : ℕ) → v < length W → q < length Q → in_mask after q v ≡ part_at Q W (pin_of w W) v q
   unfolding part_table
-  part-bit H = entry-bit (λ X. part_at Q X (block_pin w (third_in width t))) (H Q K)
+  part-bit H = entry-bit (part_at Q W (pin_of w W)) (H Q K)
 
--- over the document in t
-module _ {Q : Pattern} {w₀ w : List ℕ} (B : WantsFigured Q w₀ w) (t before : List ℕ) {after : List ℕ} (F : PatternFacts Q) (T : IsTree (document_of t)) where
+-- over a document
+module _ {Q : Pattern} {w₀ w : Wanted} (B : WantsFigured Q w₀ w) (W : Document) (before : List ℕ) {after : List ℕ} (F : PatternFacts Q) (T : IsTree W) where
   -- is it a result
-  pub result-read : (list : List ℕ) {r : Bool} → Marked Q list w₀ → length list ≡ arity Q → HoldsParts document_width t w before after
-      → r ≡ has (get_or after 0 0) 0 → r ≡ is_result Q (document_of t) list
+  pub result-read : (list : List ℕ) {r : Bool} → Marked Q list w₀ → length list ≡ arity Q → HoldsParts W w before after → r ≡ has (get_or after 0 0) 0 → r ≡ is_result Q W list
   result-read list M n H e =
       let K = B.wants in
-      e ∙ part-bit K document_width t before (tree-document t) H 0 0 ((to-bare (document_of t)).inside 0 T.inhabited) K.tree.inhabited
-      ∙ sym (result-part Q (document_of t) (block_pin w (third_in document_width t)) K.tree T list F n
-      (λ p v h i. marked-pin Q (document_of t) w (third_in document_width t) list (λ q l. B.marks q (omega (arith, K.few)) ∙ M q l) B.asked p v h (document-third t v i)))
+      e ∙ part-bit K W before H 0 0 T.inhabited K.tree.inhabited
+      ∙ sym (result-part Q W (pin_of w W) K.tree T list F n (λ p v h. marked-pin Q W w list (λ q l. B.marks q (omega (arith, K.few)) ∙ M q l) B.asked p v h))
 
   -- nodes at a position
-  pub nodes-read : {n p q r : ℕ} {out : List ℕ} (out₀ : List ℕ) → Unmarked w₀ → 1 ≤ p → p ≤ arity Q → HoldsStands document_width t w before after
-      → q ≡ node_at Q p → n ≡ length (document_of t) → Written (keep (in_mask after q) (up_from 0 n)) out₀ out r → Written (nodes_at Q (document_of t) p) out₀ out r
+  pub nodes-read : {n p q r : ℕ} {out : List ℕ} (out₀ : List ℕ) → Unmarked w₀ → 1 ≤ p → p ≤ arity Q → HoldsStands W w before after → q ≡ node_at Q p → n ≡ length W
+      → Written (keep (in_mask after q) (up_from 0 n)) out₀ out r → Written (nodes_at Q W p) out₀ out r
   nodes-read {n} {p} {q} {r} {out} out₀ U low top H e s = subst (λ (l : List ℕ). Written l out₀ out r) listed
     where
       K : Wants Q w
       K = B.wants
 
-      here : (v : ℕ) → v < length (document_of t) → in_mask after (node_at Q p) v ≡ is_at Q (document_of t) p v
+      here : (v : ℕ) → v < length W → in_mask after (node_at Q p) v ≡ is_at Q W p v
       here v h =
-          stand-bit K document_width t before (tree-document t) H v (node_at Q p) ((to-bare (document_of t)).inside v h) (F.holds p low top)
-          ∙ sym (at-stands Q (document_of t) (block_pin w (third_in document_width t)) K.tree T p v F low top h
-          (λ i x l k. unmarked-pin Q (document_of t) w (third_in document_width t) K.few (λ j m. B.marks j m ∙ U j m) B.asked i x l (document-third t x k)))
+          stand-bit K W before H v (node_at Q p) h (F.holds p low top)
+          ∙ sym (at-stands Q W (pin_of w W) K.tree T p v F low top h (λ i x l. unmarked-pin Q W w K.few (λ j m. B.marks j m ∙ U j m) B.asked i x l))
 
-      listed : keep (in_mask after q) (up_from 0 n) ≡ nodes_at Q (document_of t) p
+      listed : keep (in_mask after q) (up_from 0 n) ≡ nodes_at Q W p
       listed =
           ap₂ (λ (x y : ℕ). keep (in_mask after x) (up_from 0 y)) e s
-          ∙ nodes-stand Q (document_of t) (block_pin w (third_in document_width t)) K.tree T p (in_mask after (node_at Q p)) here
+          ∙ nodes-stand Q W (pin_of w W) K.tree T p (in_mask after (node_at Q p)) here
 
 -- paths
-pub path-read : (S : Summary) {Q : Pattern} {w : List ℕ} → Wants Q w → (width : ℕ) (t before : List ℕ) {after : List ℕ} {n q : ℕ} → Unmarked w → Unasked w
-    → tree_of width t ≡ as_document S → IsTree (as_document S) → HoldsStands width t w before after → n ≡ length S → q < length Q → mask_below (in_mask after q) n ≡ path_mask S Q q
-path-read S {Q} {w} K width t before {after} {n} {q} U A same T H e h =
+pub path-read : (S : Summary) {Q : Pattern} {w : Wanted} → Wants Q w → (before : List ℕ) {after : List ℕ} {n q : ℕ} → Unmarked w → Unasked w → IsTree (as_document S)
+    → HoldsStands (as_document S) w before after → n ≡ length S → q < length Q → mask_below (in_mask after q) n ≡ path_mask S Q q
+path-read S {Q} {w} K before {after} {n} {q} U A T H e h =
     ap (mask_below (in_mask after q)) (e ∙ sym (length-as_document S))
-    ∙ path-stands S Q (block_pin w (third_in width t)) K.tree T (λ p v l. free-pin w (third_in width t) U A p v (omega (arith, K.few))) q (in_mask after q) h
-    (λ v l. stand-bit K width t before same H v q l h)
+    ∙ path-stands S Q (pin_of w (as_document S)) K.tree T (λ p v l. free-pin w (as_document S) U A p v (omega (arith, K.few))) q (in_mask after q) h
+    (λ v l. stand-bit K (as_document S) before H v q l h)

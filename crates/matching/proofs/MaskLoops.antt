@@ -1,5 +1,4 @@
--- Loops over pattern nodes that make masks: one that inserts what passes a test, and the one that gathers each node's children.
--- After i turns the masks hold what they should of the numbers below i. Assumes nothing.
+-- The loop that gathers the children of each pattern node: before turn c the masks hold those of the nodes below c. Assumes nothing.
 use Prim.Native.Nat.{ℕ, ◌+◌, ◌^◌, ◌≤◌, ◌<◌}
 use mathlib.Core.Path.{◌≡◌, refl, sym, ap, ◌∙◌, subst}
 use mathlib.Core.Bool.{Bool, true, false, ◌&&◌}
@@ -11,34 +10,14 @@ use lib.ListN.{length, get_or, set, replicate, length-set, length-replicate}
 use lib.Seq.{ext_get_or}
 use borrow.Author.Tests.{eqb-true, eqb-false, eq-eqb, ne_eqb, lt-ltb}
 use Rattle.model.specs.Lists.{mask_below}
-use Rattle.model.specs.Pattern.{Pattern, pattern_parent}
+use Rattle.model.specs.Pattern.{Pattern, IsPatternTree, pattern_parent}
 use Rattle.model.specs.Quick.{hangs_from}
 use Rattle.model.proofs.ListLaws.{and_intro, length-map-up_from}
 use Rattle.model.proofs.Masks.{mask-none}
-use Rattle.bits.specs.Sets.{insert_if}
-use Rattle.bits.proofs.MaskLaws.{mask_start, mask_step, mask-step-in, mask-step-out}
+use Rattle.bits.proofs.MaskLaws.{mask-step-in, mask-step-out}
 use Rattle.format.proofs.RangeLaws.{get_or-map-below}
 use Rattle.matching.specs.Masks.{kid_masks}
 use Rattle.matching.proofs.TurnLaws.{set_here, set_else, zeros-at}
-
--- ---- what passes a test
-
--- r holds what passes of the numbers below i
-pub record Inserting (test : ℕ → Bool) (n r i : ℕ) : Type 0 where
-  pub turns : i ≤ n
-  pub mask : r ≡ mask_below test i
-
-module _ {test : ℕ → Bool} {n : ℕ} where
-  pub inserting-start : Inserting test n 0 0
-  inserting-start = record { turns = omega arith; mask = sym (mask_start test) }
-
-  pub inserting-step : {r i : ℕ} (t : Bool) {r' : ℕ} → Inserting test n r i → i < n → t ≡ test i → r' ≡ insert_if t r i → Inserting test n r' (i + 1)
-  inserting-step {r} {i} t {r'} h l p e = record { turns = omega arith; mask = e ∙ mask_step test i r t h.mask p }
-
-  pub inserting-end : {r i : ℕ} → Inserting test n r i → n ≤ i → r ≡ mask_below test n
-  inserting-end {r} {i} h l = let e : i ≡ n = omega (arith, h.turns) in h.mask ∙ ap (mask_below test) e
-
--- ---- the children of each node
 
 pub length-kid_masks : (P : Pattern) → length (kid_masks P) ≡ 16
 unfolding kid_masks
@@ -66,6 +45,10 @@ module _ {P : Pattern} where
         size = length-replicate {A = ℕ} 16 0;
         masks = λ p l. zeros-at 16 p ∙ sym (mask-none (hangs_from P p) 1 (λ c k. (let z : c ≡ 0 = omega arith in ap (hangs_from P p) z)));
       }
+
+  -- a parent has a mask
+  pub gathering-up : {kids : List ℕ} {c p : ℕ} → Gathering P kids c → IsPatternTree P → length P ≤ 16 → c < length P → p ≡ pattern_parent P c → p < 16
+  gathering-up {c = c} g t few h e = omega (arith, g.low, t.earlier c (omega (arith, g.low)) h)
 
   -- c hangs from its parent alone
   pub gathering-step : {kids : List ℕ} {c p x : ℕ} → Gathering P kids c → c < length P → p ≡ pattern_parent P c → p < 16 → x ≡ bit_or (get_or kids p 0) (2 ^ c)

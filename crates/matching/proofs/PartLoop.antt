@@ -11,7 +11,7 @@ use lib.Dec.{eqb}
 use lib.ListN.{length, get_or, set, length-set}
 use borrow.Author.Tests.{eqb-true, eqb-false}
 use Rattle.model.specs.Lists.{up_from, any_of, mask_below}
-use Rattle.model.specs.Tree.{Document, IsTree, parent_of, label_of, Child}
+use Rattle.model.specs.Tree.{Document, IsTree, parent_of, label_of, figure_of, Child}
 use Rattle.model.specs.Pattern.{Pattern}
 use Rattle.model.specs.Embeddings.{child_test}
 use Rattle.model.specs.Bytes.{written_at_front}
@@ -20,7 +20,8 @@ use Rattle.model.proofs.TreeLaws.{test-child, child-test, child-lt}
 use Rattle.model.proofs.Masks.{mask-none}
 use Rattle.bits.proofs.MaskLaws.{mask-agree, mask-or, any-cons}
 use Rattle.matching.specs.Matching.{fits_at, offers_at, offered, part_at}
-use Rattle.matching.specs.Wanted.{deep_in, count_in, Wants, block_pin, fits_by}
+use Rattle.matching.specs.declared.wanted.Wanted.{Wanted}
+use Rattle.matching.specs.Wanted.{Wants, pin_of, fits_by}
 use Rattle.matching.specs.Tables.{part_table, AllZero, settle_at}
 use Rattle.matching.proofs.PartLaws.{offered-elim, offered-intro, part-fits}
 use Rattle.matching.proofs.TurnLaws.{offer_up-root, offer_up-parent, entries-front, set_here, set_else}
@@ -192,13 +193,13 @@ module _ {Q : Pattern} {W : Document} {pin : ℕ → ℕ → Bool} {t₀ t : Lis
             other w ne ∙ set_else t v fit w (λ q. omega arith) ∙ s.waiting w (omega arith) ∙ waits w ne
 
 -- the turn that the code takes
-pub settling-step : {Q : Pattern} {W : Document} {w t₀ t t' : List ℕ} {i : ℕ} (figure : ℕ → ℕ) (v : ℕ) → Wants Q w → IsTree W → length W ≤ length t₀
-    → Settling Q W (block_pin w figure) t₀ t i → i ≡ suc v → t' ≡ settle_at W w (figure v) v t → Settling Q W (block_pin w figure) t₀ t' v
+pub settling-step : {Q : Pattern} {W : Document} {w : Wanted} {t₀ t t' : List ℕ} {i : ℕ} (v : ℕ) → Wants Q w → IsTree W → length W ≤ length t₀
+    → Settling Q W (pin_of w W) t₀ t i → i ≡ suc v → t' ≡ settle_at W w v t → Settling Q W (pin_of w W) t₀ t' v
 unfolding settle_at
-settling-step {Q} {W} {w} {t₀} {t} {t'} {i} figure v K T room s₀ e new = subst (λ (l : List ℕ). Settling Q W pin t₀ l v) (sym new) (go (eqb v 0) refl)
+settling-step {Q} {W} {w} {t₀} {t} {t'} {i} v K T room s₀ e new = subst (λ (l : List ℕ). Settling Q W pin t₀ l v) (sym new) (go (eqb v 0) refl)
   where
     pin : ℕ → ℕ → Bool
-    pin = block_pin w figure
+    pin = pin_of w W
 
     s : Settling Q W pin t₀ t (suc v)
     s = subst (λ (x : ℕ). Settling Q W pin t₀ t x) e s₀
@@ -207,21 +208,21 @@ settling-step {Q} {W} {w} {t₀} {t} {t'} {i} figure v K T room s₀ e new = sub
     acc = settling-offered T room s
 
     fit : ℕ
-    fit = mask_below (fits_by w (label_of W v) (figure v) (v + 1) (get_or t v 0)) (count_in w)
+    fit = mask_below (fits_by w (label_of W v) (figure_of W v) (v + 1) (get_or t v 0)) w.count
 
     offer : ℕ
-    offer = bit_or fit (bit_and (deep_in w) (get_or t v 0))
+    offer = bit_or fit (bit_and w.deep (get_or t v 0))
 
     fits : fit ≡ mask_below (fits_at Q W pin v (offered Q W pin v)) (length Q)
-    fits = ap (λ (x : ℕ). mask_below (fits_by w (label_of W v) (figure v) (v + 1) x) (count_in w)) acc ∙ fits_mask K W v figure (offered Q W pin v)
+    fits = ap (λ (x : ℕ). mask_below (fits_by w (label_of W v) (figure_of W v) (v + 1) x) w.count) acc ∙ fits_mask K W v (offered Q W pin v)
 
     part : fit ≡ mask_below (part_at Q W pin v) (length Q)
     part = fits ∙ mask-agree (fits_at Q W pin v (offered Q W pin v)) (part_at Q W pin v) (length Q) (λ p l. sym (part-fits Q W pin v p))
 
     offers : offer ≡ mask_below (offers_at Q W pin v (offered Q W pin v)) (length Q)
-    offers = (λ j. bit_or (fits j) (bit_and (deep_in w) (acc j))) ∙ offers-mask K W v pin (offered Q W pin v)
+    offers = (λ j. bit_or (fits j) (bit_and w.deep (acc j))) ∙ offers-mask K W v pin (offered Q W pin v)
 
-    go : (b : Bool) → eqb v 0 ≡ b → Settling Q W pin t₀ (settle_at W w (figure v) v t) v
+    go : (b : Bool) → eqb v 0 ≡ b → Settling Q W pin t₀ (settle_at W w v t) v
     go true z = rw (offer_up-root (parent_of W v) v offer (set t v fit) (eqb-true v 0 z), settle_at) (step-root T room s fit offer part offers (eqb-true v 0 z))
     go false z =
         let ne : (v ≡ 0) → ⊥ = eqb-false v 0 z in

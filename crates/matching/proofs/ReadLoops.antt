@@ -18,7 +18,6 @@ use Rattle.model.proofs.Bytes.{front-none}
 use Rattle.format.proofs.RangeLaws.{up_from-last, get_or-map-below}
 use Rattle.format.proofs.FrontLaws.{front-set}
 use Rattle.matching.specs.Wanted.{SmallNumbers}
-use Rattle.matching.specs.Outcomes.{push_if, count_if}
 use Rattle.matching.proofs.TurnLaws.{front-entry, front-after-entry, front-size, zeros-at}
 
 -- an array of zeros filled as far as f is not 0
@@ -75,37 +74,31 @@ module _ {test : ℕ → Bool} {n : ℕ} {b : List ℕ} where
   unfolding keep up_from
   listing_start = record { turns = omega arith; size = refl; number = refl; few = omega arith; front = sym (front-none b) }
 
-  pub listing_step : {l l' : List ℕ} {count count' v : ℕ} (t : Bool) → Listing test n b l count v → n ≤ length b → v < n → t ≡ test v → count' ≡ count_if t count
-      → l' ≡ push_if t v count l → Listing test n b l' count' (v + 1)
-  unfolding count_if push_if
-  listing_step {l} {l'} {count} {count'} {v} true s room h e c p =
+  -- v passes and goes after the others
+  pub listing-in : {l : List ℕ} {count v : ℕ} → Listing test n b l count v → n ≤ length b → v < n → test v ≡ true → Listing test n b (set l count v) (count + 1) (v + 1)
+  listing-in {l} {count} {v} s room h e =
       let w : List ℕ = keep test (up_from 0 v) in
-      let next : keep test (up_from 0 (v + 1)) ≡ w ++ (v ∷ []) = taken test v (sym e) in
+      let next : keep test (up_from 0 (v + 1)) ≡ w ++ (v ∷ []) = taken test v e in
       let len : length (w ++ (v ∷ [])) ≡ length w + 1 = length-append w (v ∷ []) in
       record {
         turns = omega arith;
-        size = ap length p ∙ length-set l count v ∙ s.size;
-        number = c ∙ omega (arith, s.number) ∙ sym (ap length next);
+        size = length-set l count v ∙ s.size;
+        number = omega (arith, s.number) ∙ sym (ap length next);
         few = omega (arith, s.few);
-        front =
-            p ∙ ap₂ (λ (k : List ℕ) (i : ℕ). set k i v) s.front s.number ∙ front-set w b v (omega (arith, s.number, s.few))
-            ∙ ap (λ (k : List ℕ). written_at_front k b) (sym next);
-      }
-  listing_step {l} {l'} {count} {count'} {v} false s room h e c p =
-      let next : keep test (up_from 0 (v + 1)) ≡ keep test (up_from 0 v) = passed test v (sym e) in
-      record {
-        turns = omega arith;
-        size = ap length p ∙ s.size;
-        number = c ∙ s.number ∙ sym (ap length next);
-        few = omega (arith, s.few);
-        front = p ∙ s.front ∙ ap (λ (k : List ℕ). written_at_front k b) (sym next);
+        front = ap₂ (λ (k : List ℕ) (i : ℕ). set k i v) s.front s.number ∙ front-set w b v (omega (arith, s.number, s.few)) ∙ ap (λ (k : List ℕ). written_at_front k b) (sym next);
       }
 
-  pub listing-end : {l : List ℕ} {count v : ℕ} → Listing test n b l count v → n ≤ v
-      → (count ≡ length (keep test (up_from 0 n))) × (l ≡ written_at_front (keep test (up_from 0 n)) b)
-  listing-end {l} {count} {v} s h =
-      let e : v ≡ n = omega (arith, s.turns) in
-      (s.number ∙ ap (λ (k : ℕ). length (keep test (up_from 0 k))) e, s.front ∙ ap (λ (k : ℕ). written_at_front (keep test (up_from 0 k)) b) e)
+  -- or it does not
+  pub listing-out : {l : List ℕ} {count v : ℕ} → Listing test n b l count v → v < n → test v ≡ false → Listing test n b l count (v + 1)
+  listing-out {v = v} s h e =
+      let next : keep test (up_from 0 (v + 1)) ≡ keep test (up_from 0 v) = passed test v e in
+      record {
+        turns = omega arith;
+        size = s.size;
+        number = s.number ∙ sym (ap length next);
+        few = omega (arith, s.few);
+        front = s.front ∙ ap (λ (k : List ℕ). written_at_front k b) (sym next);
+      }
 
 -- the numbers of a document's nodes are small
 pub list-small : {k n : ℕ} {l : List ℕ} → ListFacts k n l → n < 65536 → SmallNumbers l

@@ -15,7 +15,8 @@ use Rattle.model.specs.Pattern.{Pattern}
 use Rattle.model.specs.Bytes.{written_at_front}
 use Rattle.bits.proofs.MaskLaws.{mask-agree, mask-and, mask-single}
 use Rattle.matching.specs.Matching.{part_at, leaves, left_to, stands_at}
-use Rattle.matching.specs.Wanted.{Wants, block_pin}
+use Rattle.matching.specs.declared.wanted.Wanted.{Wanted}
+use Rattle.matching.specs.Wanted.{Wants, pin_of}
 use Rattle.matching.specs.Tables.{part_table, stand_table, left_at, leave_at}
 use Rattle.matching.proofs.Stands.{left-root, left_step}
 use Rattle.matching.proofs.TurnLaws.{left_at-root, left_at-parent, entries-front, front-entry, front-after-entry, front-size, set_here, set_else, up_to}
@@ -29,17 +30,6 @@ pub record Descending (Q : Pattern) (W : Document) (pin : ℕ → ℕ → Bool) 
   pub stand : (v : ℕ) → v < i → get_or t v 0 ≡ mask_below (stands_at Q W pin v) (length Q)
   pub leave : (v : ℕ) → v < i → get_or left v 0 ≡ mask_below (leaves Q W pin v (left_to Q W pin v)) (length Q)
   pub after : (v : ℕ) → i ≤ v → get_or t v 0 ≡ get_or t₀ v 0
-
-pub descending-start : (Q : Pattern) (W : Document) (pin : ℕ → ℕ → Bool) (t left : List ℕ) → Descending Q W pin t left t left 0
-descending-start Q W pin t left =
-    record {
-      turns = omega arith;
-      size = refl;
-      left_size = refl;
-      stand = λ v h. absurd (omega arith);
-      leave = λ v h. absurd (omega arith);
-      after = λ v h. refl;
-    }
 
 -- ---- one turn
 
@@ -66,17 +56,17 @@ module _ {Q : Pattern} {W : Document} {pin : ℕ → ℕ → Bool} {t₀ left₀
       }
 
 -- the turn that the code takes
-pub descending-step : {Q : Pattern} {W : Document} {w left₀ t₀ t left t' left' : List ℕ} {v : ℕ} (figure : ℕ → ℕ) (may : ℕ) (b : List ℕ) → Wants Q w → IsTree W
-    → length W ≤ length b → length W ≤ length left₀ → t₀ ≡ written_at_front (part_table Q W (block_pin w figure)) b → Descending Q W (block_pin w figure) t₀ left₀ t left v → v < length W
+pub descending-step : {Q : Pattern} {W : Document} {w : Wanted} {left₀ t₀ t left t' left' : List ℕ} {v : ℕ} (may : ℕ) (b : List ℕ) → Wants Q w → IsTree W
+    → length W ≤ length b → length W ≤ length left₀ → t₀ ≡ written_at_front (part_table Q W (pin_of w W)) b → Descending Q W (pin_of w W) t₀ left₀ t left v → v < length W
     → may ≡ left_at (parent_of W v) v left → t' ≡ set t v (bit_and may (get_or t v 0)) → left' ≡ set left v (leave_at w may (bit_and may (get_or t v 0)))
-    → Descending Q W (block_pin w figure) t₀ left₀ t' left' (v + 1)
+    → Descending Q W (pin_of w W) t₀ left₀ t' left' (v + 1)
 unfolding part_table stands_at
-descending-step {Q} {W} {w} {left₀} {t₀} {t} {left} {t'} {left'} {v} figure may b K T room left_room front d inside m new left_new =
+descending-step {Q} {W} {w} {left₀} {t₀} {t} {left} {t'} {left'} {v} may b K T room left_room front d inside m new left_new =
     subst₂ (λ (k l : List ℕ). Descending Q W pin t₀ left₀ k l (v + 1)) (sym new) (sym left_new)
     (descending-next d inside (omega (arith, front-size parts (length W) b room front)) left_room (bit_and may (get_or t v 0)) (leave_at w may (bit_and may (get_or t v 0))) here leave)
   where
     pin : ℕ → ℕ → Bool
-    pin = block_pin w figure
+    pin = pin_of w W
 
     parts : ℕ → ℕ
     parts v = mask_below (part_at Q W pin v) (length Q)

@@ -11,13 +11,14 @@ use lib.ListN.{length, get_or, set, replicate, length-replicate, get_or-replicat
 use lib.Seq.{ext_get_or, get_or-set_same, get_or-set_other}
 use borrow.Author.Tests.{eqb-true, eqb-false, eq-eqb, ne_eqb, ltb-true, ltb-false}
 use Rattle.model.specs.Lists.{up_from, mask_below}
-use Rattle.model.specs.Tree.{Document, parent_of, label_of}
+use Rattle.model.specs.Tree.{Document, parent_of, label_of, figure_of}
 use Rattle.model.specs.Bytes.{written_at_front}
 use Rattle.model.proofs.ListLaws.{length-map-up_from}
 use Rattle.model.proofs.Bytes.{front_length, front-after}
 use Rattle.format.proofs.RangeLaws.{get_or-map-below}
 use Rattle.format.proofs.FrontLaws.{front-get_or}
-use Rattle.matching.specs.Wanted.{deep_in, count_in, fits_by}
+use Rattle.matching.specs.declared.wanted.Wanted.{Wanted}
+use Rattle.matching.specs.Wanted.{fits_by}
 use Rattle.matching.specs.Tables.{offer_up, settle_at, left_at}
 
 module _ (u v offer : ℕ) (t : List ℕ) where
@@ -30,14 +31,14 @@ module _ (u v offer : ℕ) (t : List ℕ) where
   offer_up-parent e = rw (ne_eqb v 0 e, offer_up)
 
 -- what the code stores, with the label, the figure and the mask that it reads
-pub settle-stored : (W : Document) (w : List ℕ) (x v : ℕ) (t : List ℕ) {t' : List ℕ} {fit deep label figure : ℕ}
-    → t' ≡ offer_up (parent_of W v) v (bit_or fit (bit_and deep (get_or t v 0))) (set t v fit) → fit ≡ mask_below (fits_by w label figure (v + 1) (get_or t v 0)) (count_in w)
-    → label ≡ label_of W v → figure ≡ x → deep ≡ deep_in w → t' ≡ settle_at W w x v t
+pub settle-stored : (W : Document) (w : Wanted) (v : ℕ) (t : List ℕ) {t' : List ℕ} {fit deep label figure : ℕ}
+    → t' ≡ offer_up (parent_of W v) v (bit_or fit (bit_and deep (get_or t v 0))) (set t v fit) → fit ≡ mask_below (fits_by w label figure (v + 1) (get_or t v 0)) w.count
+    → label ≡ label_of W v → figure ≡ figure_of W v → deep ≡ w.deep → t' ≡ settle_at W w v t
 unfolding settle_at
-settle-stored W w x v t {t'} {fit} {deep} e f l g d = e ∙ (λ i. offer_up (parent_of W v) v (bit_or (same i) (bit_and (d i) (get_or t v 0))) (set t v (same i)))
+settle-stored W w v t {t'} {fit} {deep} e f l g d = e ∙ (λ i. offer_up (parent_of W v) v (bit_or (same i) (bit_and (d i) (get_or t v 0))) (set t v (same i)))
   where
-    same : fit ≡ mask_below (fits_by w (label_of W v) x (v + 1) (get_or t v 0)) (count_in w)
-    same = f ∙ ap₂ (λ (m n : ℕ). mask_below (fits_by w m n (v + 1) (get_or t v 0)) (count_in w)) l g
+    same : fit ≡ mask_below (fits_by w (label_of W v) (figure_of W v) (v + 1) (get_or t v 0)) w.count
+    same = f ∙ ap₂ (λ (m n : ℕ). mask_below (fits_by w m n (v + 1) (get_or t v 0)) w.count) l g
 
 module _ (u v : ℕ) (left : List ℕ) where
   pub left_at-root : v ≡ 0 → left_at u v left ≡ 1

@@ -2,12 +2,12 @@
 use Rattle.std.specs.Prelude.{ℕ, ◌+◌, ◌≡◌, Bool, true, false, List, map, eqb, length, get_or, set}
 use Rattle.std.specs.Int.Bits.{bit_and, bit_or}
 use Rattle.model.specs.Lists.{up_from, mask_below}
-use Rattle.model.specs.Tree.{Document, parent_of, label_of}
+use Rattle.model.specs.Tree.{Document, parent_of, label_of, figure_of}
 use Rattle.model.specs.Pattern.{Pattern}
 use Rattle.model.specs.Bytes.{written_at_front}
-use Rattle.format.specs.Given.{tree_of, third_in, TreeGiven}
 use Rattle.matching.specs.Matching.{part_at, stands_at}
-use Rattle.matching.specs.Wanted.{deep_in, count_in, Wants, block_pin, fits_by, hangs_by}
+use Rattle.matching.specs.declared.wanted.Wanted.{Wanted}
+use Rattle.matching.specs.Wanted.{Wants, pin_of, fits_by, hangs_by}
 
 module _ (Q : Pattern) (W : Document) (pin : ℕ → ℕ → Bool) where
   -- where the part of the pattern from a node down embeds
@@ -20,20 +20,16 @@ module _ (Q : Pattern) (W : Document) (pin : ℕ → ℕ → Bool) where
 
 -- ---- what is lent
 
--- a tree of any size
-abbrev pub TreeLent : ℕ → List ℕ → Type 0
-TreeLent width t = (most : ℕ) × TreeGiven width t most
-
 -- a table of zeros
 abbrev pub AllZero : List ℕ → Type 0
 AllZero t = (v : ℕ) → get_or t v 0 ≡ 0
 
--- the table of the pattern whose block is w, over the tree in t, figures in the third fields, stands at the front, the rest untouched
-abbrev pub HoldsParts : ℕ → List ℕ → List ℕ → List ℕ → List ℕ → Type 0
-HoldsParts width t w before after = (Q : Pattern) → Wants Q w → after ≡ written_at_front (part_table Q (tree_of width t) (block_pin w (third_in width t))) before
+-- the table of the pattern that w wants, over the tree, stands at the front, the rest untouched
+abbrev pub HoldsParts : Document → Wanted → List ℕ → List ℕ → Type 0
+HoldsParts W w before after = (Q : Pattern) → Wants Q w → after ≡ written_at_front (part_table Q W (pin_of w W)) before
 
-abbrev pub HoldsStands : ℕ → List ℕ → List ℕ → List ℕ → List ℕ → Type 0
-HoldsStands width t w before after = (Q : Pattern) → Wants Q w → after ≡ written_at_front (stand_table Q (tree_of width t) (block_pin w (third_in width t))) before
+abbrev pub HoldsStands : Document → Wanted → List ℕ → List ℕ → Type 0
+HoldsStands W w before after = (Q : Pattern) → Wants Q w → after ≡ written_at_front (stand_table Q W (pin_of w W)) before
 
 -- ---- one turn of the passes over the tree, with t the table as it was and u the parent of v
 
@@ -41,16 +37,16 @@ HoldsStands width t w before after = (Q : Pattern) → Wants Q w → after ≡ w
 unfoldable pub offer_up : ℕ → ℕ → ℕ → List ℕ → List ℕ
 offer_up u v offer t = elim (eqb v 0) [ true ↦ t | false ↦ set t u (bit_or (get_or t u 0) offer) ]
 
--- from the last node to the first: node v, with this figure, where `fit` may stand, takes the place of what it was offered
-unfoldable pub settle_at : Document → List ℕ → ℕ → ℕ → List ℕ → List ℕ
-settle_at W w figure v t =
-    let fit : ℕ = mask_below (fits_by w (label_of W v) figure (v + 1) (get_or t v 0)) (count_in w) in
-    offer_up (parent_of W v) v (bit_or fit (bit_and (deep_in w) (get_or t v 0))) (set t v fit)
+-- from the last node to the first: node v, where `fit` may stand, takes the place of what it was offered
+unfoldable pub settle_at : Document → Wanted → ℕ → List ℕ → List ℕ
+settle_at W w v t =
+    let fit : ℕ = mask_below (fits_by w (label_of W v) (figure_of W v) (v + 1) (get_or t v 0)) w.count in
+    offer_up (parent_of W v) v (bit_or fit (bit_and w.deep (get_or t v 0))) (set t v fit)
 
 -- from the root down: what is left to node v by the nodes above
 unfoldable pub left_at : ℕ → ℕ → List ℕ → ℕ
 left_at u v left = elim (eqb v 0) [ true ↦ 1 | false ↦ get_or left u 0 ]
 
 -- what a node to which `may` is left, and where `here` stands, leaves to its children
-abbrev pub leave_at : List ℕ → ℕ → ℕ → ℕ
-leave_at w may here = bit_or (mask_below (hangs_by w here) (count_in w)) (bit_and (deep_in w) may)
+abbrev pub leave_at : Wanted → ℕ → ℕ → ℕ
+leave_at w may here = bit_or (mask_below (hangs_by w here) w.count) (bit_and w.deep may)

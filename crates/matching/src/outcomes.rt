@@ -7,39 +7,24 @@ ghost use Rattle.model.specs.Lists.{up_from, keep, mask_below};
 ghost use Rattle.model.specs.Pattern.{arity};
 ghost use Rattle.model.specs.Embeddings.{is_result, nodes_at, path_mask};
 ghost use Rattle.model.specs.Facts.{PatternFacts, ListFacts};
-ghost use Rattle.model.specs.Bytes.{document_of, list_of};
-ghost use Rattle.format.specs.Given.{summary_in, pattern_at, SummaryGiven, PatternGiven, DocumentGiven};
-ghost use Rattle.matching.specs.Outcomes.{in_mask, push_if, count_if, Written};
+ghost use Rattle.model.specs.Bytes.{list_of};
+ghost use Rattle.format.specs.Given.{SummaryKept, PatternKept, DocumentKept};
+ghost use Rattle.matching.specs.Outcomes.{in_mask, Written};
 
 use crate::tables::{parts, stands};
-use crate::wanted::{ask_figures, pin, wanted_of};
-use bits;
-use format::document::document_count;
-use format::limits::{DOCUMENT_WIDTH, SUMMARY_WIDTH};
+use crate::wanted::Wanted;
+use bits::{Mask, count64, select};
+use format::document::Document;
 use format::nodes::PatternNode;
-use format::pattern::pattern_count;
-use format::positions::node_at;
-use format::summary::summary_count;
+use format::pattern::Pattern;
+use format::summary::Summary;
 
 // Pattern node q is in the mask of tree node v.
 fn in_mask(table: &[u16], v: usize, q: PatternNode) -> bool
     requires { (v < length table.now) × (q.0 < 16) }
     ensures { result ≡ in_mask table.now q.0 v }
 {
-    let bit = q.0;
-    bits::has16(table[v], bit)
-}
-
-// v goes after the first count entries where t says so. The result is the new count.
-fn push_if(t: bool, v: usize, count: usize, out: &mut [u16]) -> usize
-    requires { (v < 65536) × (count < length out.old) }
-    ensures { (result ≡ count_if t count) × (out.new ≡ push_if t v count out.old) }
-{
-    if t {
-        out[count] = v as u16;
-        return count + 1;
-    }
-    count
+    table[v].has(q.0)
 }
 
 // The tree nodes, of n, whose mask has q, ascending, go to the front of out. The result is their number.
@@ -49,7 +34,10 @@ fn nodes_with(table: &[u16], n: usize, q: PatternNode, out: &mut [u16]) -> usize
 {
     let mut count: usize = 0;
     for v in 0..n {
-        count = push_if(in_mask(table, v, q), v, count, out);
+        if in_mask(table, v, q) {
+            out[count] = v as u16;
+            count += 1;
+        }
     }
     count
 }
@@ -59,52 +47,52 @@ fn stand_mask(table: &[u16], n: usize, q: PatternNode) -> u64
     requires { (n ≤ 64) × (n ≤ length table.now) × (q.0 < 16) }
     ensures { result ≡ mask_below (in_mask table.now q.0) n }
 {
-    let mut r: u64 = 0;
-    for v in 0..n {
-        r = bits::insert_if64(r, v, in_mask(table, v, q));
-    }
-    r
+    select(n, |v| in_mask(table, v, q))
 }
 
 // A list of k node numbers is a result of the pattern in the document.
-pub fn is_result(case: &[u8], at: usize, w: &[u8], list: &[u8]) -> bool
-    requires pattern_given { PatternGiven case.now at × PatternFacts (pattern_at case.now at) × DocumentGiven w.now }
-    requires list_facts { ListFacts (arity (pattern_at case.now at)) (length (document_of w.now)) list.now }
-    ensures { result ≡ is_result (pattern_at case.now at) (document_of w.now) (list_of list.now) }
+pub fn is_result(pattern: &Pattern, w: &Document, list: &[u8]) -> bool
+    requires pattern_kept { PatternKept pattern.now × PatternFacts pattern.now × DocumentKept w.now }
+    requires list_facts { ListFacts (arity pattern.now) (length w.now) list.now }
+    ensures { result ≡ is_result pattern.now w.now (list_of list.now) }
 {
-    let mut block = wanted_of(case, at);
-    pin(case, at, list, &mut block);
-    ask_figures(case, at, &mut block);
+    let mut wanted = Wanted::new(pattern);
+    wanted.pin(pattern, list);
+    wanted.ask_figures(pattern);
     let mut table = [0u16; 1024];
-    parts(w, DOCUMENT_WIDTH, &block, &mut table);
-    bits::has16(table[0], 0)
+    parts(w, &wanted, &mut table);
+    table[0].has(0)
 }
 
 // The nodes at a position in any result, ascending, go to the front of out. The result is their number.
-pub fn nodes_at(case: &[u8], at: usize, w: &[u8], position: usize, out: &mut [u16]) -> usize
-    requires pattern_given { PatternGiven case.now at × PatternFacts (pattern_at case.now at) × DocumentGiven w.now }
-    requires le_position { (1 ≤ position) × (position ≤ arity (pattern_at case.now at)) × (length (document_of w.now) ≤ length out.old) }
-    ensures { Written (nodes_at (pattern_at case.now at) (document_of w.now) position) out.old out.new result }
+pub fn nodes_at(pattern: &Pattern, w: &Document, position: usize, out: &mut [u16]) -> usize
+    requires pattern_kept { PatternKept pattern.now × PatternFacts pattern.now × DocumentKept w.now }
+    requires le_position { (1 ≤ position) × (position ≤ arity pattern.now) × (length w.now ≤ length out.old) }
+    ensures { Written (nodes_at pattern.now w.now position) out.old out.new result }
 {
-    let mut block = wanted_of(case, at);
-    ask_figures(case, at, &mut block);
+    let mut wanted = Wanted::new(pattern);
+    wanted.ask_figures(pattern);
     let mut table = [0u16; 1024];
     let mut left = [0u16; 1024];
-    stands(w, DOCUMENT_WIDTH, &block, &mut table, &mut left);
-    nodes_with(&table, document_count(w), node_at(case, at, position), out)
+    stands(w, &wanted, &mut table, &mut left);
+    // Each position up to the arity has its node.
+    let Some(q) = pattern.node_at(position) else {
+        return 0;
+    };
+    nodes_with(&table, w.count(), q, out)
 }
 
-// The paths of each node of the pattern (p, at) in the case's summary, as masks. No figure is asked.
-pub fn path_masks(case: &[u8], p: &[u8], at: usize) -> [u64; 16]
-    requires { SummaryGiven case.now × PatternGiven p.now at }
-    ensures { result ≡ map (path_mask (summary_in case.now) (pattern_at p.now at)) (up_from 0 16) }
+// The paths of each node of the pattern in the summary, as masks. No figure is asked.
+pub fn path_masks(summary: &Summary, pattern: &Pattern) -> [u64; 16]
+    requires { SummaryKept summary.now × PatternKept pattern.now }
+    ensures { result ≡ map (path_mask summary.now pattern.now) (up_from 0 16) }
 {
-    let block = wanted_of(p, at);
+    let wanted = Wanted::new(pattern);
     let mut table = [0u16; 64];
     let mut left = [0u16; 64];
-    stands(case, SUMMARY_WIDTH, &block, &mut table, &mut left);
-    let n = summary_count(case);
-    let m = pattern_count(p, at);
+    stands(summary, &wanted, &mut table, &mut left);
+    let n = summary.count();
+    let m = pattern.count();
     let mut r = [0u64; 16];
     for q in 0..m {
         r[q] = stand_mask(&table, n, PatternNode(q));
@@ -116,9 +104,5 @@ pub fn path_masks(case: &[u8], p: &[u8], at: usize) -> [u64; 16]
 pub fn path_counts(masks: &[u64; 16]) -> [u64; 16]
     ensures { result ≡ map (λ q. ones (get_or masks.now q 0)) (up_from 0 16) }
 {
-    let mut r = [0u64; 16];
-    for q in 0..16 {
-        r[q] = bits::count64(masks[q]) as u64;
-    }
-    r
+    masks.map(|m| count64(m) as u64)
 }

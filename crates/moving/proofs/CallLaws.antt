@@ -6,6 +6,11 @@ use mathlib.Core.Bool.{true}
 use mathlib.Core.List.{List}
 use native.Mathlib.Omega.{arith}
 use lib.ListN.{length, take}
+use Rattle.std.proofs.Common.{Result, Err, IsErrAnd}
+use Rattle.std.proofs.lemmas.Result.{err_from_is_err_and}
+use Rattle.questions.specs.declared.refusal.Refusal.{Refusal}
+use Rattle.questions.specs.Refusal.{number_of}
+use Rattle.moving.specs.Answers.{moved_of}
 use Rattle.model.specs.Bytes.{case_of, is_whole_case, AreBytes}
 use Rattle.model.specs.Questions.{buffer_large_enough, case_whole, ask, refusal, case_questions}
 use Rattle.model.specs.OldForm.{old_case_of, old_whole, old_counts_in_range, old_questions}
@@ -17,6 +22,10 @@ use Rattle.model.proofs.Refusals.{refusal-yes}
 use Rattle.model.proofs.Moving.{moved-refused, moved-accepted, accepted-upgrade, upgraded-small, upgraded-asked, upgrade-moved, accepted-downgrade, downgraded-small, downgrade-moved}
 use Rattle.model.proofs.Demands.{move-answered}
 use Rattle.format.proofs.WriteLaws.{Out}
+
+-- a refusal that is passed on
+pub answer-refused : (a : Result ℕ Refusal) (r : Refusal) (after : List ℕ) → IsErrAnd a (λ s. s ≡ r) → moved_of a after ≡ record { answer = record { refused = number_of r; count = 0 }; buffer = after }
+answer-refused a r after h = let p = err_from_is_err_and a h in ap (λ (x : Result ℕ Refusal). moved_of x after) (p.1 ∙ ap Err p.2)
 
 -- what a tool answers where its refusal's number is n, and what it leaves
 module _ (number : ℕ) (written : List ℕ) {Kept : CountOutcome → Type 0} (buffer : List ℕ) (keeps : number ≡ 0 → Kept (moved_call number written buffer)) {n : ℕ} (e : n ≡ number) where

@@ -10,7 +10,7 @@ use lib.ListN.{length, get_or, length-append}
 use lib.Seq.{sets}
 use Rattle.model.specs.Limits.{summary_width, pattern_width}
 use Rattle.model.specs.Pattern.{Pattern}
-use Rattle.model.specs.Bytes.{field, field_bytes, bytes_of, fields_at, section, summary_record_at, summary_fields, section_fields, first_at, set_at, set_of, member_at, case_of, case_fields, encode_case, is_whole_case, WholeSection}
+use Rattle.model.specs.Bytes.{field, field_bytes, bytes_of, fields_at, section, summary_record_at, summary_fields, pattern_fields, section_fields, first_at, set_at, set_of, member_at, case_of, case_fields, encode_case, is_whole_case, WholeSection}
 use Rattle.model.specs.OldForm.{old_width, old_record_at, old_record_fields, new_pattern, old_pattern, second_at, old_case_of, old_fields, encode_old_case, one_of, old_of, old_whole}
 use Rattle.model.specs.Moving.{goes_back, upgraded, downgraded}
 use Rattle.model.proofs.Bytes.{length-bytes, whole-case, member-first}
@@ -19,8 +19,21 @@ use Rattle.model.proofs.Moving.{goes_back_lem}
 use Rattle.format.specs.Given.{pattern_at}
 use Rattle.format.proofs.SectionLaws.{set-member, member-section}
 use Rattle.format.proofs.WriteLaws.{Written, Out, written-put, written-run, written_out, copied-front}
-use Rattle.moving.specs.Forms.{widened, narrowed}
-use Rattle.moving.proofs.RowLaws.{widened-length, narrowed-length}
+use Rattle.moving.specs.Forms.{rewritten}
+use Rattle.moving.proofs.RowLaws.{wider-fields, narrower-fields, rewritten-length}
+
+-- a pattern's fields in the other form
+abbrev pub widened : List ℕ → ℕ → List ℕ
+widened b at = rewritten old_width pattern_width b at
+
+abbrev pub narrowed : List ℕ → ℕ → List ℕ
+narrowed b at = rewritten pattern_width old_width b at
+
+widened-length : (b : List ℕ) (at : ℕ) → length (widened b at) ≡ 1 + 5 * field b at
+widened-length b at = rewritten-length old_width pattern_width b at (omega arith)
+
+narrowed-length : (b : List ℕ) (at : ℕ) → length (narrowed b at) ≡ 1 + 4 * field b at
+narrowed-length b at = rewritten-length pattern_width old_width b at (omega arith)
 
 -- the summary stands the same in both forms
 summary-fields : (b : List ℕ) → section_fields summary_fields (section summary_record_at summary_width b 0) ≡ fields_at b 0 (first_at b)
@@ -48,7 +61,8 @@ module _ (b : List ℕ) (whole : old_whole b ≡ true) {first second : ℕ} (at 
   unfolding case_fields old_case_of
   new-fields =
       let front : List ℕ = fields_at b 0 first in
-      ap₂ (λ (s q : List ℕ). s ++ (widened b (first_at b) ++ q)) (summary-fields b) (one-fields (new_pattern (section old_record_at old_width b (second_at b))))
+      ap₂ (λ (s q : List ℕ). s ++ (section_fields pattern_fields (new_pattern (section old_record_at old_width b (first_at b))) ++ q)) (summary-fields b) (one-fields (new_pattern (section old_record_at old_width b (second_at b))))
+      ∙ ap₂ (λ (p q : List ℕ). fields_at b 0 (first_at b) ++ (p ++ (1 ∷ q))) (sym (wider-fields b (first_at b))) (sym (wider-fields b (second_at b)))
       ∙ ap₂ (λ (x y : ℕ). fields_at b 0 x ++ (widened b x ++ (1 ∷ widened b y))) (sym at) (sym next)
       ∙ sym (append_assoc front (widened b first) (1 ∷ widened b second)) ∙ sym (append_assoc (front ++ widened b first) (1 ∷ []) (widened b second))
 
@@ -117,7 +131,8 @@ module _ (b : List ℕ) (whole : is_whole_case b ≡ true) (back : goes_back (ca
   old-fields : old_fields (old_of (case_of b)) ≡ (fields_at b 0 first ++ narrowed b first) ++ narrowed b (set + 1)
   unfolding old_fields case_of
   old-fields =
-      ap₂ (λ (s : List ℕ) (Q : Pattern). s ++ (narrowed b (first_at b) ++ section_fields old_record_fields (old_pattern Q))) (summary-fields b) second-pattern
+      ap₂ (λ (s : List ℕ) (Q : Pattern). s ++ (section_fields old_record_fields (old_pattern (pattern_at b (first_at b))) ++ section_fields old_record_fields (old_pattern Q))) (summary-fields b) second-pattern
+      ∙ ap₂ (λ (p q : List ℕ). fields_at b 0 (first_at b) ++ (p ++ q)) (sym (narrower-fields b (first_at b))) (sym (narrower-fields b (set + 1)))
       ∙ ap (λ (k : ℕ). fields_at b 0 k ++ (narrowed b k ++ narrowed b (set + 1))) (sym at)
       ∙ sym (append_assoc (fields_at b 0 first) (narrowed b first) (narrowed b (set + 1)))
 

@@ -14,24 +14,22 @@ use Rattle.model.specs.Questions.{between}
 use Rattle.model.specs.OldForm.{old_width, old_record_at, second_at, old_end, old_case_of, old_whole, old_counts_in_range}
 use Rattle.model.proofs.WriteBack.{old-whole-facts}
 use Rattle.format.proofs.SectionLaws.{section-length}
+use Rattle.std.proofs.Common.{Option, Some, None, MatchOption}
 use Rattle.questions.specs.Front.{front_end}
 use Rattle.questions.proofs.CaseLaws.{found, none, by-fields}
 
 -- ---- 3
 
-module _ (b : List ℕ) (second : ℕ) (e : second ≡ front_end old_width b) where
-  pub no_second : second ≡ 0 → false ≡ old_whole b
+module _ (b : List ℕ) where
+  pub second-inside : (second : ℕ) → Some second ≡ front_end old_width b → 2 * second + 1 < length b
+  second-inside second e = let s = found old_width b second e in let w = s.whole in omega arith
+
+  -- `front_end(b, ..).is_some_and(..)`
+  pub by_front : (front : Option ℕ) (r : Bool) → front ≡ front_end old_width b → MatchOption front (r ≡ false) (λ second. r ≡ eqb (length b / 2) (section_end old_width b second)) → r ≡ old_whole b
   unfolding old_whole
-  no_second z = none old_width b second e z (old_end b) (omega arith)
-
-  pub second-inside : (second ≡ 0 → ⊥) → 2 * second + 1 < length b
-  second-inside f = let s = found old_width b second e f in let w = s.whole in omega arith
-
-  pub whole-by-end : (second ≡ 0 → ⊥) → (end : ℕ) → end ≡ section_end old_width b second → eqb (length b / 2) end ≡ old_whole b
-  unfolding old_whole
-  whole-by-end f end q = by-fields old_width b second e f end (old_end b) (q ∙ ap (section_end old_width b) (found old_width b second e f).at)
-
-pub ruleset old_asked = (rules, no_second, second-inside, whole-by-end)
+  by_front None r e m = m ∙ none old_width b e (old_end b) (omega arith)
+  by_front (Some second) r e m =
+      m ∙ by-fields old_width b second (found old_width b second e) (section_end old_width b second) (old_end b) (ap (section_end old_width b) (found old_width b second e).here)
 
 -- ---- the counts of a whole old case
 
@@ -57,3 +55,7 @@ old-counts-asked b first second r p q e =
     e ∙ ap₂ (λ (x y : ℕ). between 1 max_summary (field b 0) && between 1 max_pattern (field b x) && between 1 max_pattern (field b y)) p q
     ∙ sym (λ i. between 1 max_summary (section-length summary_record_at summary_width b 0 i) && between 1 max_pattern (section-length old_record_at old_width b (first_at b) i)
     && between 1 max_pattern (section-length old_record_at old_width b (second_at b) i))
+
+-- a count that is asked, by the test's answer
+pub count-told : (n x v : ℕ) (answer told : Bool) → answer ≡ between 1 n x → x ≡ v → answer ≡ told → told ≡ between 1 n v
+count-told n x v answer told a e t = sym t ∙ a ∙ ap (between 1 n) e

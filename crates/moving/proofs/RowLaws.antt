@@ -4,15 +4,16 @@ use Prim.Native.Nat.{ℕ, zero, suc, ◌+◌, ◌*◌, ◌≤◌, ◌<◌}
 use mathlib.Core.Path.{◌≡◌, refl, sym, ap, ap₂, ◌∙◌}
 use mathlib.Core.List.{List, [], ◌∷◌, ◌++◌, map, flat_map, append-nil}
 use native.Mathlib.Omega.{arith}
-use native.Mathlib.Nat.{mul-zero, mul-suc, zero-add}
+use native.Mathlib.Nat.{mul-zero, mul-suc, zero-add, mul-le-mul_left}
 use lib.ListN.{length, length-append, length-map}
-use lib.Seq.{sets, length-sets}
+use lib.Seq.{sets, length-sets, length-take-le}
 use Rattle.model.specs.Lists.{up_from}
 use Rattle.model.specs.Bytes.{field, field_bytes, bytes_of, fields_at, section, records_at, pattern_record_at, pattern_fields, section_fields}
 use Rattle.model.specs.Limits.{pattern_width}
-use Rattle.model.specs.OldForm.{old_width, old_record_at, old_record_fields, new_record, old_record}
+use Rattle.model.specs.OldForm.{OldRecord, old_width, old_record_at, old_record_fields, new_record, old_record, new_pattern, old_pattern}
 use Rattle.model.proofs.WriteBack.{old-rewritable}
-use Rattle.moving.specs.Forms.{widened, narrowed}
+use Rattle.format.specs.Given.{pattern_at}
+use Rattle.moving.specs.Forms.{fields_in, rewritten}
 use Rattle.format.proofs.RangeLaws.{up_from-last}
 use Rattle.format.proofs.SectionLaws.{section-length}
 use Rattle.format.proofs.WriteLaws.{flat_map-append, fields-run, one-run}
@@ -31,29 +32,47 @@ rows-length row width even a (suc n) =
     length-append (row a) (flat_map row (up_from (suc a) n)) ∙ ap₂ (λ (x y : ℕ). x + y) (even a) (rows-length row width even (suc a) n)
     ∙ (let e : width * suc n ≡ width * n + width = mul-suc width n in omega arith)
 
-module _ {A B : Type 0} (read : List ℕ → ℕ → A) (width : ℕ) (move : A → B) (fields : B → List ℕ) (b : List ℕ) (at : ℕ) where
+module _ {A : Type 0} (read : List ℕ → ℕ → A) (width : ℕ) (fields : A → List ℕ) (b : List ℕ) (at : ℕ) where
   -- of record i
   abbrev pub row : ℕ → List ℕ
-  row i = fields (move (read b (at + 1 + width * i)))
+  row i = fields (read b (at + 1 + width * i))
 
-  abbrev moved : List ℕ
-  moved = section_fields fields (map move (section read width b at))
-
-  moved-rows : moved ≡ field b at ∷ flat_map row (up_from 0 (field b at))
+  section_rows : section_fields fields (section read width b at) ≡ field b at ∷ flat_map row (up_from 0 (field b at))
   unfolding section_fields section records_at
-  moved-rows =
-      ap₂ (λ (n : ℕ) (fs : List ℕ). n ∷ fs) (length-map (section read width b at) move ∙ section-length read width b at)
-      (flat-map fields move (section read width b at) ∙ flat-map (λ r. fields (move r)) (λ i. read b (at + 1 + width * i)) (up_from 0 (field b at)))
+  section_rows =
+      ap₂ (λ (n : ℕ) (fs : List ℕ). n ∷ fs) (section-length read width b at) (flat-map fields (λ i. read b (at + 1 + width * i)) (up_from 0 (field b at)))
 
-  moved_length : (new : ℕ) → ((r : B) → length (fields r) ≡ new) → length moved ≡ 1 + new * field b at
-  moved_length new even =
-      ap length moved-rows ∙ (let l : length (flat_map row (up_from 0 (field b at))) ≡ new * field b at = rows-length row new (λ i. even (move (read b (at + 1 + width * i)))) 0 (field b at) in omega arith)
+-- records that are mapped first
+mapped-fields : {A B : Type 0} (fields : B → List ℕ) (move : A → B) (rs : List A) → section_fields (λ r. fields (move r)) rs ≡ section_fields fields (map move rs)
+unfolding section_fields
+mapped-fields fields move rs = sym (ap₂ (λ (n : ℕ) (fs : List ℕ). n ∷ fs) (length-map rs move) (flat-map fields move rs))
 
-pub widened-length : (b : List ℕ) (at : ℕ) → length (widened b at) ≡ 1 + 5 * field b at
-widened-length b at = moved_length old_record_at old_width new_record pattern_fields b at pattern_width (λ r. refl)
+module _ (b : List ℕ) (at : ℕ) where
+  pub wider-fields : rewritten old_width pattern_width b at ≡ section_fields pattern_fields (new_pattern (section old_record_at old_width b at))
+  wider-fields = mapped-fields pattern_fields new_record (section old_record_at old_width b at)
 
-pub narrowed-length : (b : List ℕ) (at : ℕ) → length (narrowed b at) ≡ 1 + 4 * field b at
-narrowed-length b at = moved_length pattern_record_at pattern_width old_record old_record_fields b at old_width (λ r. refl)
+  pub narrower-fields : rewritten pattern_width old_width b at ≡ section_fields old_record_fields (old_pattern (pattern_at b at))
+  narrower-fields =
+      section_rows old_record_at pattern_width (fields_in old_width) b at
+      ∙ sym (section_rows pattern_record_at pattern_width (λ r. old_record_fields (old_record r)) b at)
+      ∙ mapped-fields old_record_fields old_record (pattern_at b at)
+
+-- a row has as many fields as its width
+pub fields-even : (to : ℕ) (r : OldRecord) → to ≤ pattern_width → length (fields_in to r) ≡ to
+fields-even to r h = length-take-le to (pattern_fields (new_record r)) h
+
+pub rewritten-length : (from to : ℕ) (b : List ℕ) (at : ℕ) → to ≤ pattern_width → length (rewritten from to b at) ≡ 1 + to * field b at
+rewritten-length from to b at h =
+    ap length (section_rows old_record_at from (fields_in to) b at)
+    ∙ (let l : length (flat_map (row old_record_at from (fields_in to) b at) (up_from 0 (field b at))) ≡ to * field b at =
+    rows-length (row old_record_at from (fields_in to) b at) to (λ i. fields-even to (old_record_at b (at + 1 + from * i)) h) 0 (field b at) in omega arith)
+
+-- row i is among the first n
+pub row-room : (width n i : ℕ) → i < n → width * i + width ≤ width * n
+row-room width n i h =
+    let more : width * suc i ≤ width * n = mul-le-mul_left width h in
+    let one : width * suc i ≡ width * i + width = mul-suc width i in
+    omega arith
 
 -- ---- the loop
 
@@ -92,20 +111,28 @@ rows_end {row} {n} to out₀ {out₁} {out} {i} e w h =
     let done : i ≡ n = let t : i ≤ n = w.turns in omega arith in
     fields-run out₀ to (n ∷ []) (flat_map row (up_from 0 n)) refl (one-run out₀ to n e) (w.bytes ∙ ap (λ (k : ℕ). sets out₁ (2 * (to + 1)) (bytes_of (flat_map row (up_from 0 k)))) done)
 
-pub moved-written : {A B : Type 0} (read : List ℕ → ℕ → A) (width : ℕ) (move : A → B) (fields : B → List ℕ) (b : List ℕ) (at to : ℕ) (out₀ : List ℕ) {n : ℕ} {out₁ out : List ℕ} {i : ℕ}
-    → n ≡ field b at → out₁ ≡ sets out₀ (2 * to) (field_bytes n) → Rows (row read width move fields b at) n (to + 1) out₁ out i → n ≤ i
-    → out ≡ sets out₀ (2 * to) (bytes_of (section_fields fields (map move (section read width b at))))
-moved-written read width move fields b at to out₀ c e w h =
-    rows_end to out₀ e w h
-    ∙ ap (λ (fs : List ℕ). sets out₀ (2 * to) (bytes_of fs)) (ap (λ (k : ℕ). k ∷ flat_map (row read width move fields b at) (up_from 0 k)) c ∙ sym (moved-rows read width move fields b at))
+module _ (from to : ℕ) (b : List ℕ) (at : ℕ) where
+  abbrev pub rewritten_row : ℕ → List ℕ
+  rewritten_row = row old_record_at from (fields_in to) b at
 
--- ---- a row of each form
+  pub rewritten-written : (place : ℕ) (out₀ : List ℕ) {n : ℕ} {out₁ out : List ℕ} {i : ℕ} → n ≡ field b at → out₁ ≡ sets out₀ (2 * place) (field_bytes n)
+      → Rows rewritten_row n (place + 1) out₁ out i → n ≤ i → out ≡ sets out₀ (2 * place) (bytes_of (rewritten from to b at))
+  rewritten-written place out₀ c e w h =
+      rows_end place out₀ e w h
+      ∙ ap (λ (fs : List ℕ). sets out₀ (2 * place) (bytes_of fs)) (ap (λ (k : ℕ). k ∷ flat_map rewritten_row (up_from 0 k)) c ∙ sym (section_rows old_record_at from (fields_in to) b at))
 
-pub row-narrower : (b : List ℕ) (from to : ℕ) (out : List ℕ) {after : List ℕ} → after ≡ sets out (2 * to) (bytes_of (fields_at b from 4))
-    → after ≡ sets out (2 * to) (bytes_of (old_record_fields (old_record (pattern_record_at b from))))
-row-narrower b from to out e = e ∙ ap (λ (fs : List ℕ). sets out (2 * to) (bytes_of fs)) (sym (old-rewritable b from).fields)
+-- ---- a record of each width
 
-pub row-wider : (b : List ℕ) (from to : ℕ) (out : List ℕ) {before after : List ℕ} → before ≡ sets out (2 * to) (bytes_of (fields_at b from 4)) → after ≡ sets before (2 * (to + 4)) (field_bytes 0)
-    → after ≡ sets out (2 * to) (bytes_of (pattern_fields (new_record (old_record_at b from))))
-row-wider b from to out {before} {after} e f =
-    fields-run out to (old_record_fields (old_record_at b from)) (0 ∷ []) refl (row-narrower b from to out e) (one-run before (to + 4) 0 f)
+pub record-narrower : (b : List ℕ) (from to : ℕ) (out : List ℕ) {width : ℕ} {after : List ℕ} → old_width ≤ width → width ≤ old_width → after ≡ sets out (2 * to) (bytes_of (fields_at b from 4))
+    → after ≡ sets out (2 * to) (bytes_of (fields_in width (old_record_at b from)))
+record-narrower b from to out {width} l m e =
+    let w : 4 ≡ width = omega arith in
+    e ∙ ap (λ (fs : List ℕ). sets out (2 * to) (bytes_of fs)) (sym (old-rewritable b from).fields) ∙ ap (λ (k : ℕ). sets out (2 * to) (bytes_of (fields_in k (old_record_at b from)))) w
+
+pub record-wider : (b : List ℕ) (from to : ℕ) (out : List ℕ) {width : ℕ} {before after : List ℕ} → old_width < width → width ≤ pattern_width → before ≡ sets out (2 * to) (bytes_of (fields_at b from 4))
+    → after ≡ sets before (2 * (to + 4)) (field_bytes 0) → after ≡ sets out (2 * to) (bytes_of (fields_in width (old_record_at b from)))
+record-wider b from to out {width} {before} {after} l m e f =
+    let w : 5 ≡ width = omega arith in
+    fields-run out to (old_record_fields (old_record_at b from)) (0 ∷ []) refl
+    (e ∙ ap (λ (fs : List ℕ). sets out (2 * to) (bytes_of fs)) (sym (old-rewritable b from).fields)) (one-run before (to + 4) 0 f)
+    ∙ ap (λ (k : ℕ). sets out (2 * to) (bytes_of (fields_in k (old_record_at b from)))) w

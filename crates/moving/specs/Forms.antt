@@ -1,13 +1,12 @@
 -- The fields of a pattern in the other form.
-use Rattle.std.specs.Prelude.{ℕ, List}
+use Rattle.std.specs.Prelude.{ℕ, List, take}
 use Rattle.model.specs.Bytes.{section, pattern_fields, section_fields}
-use Rattle.model.specs.OldForm.{old_width, old_record_at, old_record_fields, new_pattern, old_pattern}
-use Rattle.format.specs.Given.{pattern_at}
+use Rattle.model.specs.OldForm.{OldRecord, old_record_at, new_record}
 
--- of the old pattern whose count is field `at`: each node has figure 0
-abbrev pub widened : List ℕ → ℕ → List ℕ
-widened b at = section_fields pattern_fields (new_pattern (section old_record_at old_width b at))
+-- a record's in `width` fields: figure 0, or without it
+abbrev pub fields_in : ℕ → OldRecord → List ℕ
+fields_in width r = take width (pattern_fields (new_record r))
 
--- of the pattern whose count is field `at`: figures are left out
-abbrev pub narrowed : List ℕ → ℕ → List ℕ
-narrowed b at = section_fields old_record_fields (old_pattern (pattern_at b at))
+-- of the pattern whose count is field `at`, in records of `from` fields: in records of `to` fields
+abbrev pub rewritten : ℕ → ℕ → List ℕ → ℕ → List ℕ
+rewritten from to b at = section_fields (fields_in to) (section old_record_at from b at)

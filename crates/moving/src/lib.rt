@@ -2,7 +2,6 @@
 // be passed: a call refuses what its questions refuse.
 #![tactic(auto)]
 
-pub mod answers;
 pub mod downgrade;
 pub mod old;
 pub mod refusals;

@@ -22,11 +22,7 @@ pub fn second_at(b: &[u8]) -> usize
 pub fn old_whole(b: &[u8]) -> bool
     ensures { result ≡ old_whole b.now }
 {
-    let second = front_end(b, OLD_WIDTH);
-    if second == 0 {
-        return false;
-    }
-    b.len() / 2 == section_end(b, second, OLD_WIDTH)
+    front_end(b, OLD_WIDTH).is_some_and(|second| b.len() / 2 == section_end(b, second, OLD_WIDTH))
 }
 
 // 4, of the old form. Are the counts 1 to 64, 1 to 16 and 1 to 16?
@@ -34,13 +30,7 @@ pub fn old_counts_in_range(b: &[u8]) -> bool
     requires { old_whole b.now ≡ true }
     ensures { result ≡ old_counts_in_range (old_case_of b.now) }
 {
-    let first = first_at(b);
-    let second = second_at(b);
-    if !between(1, MAX_SUMMARY, field(b, 0) as u64) {
-        return false;
-    }
-    if !between(1, MAX_PATTERN, field(b, first) as u64) {
-        return false;
-    }
-    between(1, MAX_PATTERN, field(b, second) as u64)
+    between(1, MAX_SUMMARY, field(b, 0) as u64)
+        && between(1, MAX_PATTERN, field(b, first_at(b)) as u64)
+        && between(1, MAX_PATTERN, field(b, second_at(b)) as u64)
 }

@@ -1,84 +1,53 @@
-// The refusal of each of the two calls: the number of the first question whose answer is no, in the call's own order, or 0. Any bytes
-// and any numbers may be asked about.
+// What each of the two calls asks, in its own order: the first question whose answer is no refuses it. Any bytes and any numbers may be
+// asked about.
 
-ghost use Rattle.std.specs.Prelude.{◌≡◌, true};
-ghost use Rattle.model.specs.Limits.{pattern_width};
-ghost use Rattle.model.specs.Bytes.{case_of, is_whole_case, WholeSection};
+ghost use Rattle.std.specs.Prelude.{◌≡◌};
 ghost use Rattle.model.specs.Moving.{figureless as figureless_in, goes_back, upgrade_refusal, downgrade_refusal};
-ghost use Rattle.format.specs.Given.{pattern_at};
+ghost use Rattle.questions.specs.Refusal.{asked};
 
 use crate::old::{old_counts_in_range, old_whole};
 use crate::write::write_new;
+use format::case::Case;
 use format::limits::MAX_MOVED;
 use format::nodes::PatternNode;
-use format::pattern::{pattern_count, pattern_figure};
-use format::sections::{first_at, set_at};
-use format::set::set_count;
-use questions::case_refusal;
+use format::pattern::Pattern;
+use questions::ask_case;
 use questions::numbers::buffer_large_enough;
+use questions::refusal::{Refusal, hold};
 
-// Every figure of the pattern whose count is field `at` is 0.
-fn figureless(b: &[u8], at: usize) -> bool
-    requires { WholeSection pattern_width b.now at }
-    ensures { result ≡ figureless_in (pattern_at b.now at) }
+// Every figure of the pattern is 0.
+fn figureless(p: &Pattern) -> bool
+    ensures { result ≡ figureless_in p.now }
 {
-    let n = pattern_count(b, at);
-    for q in 0..n {
-        if pattern_figure(b, at, PatternNode(q)) != 0 {
-            return false;
-        }
-    }
-    true
+    (0..p.count()).all(|q| p.figure(PatternNode(q)) == 0)
 }
 
 // 15. Going back, has the set one pattern, and is every figure 0?
-pub fn goes_back(b: &[u8]) -> bool
-    requires { is_whole_case b.now ≡ true }
-    ensures { result ≡ goes_back (case_of b.now) }
+pub fn goes_back(case: &Case) -> bool
+    ensures { result ≡ goes_back case.now }
 {
-    let first = first_at(b);
-    let set = set_at(b);
-    if set_count(b, set) != 1 {
-        return false;
-    }
-    if !figureless(b, first) {
-        return false;
-    }
-    figureless(b, set + 1)
+    let set = case.set();
+    set.count() == 1 && figureless(&case.first()) && set.members().all(|p| figureless(&p))
 }
 
 // Old to new: 2, then 3 to 8 of the old form. 5 to 8 are asked of the set of one that the old case is, of which 3, 4, 14 and 17 are answered
 // yes; the counts are in range by then, so it has room in a small array.
-pub fn upgrade_refusal(b: &[u8], buffer: usize) -> u64
-    ensures { result ≡ upgrade_refusal b.now buffer }
+pub fn ask_upgrade(b: &[u8], buffer: usize) -> Result<(), Refusal>
+    ensures { asked result ≡ upgrade_refusal b.now buffer }
 {
-    if !buffer_large_enough(buffer) {
-        return 2;
-    }
-    if !old_whole(b) {
-        return 3;
-    }
-    if !old_counts_in_range(b) {
-        return 4;
-    }
+    hold(buffer_large_enough(buffer), Refusal::Room)?;
+    hold(old_whole(b), Refusal::Bytes)?;
+    hold(old_counts_in_range(b), Refusal::Counts)?;
     let mut moved = [0u8; MAX_MOVED];
     let end = write_new(b, &mut moved);
-    case_refusal(&moved[..end])
+    ask_case(&moved[..end])
 }
 
 // New to old: 2, then 3 to 8 with 14 right after 4 and 17 right after 7, then 15.
-pub fn downgrade_refusal(b: &[u8], buffer: usize) -> u64
-    ensures { result ≡ downgrade_refusal b.now buffer }
+pub fn ask_downgrade(b: &[u8], buffer: usize) -> Result<(), Refusal>
+    ensures { asked result ≡ downgrade_refusal b.now buffer }
 {
-    if !buffer_large_enough(buffer) {
-        return 2;
-    }
-    let refused = case_refusal(b);
-    if refused != 0 {
-        return refused;
-    }
-    if !goes_back(b) {
-        return 15;
-    }
-    0
+    hold(buffer_large_enough(buffer), Refusal::Room)?;
+    ask_case(b)?;
+    hold(goes_back(&Case::new(b)), Refusal::OldForm)
 }

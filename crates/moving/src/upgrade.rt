@@ -3,21 +3,15 @@
 ghost use Rattle.model.specs.Demands.{UpgradeAnswered};
 ghost use Rattle.moving.specs.Answers.{moved_of};
 
-use crate::answers::Moved;
-use crate::refusals::upgrade_refusal;
+use crate::refusals::ask_upgrade;
 use crate::write::write_new;
+use questions::refusal::Refusal;
 
-// The case with a set of one that the old case is, written to the front of the answer buffer. Questions 2, and 3 to 8 of the old form.
-pub fn upgrade_call(case: &[u8], answer: &mut [u8]) -> Moved
+// The case with a set of one that the old case is, written to the front of the answer buffer; the answer is how many bytes it has.
+// Questions 2, and 3 to 8 of the old form.
+pub fn upgrade_call(case: &[u8], answer: &mut [u8]) -> Result<usize, Refusal>
     ensures { UpgradeAnswered case.now answer.old (moved_of result answer.new) }
 {
-    let refused = upgrade_refusal(case, answer.len());
-    if refused != 0 {
-        return Moved { refused, count: 0 };
-    }
-    let count = write_new(case, answer);
-    Moved {
-        refused: 0,
-        count: count as u64,
-    }
+    ask_upgrade(case, answer.len())?;
+    Ok(write_new(case, answer))
 }

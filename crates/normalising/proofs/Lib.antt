@@ -1,7 +1,6 @@
-pub mod KeyLaws
-pub mod RowLaws
-pub mod TableLaws
-pub mod GatherLaws
+pub mod OrderLaws
+pub mod PlaceLaws
+pub mod TreeLaws
 pub mod RecordLaws
 pub mod SectionLaws
 pub mod CaseLaws

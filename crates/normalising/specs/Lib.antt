@@ -1,3 +1,1 @@
-pub mod Keys
-pub mod Tables
-pub mod Gathers
+pub mod Trees

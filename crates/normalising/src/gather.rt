@@ -1,27 +1,32 @@
-// A tree's rows gathered into its root's, from the last node to the first: when a node's turn comes, all below it stands in its row.
+// A tree's list from its nodes' rows: each goes into its parent's, from the last node to the first, so that all below a node stands in
+// its row when its turn comes.
 
-ghost use Rattle.normalising.specs.Tables.{table_at, TableGiven, Loaded};
-ghost use Rattle.normalising.specs.Gathers.{Listed};
-ghost use Rattle.std.specs.Prelude.{length};
+ghost use Rattle.std.specs.Prelude.{◌≡◌, [], ◌≤◌, length, get_or};
+ghost use Rattle.model.specs.Normal.{by_subtree, listed};
+ghost use Rattle.normalising.specs.Trees.{TreeGiven, Loaded};
 
-use crate::keys::ROW;
-use crate::rows::join;
-use format::field::field;
-use format::records::record_field;
+use crate::row::Row;
+use crate::tree::Tree;
 
-// Row 0 becomes the whole tree's. The rows begin as their nodes' keys alone.
-pub fn gather(b: &[u8], at: usize, width: usize, rows: &mut [u64])
-    requires { TableGiven width b.now at × Loaded (table_at width b.now at) rows.old (length (table_at width b.now at)) }
-    ensures { Listed (table_at width b.now at) rows.new }
+// Each node's row becomes its entry alone: a depth is one more than the parent's, whose row stands already.
+pub fn load<T: Tree>(tree: &T, rows: &mut [Row])
+    requires { TreeGiven (T.table tree.now) × (length (T.table tree.now) ≤ length rows.old) }
+    ensures { Loaded (T.table tree.now) rows.new (length (T.table tree.now)) }
 {
-    let n = field(b, at);
-    let mut sizes = [1usize; ROW];
-    for j in 1..n {
-        let k = n - j;
-        let p = record_field(b, at, width, k, 0);
-        let size = sizes[k];
-        let into = sizes[p];
-        join(rows, k, size, p, into);
-        sizes[p] = into + size;
+    rows[0].start(tree.entry(0, 0));
+    for i in 1..tree.count() {
+        let above = rows[tree.parent(i)].entries()[0];
+        rows[i].start(tree.entry(i, above.depth + 1));
+    }
+}
+
+// Row 0 becomes the whole tree's.
+pub fn gather<T: Tree>(tree: &T, rows: &mut [Row])
+    requires { TreeGiven (T.table tree.now) × Loaded (T.table tree.now) rows.old (length (T.table tree.now)) }
+    ensures { get_or rows.new 0 [] ≡ listed by_subtree (T.table tree.now) }
+{
+    for k in (1..tree.count()).rev() {
+        let (front, back) = rows.split_at_mut(k);
+        front[tree.parent(k)].insert(&back[0]);
     }
 }

@@ -2,81 +2,72 @@
 // what its questions refuse.
 #![tactic(auto)]
 
+mod entry;
 mod gather;
-mod keys;
-mod rows;
-mod trees;
+mod row;
+mod tree;
 mod write;
 
-ghost use Rattle.std.specs.Prelude.{◌≡◌, map, ◌*◌, ◌≤◌, length};
+ghost use Rattle.std.specs.Prelude.{◌≡◌, ◌+◌, ◌*◌, ◌≤◌, map, length};
 ghost use Rattle.std.proofs.lemmas.List.Edits.{sets};
-ghost use Rattle.model.specs.Bytes.{bytes_of, set_fields, set_of, written_at_front};
-ghost use Rattle.model.specs.Facts.{AcceptedCase};
-ghost use Rattle.model.specs.Normal.{normal_pattern, normalise_refusal, normalised};
+ghost use Rattle.model.specs.Bytes.{bytes_of, set_fields, encode_case, written_at_front};
+ghost use Rattle.model.specs.Normal.{normal_pattern, normal_case, normalise_refusal};
 ghost use Rattle.model.specs.Demands.{NormaliseAnswered};
 ghost use Rattle.moving.specs.Answers.{moved_of};
-ghost use Rattle.normalising.specs.Keys.{all_keys};
-ghost use Rattle.normalising.specs.Tables.{SetTables};
+ghost use Rattle.normalising.specs.Trees.{CaseGiven, SetGiven};
+ghost use Rattle.questions.specs.Refusal.{asked};
 
-use format::limits::{PATTERN_WIDTH, SUMMARY_WIDTH};
-use format::sections::{first_at, pattern_end, set_at};
-use format::set::set_count;
+use format::case::Case;
+use format::set::PatternSet;
 use format::write::put_field;
-use keys::ROWS;
-use moving::answers::Moved;
-use questions::case_refusal;
+use questions::ask_case;
 use questions::numbers::buffer_large_enough;
-use trees::write_tree;
+use questions::refusal::{Refusal, hold};
+use row::{ROW, Row};
+use std::array::from_fn;
+use write::write_tree;
 
-// The set whose count is field `on`, at the same place of out: its members keep their order.
-fn write_set(case: &[u8], on: usize, rows: &mut [u64], out: &mut [u8])
-    requires { SetTables case.now on × (length rows.old ≡ all_keys) × (length case.now ≤ length out.old) }
-    ensures { (length rows.new ≡ all_keys) × (out.new
-        ≡ sets out.old (2 * on) (bytes_of (set_fields (map normal_pattern (set_of case.now on))))) }
+// A set, from field `at` of out on: its members keep their order. The result is the field after it.
+fn write_set(set: &PatternSet, rows: &mut [Row], out: &mut [u8], at: usize) -> usize
+    requires given { SetGiven set.now × (64 ≤ length rows.old) }
+    requires room { 2 * (at + length (set_fields (map normal_pattern set.now))) ≤ length out.old }
+    ensures end { result ≡ at + length (set_fields (map normal_pattern set.now)) }
+    ensures buffer { out.new ≡ sets out.old (2 * at) (bytes_of (set_fields (map normal_pattern set.now))) }
 {
-    let n = set_count(case, on);
-    put_field(out, on, n as u16);
-    let mut at = on + 1;
-    for _ in 0..n {
-        write_tree(case, at, PATTERN_WIDTH, rows, out);
-        at = pattern_end(case, at);
+    let n = set.count();
+    put_field(out, at, n as u16);
+    let mut to = at + 1;
+    for i in 0..n {
+        to = write_tree(&set.member(i), rows, out, to);
     }
+    to
 }
 
-// An accepted case, written to the front of out. The rows of keys are lent to one tree after another.
-fn write_case(case: &[u8], out: &mut [u8])
-    requires { AcceptedCase case.now × (length case.now ≤ length out.old) }
-    ensures { out.new ≡ written_at_front (normalised case.now) out.old }
+// A case, to the front of out. The result is the byte after it. The rows are lent to one tree after another.
+fn write_case(case: &Case, out: &mut [u8]) -> usize
+    requires { CaseGiven case.now × (length (encode_case (normal_case case.now)) ≤ length out.old) }
+    ensures end { result ≡ length (encode_case (normal_case case.now)) }
+    ensures buffer { out.new ≡ written_at_front (encode_case (normal_case case.now)) out.old }
 {
-    let first = first_at(case);
-    let set = set_at(case);
-    let mut rows = [0u64; ROWS];
-    write_tree(case, 0, SUMMARY_WIDTH, &mut rows, out);
-    write_tree(case, first, PATTERN_WIDTH, &mut rows, out);
-    write_set(case, set, &mut rows, out);
+    let mut rows: [Row; ROW] = from_fn(|_| Row::new());
+    let first = write_tree(&case.summary(), &mut rows, out, 0);
+    let set = write_tree(&case.first(), &mut rows, out, first);
+    2 * write_set(&case.set(), &mut rows, out, set)
 }
 
-// The call's refusal: 2, then 3 to 8 with 14 right after 4 and 17 right after 7.
-fn normalise_refusal(case: &[u8], buffer: usize) -> u64
-    ensures { result ≡ normalise_refusal case.now buffer }
+// What the call asks: 2, then 3 to 8 with 14 right after 4 and 17 right after 7.
+fn ask_normalise(case: &[u8], buffer: usize) -> Result<(), Refusal>
+    ensures { asked result ≡ normalise_refusal case.now buffer }
 {
-    if !buffer_large_enough(buffer) {
-        return 2;
-    }
-    case_refusal(case)
+    hold(buffer_large_enough(buffer), Refusal::Room)?;
+    ask_case(case)
 }
 
-// One way of writing: the case as it is written, to the front of the answer buffer, in as many bytes as it has. A refusal alters nothing.
-pub fn normalise_call(case: &[u8], answer: &mut [u8]) -> Moved
+// One way of writing: the case as it is written, to the front of the answer buffer; the answer is how many bytes it has, which is as many
+// as the case. A refusal alters nothing.
+pub fn normalise_call(case: &[u8], answer: &mut [u8]) -> Result<usize, Refusal>
     ensures { NormaliseAnswered case.now answer.old (moved_of result answer.new) }
 {
-    let refused = normalise_refusal(case, answer.len());
-    if refused != 0 {
-        return Moved { refused, count: 0 };
-    }
-    write_case(case, answer);
-    Moved {
-        refused: 0,
-        count: case.len() as u64,
-    }
+    ask_normalise(case, answer.len())?;
+    Ok(write_case(&Case::new(case), answer))
 }

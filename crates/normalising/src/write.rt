@@ -1,56 +1,44 @@
-// A tree's section from its list of keys.
+// A tree as it is written.
 
-ghost use Rattle.std.specs.Prelude.{◌≡◌, ◌+◌, ◌*◌, ◌-◌, ◌≤◌, ◌<◌, length};
+ghost use Rattle.std.specs.Prelude.{◌≡◌, ◌+◌, ◌*◌, ◌≤◌, length};
 ghost use mathlib.Core.List.{flat_map};
 ghost use Rattle.std.proofs.lemmas.List.Edits.{sets};
 ghost use Rattle.model.specs.Bytes.{bytes_of};
 ghost use Rattle.model.specs.Normal.{table_of};
-ghost use Rattle.normalising.specs.Keys.{entry_of, entries_of, Shallow};
-ghost use Rattle.normalising.specs.Tables.{Width, fields_of, record_with};
+ghost use Rattle.normalising.specs.Trees.{TreeGiven, Shallow, normal_fields};
 
-use crate::keys::{EDGE, LABEL, POSITION, ROW, depth_of};
-use format::field::index64;
-use format::limits::SUMMARY_WIDTH;
+use crate::entry::Entry;
+use crate::gather::{gather, load};
+use crate::row::{ROW, Row};
+use crate::tree::Tree;
 use format::write::put_field;
 
-// A parent and what a key holds become the fields of out from field `at` on, as many as the width.
-fn put_record(out: &mut [u8], at: usize, width: usize, parent: u16, key: u64)
-    requires { Width width × (2 * (at + width) ≤ length out.old) }
-    ensures { out.new ≡ sets out.old (2 * at) (bytes_of (fields_of width (record_with parent (entry_of key)))) }
-{
-    put_field(out, at, parent);
-    put_field(out, at + 1, (key / LABEL % 65536) as u16);
-    put_field(out, at + 2, (key / EDGE % 65536) as u16);
-    if width <= SUMMARY_WIDTH {
-        return;
-    }
-    put_field(out, at + 3, (key / POSITION % 256) as u16);
-    put_field(out, at + 4, (key % 65536) as u16);
-}
-
-// The depth above; the root's own where there is none.
-fn above(depth: usize) -> usize
-    ensures { result ≡ depth - 1 }
-{
-    if depth == 0 {
-        return 0;
-    }
-    depth - 1
-}
-
 // The records of the tree that a list in preorder stands for, from field `at` on: by depth, the last entry before is kept.
-pub fn write_records(keys: &[u64], width: usize, out: &mut [u8], at: usize)
-    requires { Shallow keys.now × Width width × (2 * (at + width * length keys.now) ≤ length out.old) }
-    ensures { out.new
-        ≡ sets out.old (2 * at) (bytes_of (flat_map (fields_of width) (table_of (entries_of keys.now)))) }
+fn write_records<T: Tree>(tree: &T, list: &[Entry], out: &mut [u8], at: usize)
+    requires { Shallow list.now × (2 * (at + T.width * length list.now) ≤ length out.old) }
+    ensures { out.new ≡ sets out.old (2 * at) (bytes_of (flat_map T.fields (table_of list.now))) }
 {
-    let n = keys.len();
     let mut last = [0u16; ROW];
-    for k in 0..n {
-        let key = keys[k];
-        let depth = index64(depth_of(key));
-        let up = above(depth);
-        put_record(out, at + width * k, width, last[up], key);
+    for k in 0..list.len() {
+        let entry = list[k];
+        let depth = usize::from(entry.depth);
+        let above = depth.saturating_sub(1);
+        tree.put(last[above], entry, out, at + tree.width() * k);
         last[depth] = k as u16;
     }
+}
+
+// Its section, from field `at` of out on. The result is the field after it. The rows are lent: what stood in them does not matter.
+pub fn write_tree<T: Tree>(tree: &T, rows: &mut [Row], out: &mut [u8], at: usize) -> usize
+    requires given { TreeGiven (T.table tree.now) × (length (T.table tree.now) ≤ length rows.old) }
+    requires room { 2 * (at + length (normal_fields T.fields (T.table tree.now))) ≤ length out.old }
+    ensures end { result ≡ at + length (normal_fields T.fields (T.table tree.now)) }
+    ensures buffer { out.new ≡ sets out.old (2 * at) (bytes_of (normal_fields T.fields (T.table tree.now))) }
+{
+    load(tree, rows);
+    gather(tree, rows);
+    let list = rows[0].entries();
+    put_field(out, at, list.len() as u16);
+    write_records(tree, list, out, at + 1);
+    at + 1 + tree.width() * list.len()
 }

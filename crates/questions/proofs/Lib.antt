@@ -4,7 +4,5 @@ pub mod LoopLaws
 pub mod MemberLaws
 pub mod CaseLaws
 pub mod SummaryLaws
-pub mod PatternLaws
 pub mod PositionLaws
-pub mod RecordLaws
 pub mod RefusalLaws

@@ -1,41 +1,91 @@
--- A return of a refusal, after questions that were asked in order: each that was answered yes leaves the decision to what is asked
--- after it, and the first that was answered no decides; the case questions, asked among others, do either as a whole. `search asked`
--- goes through the questions of a call by these laws, and `search required` through what a question requires of those before it.
--- Assumes nothing.
+-- What a call that asks questions in order leads to: each that holds leaves the decision to what is asked after it, and the first that
+-- does not hold decides; the case questions, asked among others, do either as a whole. `search asking` goes through the questions of a call by
+-- these laws, and `search required` through what a question requires of those before it. A refusal's number tells it. Assumes nothing.
 use Prim.Native.Nat.{ℕ}
-use mathlib.Core.Path.{◌≡◌, refl, sym, ◌∙◌}
-use mathlib.Core.Bool.{Bool, true, false, not}
+use mathlib.Core.Path.{◌≡◌, refl, sym, ap, ◌∙◌}
+use mathlib.Core.Bool.{Bool, true, false}
 use mathlib.Core.List.{List, [], ◌∷◌, ◌++◌}
 use native.Mathlib.Omega.{arith}
+use lib.ListN.{get_or}
 use borrow.Author.Rules.{rules}
+use Rattle.std.proofs.Common.{Result, Ok, Err, IsErrAnd, if◌then◌else◌}
+use Rattle.std.proofs.lemmas.Result.{err_from_is_err_and}
 use Rattle.model.specs.Bytes.{is_whole_case}
-use Rattle.model.specs.Summary.{Summary}
-use Rattle.model.specs.Questions.{case_whole, summary_kept, ask, Question, refusal, case_questions}
+use Rattle.model.specs.Questions.{case_whole, ask, Question, refusal, case_questions}
 use Rattle.model.proofs.Refusals.{AllYes, Numbered, accepted-all-yes, refusal-after, refusal-kept, refusal-yes, refusal-no}
-use Rattle.questions.proofs.TestLaws.{said-no, said-yes}
+use Rattle.questions.specs.declared.refusal.Refusal.{Refusal}
+use Rattle.questions.specs.declared.refusal.Refusal.TheVariants.{Limit, Room, Bytes, Counts, SummaryRecords, Siblings, PatternRecords, Positions, Tally, Document, ResultList, PatternNumber, Embedding, SetCount, OldForm, Caller, Figure}
+use Rattle.questions.specs.Refusal.{number_of, asked}
 
--- ---- one question
+-- ---- the number of a refusal
 
-pub asked-no : (n : ℕ) (answer test : Bool) (rest : List Question) → answer ≡ test → not answer ≡ true → n ≡ refusal (ask n test ∷ rest)
-asked-no n answer test rest e f = sym (refusal-no (ask n test) rest (said-no answer test e f))
+of_number : ℕ → Refusal
+of_number n = get_or (Limit ∷ Limit ∷ Room ∷ Bytes ∷ Counts ∷ SummaryRecords ∷ Siblings ∷ PatternRecords ∷ Positions ∷ Tally ∷ Document ∷ ResultList ∷ PatternNumber ∷ Embedding ∷ SetCount ∷ OldForm ∷ Caller ∷ Figure ∷ []) n Limit
 
-pub asked-yes : (r n : ℕ) (answer test : Bool) (rest : List Question) → answer ≡ test → not answer ≡ false → r ≡ refusal rest → r ≡ refusal (ask n test ∷ rest)
-asked-yes r n answer test rest e t after = after ∙ sym (refusal-yes (ask n test) rest (said-yes answer test e t))
+back : (r : Refusal) → of_number (number_of r) ≡ r
+unfolding of_number
+back Limit = refl
+back Room = refl
+back Bytes = refl
+back Counts = refl
+back SummaryRecords = refl
+back Siblings = refl
+back PatternRecords = refl
+back Positions = refl
+back Tally = refl
+back Document = refl
+back ResultList = refl
+back PatternNumber = refl
+back Embedding = refl
+back SetCount = refl
+back OldForm = refl
+back Caller = refl
+back Figure = refl
 
-pub asked-all : 0 ≡ refusal []
+-- it tells the refusal
+pub number-tells : (r s : Refusal) → number_of r ≡ number_of s → r ≡ s
+number-tells r s e = sym (back r) ∙ ap of_number e ∙ back s
+
+-- and is none that says there is none
+pub number-not_zero : (r : Refusal) → number_of r ≡ 0 → ⊥
+unfolding of_number
+number-not_zero r e = let k : 1 ≡ number_of r = ap number_of (ap of_number (sym e) ∙ back r) in omega arith
+
+-- what was asked leads to 0 exactly where there is no refusal
+pub asked-ok : {T : Type 0} (a : Result T Refusal) → asked a ≡ 0 → (x : T) × (a ≡ Ok x)
+asked-ok (Ok x) e = (x, refl)
+asked-ok (Err r) e = absurd (number-not_zero r e)
+
+-- a refusal is passed on by `?` as it is
+pub passed_on : {T : Type 0} (a : Result T Refusal) (r : Refusal) → IsErrAnd a (λ s. s ≡ r) → asked a ≡ number_of r
+passed_on a r h = let p = err_from_is_err_and a h in ap asked (p.1 ∙ ap Err p.2)
+
+-- ---- one question: `hold(answer, r)?`
+
+pub held : {x : Unit {0}} (answer : Bool) (r : Refusal) → Ok x ≡ (if answer then Ok tt else Err r) → answer ≡ true
+held true r e = refl
+held false r e = cc
+
+pub not_held : (s : Refusal) (answer : Bool) (r : Refusal) → ◌≡◌ {A = Result (Unit {0}) Refusal} (Err s) (if answer then Ok tt else Err r) → (answer ≡ false) × (s ≡ r)
+not_held s true r e = cc
+not_held s false r e = (refl, cc)
+
+pub asked-no : {T : Type 0} (a : Result T Refusal) (s r : Refusal) (n : ℕ) (answer test : Bool) (rest : List Question) → ◌≡◌ {A = Result (Unit {0}) Refusal} (Err s) (if answer then Ok tt else Err r)
+    → answer ≡ test → n ≡ number_of r → IsErrAnd a (λ t. t ≡ s) → asked a ≡ refusal (ask n test ∷ rest)
+asked-no a s r n answer test rest h e c p =
+    let no = not_held s answer r h in
+    passed_on a s p ∙ ap number_of no.1 ∙ sym c ∙ sym (refusal-no (ask n test) rest (sym e ∙ no.0))
+
+pub asked-yes : {x : Unit {0}} (k n : ℕ) (r : Refusal) (answer test : Bool) (rest : List Question) → Ok x ≡ (if answer then Ok tt else Err r) → answer ≡ test → k ≡ refusal rest → k ≡ refusal (ask n test ∷ rest)
+asked-yes k n r answer test rest h e after = after ∙ sym (refusal-yes (ask n test) rest (sym e ∙ held answer r h))
+
+-- the last one, whose answer is returned
+pub asked-last : (a : Result (Unit {0}) Refusal) (r : Refusal) (n : ℕ) (answer test : Bool) → a ≡ (if answer then Ok tt else Err r) → answer ≡ test → n ≡ number_of r → asked a ≡ refusal (ask n test ∷ [])
 unfolding refusal
-asked-all = refl
-
--- ---- 7 and 17, asked together
-
-pub two-no : (r n m : ℕ) (s t : Bool) (rest : List Question) → r ≡ refusal (ask n s ∷ ask m t ∷ []) → (r ≡ 0 → ⊥) → r ≡ refusal (ask n s ∷ ask m t ∷ rest)
-two-no r n m s t rest e f = e ∙ sym (refusal-kept (ask n s ∷ ask m t ∷ []) rest (λ z. f (e ∙ z)))
-
-pub two-yes : (r refused : ℕ) (s t : Bool) (rest : List Question) → refused ≡ refusal (ask 7 s ∷ ask 17 t ∷ []) → refused ≡ 0 → r ≡ refusal rest
-    → r ≡ refusal (ask 7 s ∷ ask 17 t ∷ rest)
-two-yes r refused s t rest e z after =
-    let qs : List Question = ask 7 s ∷ ask 17 t ∷ [] in
-    after ∙ sym (refusal-after qs rest (accepted-all-yes qs (omega arith, (omega arith, tt)) (sym e ∙ z)))
+asked-last a r n true true h e c = ap asked h
+asked-last a r n false false h e c = ap asked h ∙ sym c
+asked-last a r n true false h e c = cc
+asked-last a r n false true h e c = cc
 
 -- ---- the case questions
 
@@ -46,31 +96,28 @@ case-numbered b = (omega arith, (omega arith, (omega arith, (omega arith, (omega
 all_yes : (b : List ℕ) → refusal (case_questions b) ≡ 0 → AllYes (case_questions b)
 all_yes b e = accepted-all-yes (case_questions b) (case-numbered b) e
 
-pub case-no : (r : ℕ) (b : List ℕ) (rest : List Question) → r ≡ refusal (case_questions b) → (r ≡ 0 → ⊥) → r ≡ refusal (case_questions b ++ rest)
-case-no r b rest e f = e ∙ sym (refusal-kept (case_questions b) rest (λ z. f (e ∙ z)))
+pub case-no : {T : Type 0} (a : Result T Refusal) (s : Refusal) (b : List ℕ) (rest : List Question) → number_of s ≡ refusal (case_questions b) → IsErrAnd a (λ t. t ≡ s)
+    → asked a ≡ refusal (case_questions b ++ rest)
+case-no a s b rest e p = passed_on a s p ∙ e ∙ sym (refusal-kept (case_questions b) rest (λ z. number-not_zero s (e ∙ z)))
 
-pub case-yes : (r refused : ℕ) (b : List ℕ) (rest : List Question) → refused ≡ refusal (case_questions b) → refused ≡ 0 → r ≡ refusal rest
-    → r ≡ refusal (case_questions b ++ rest)
-case-yes r refused b rest e z after = after ∙ sym (refusal-after (case_questions b) rest (all_yes b (sym e ∙ z)))
+pub case-yes : (k : ℕ) (b : List ℕ) (rest : List Question) → 0 ≡ refusal (case_questions b) → k ≡ refusal rest → k ≡ refusal (case_questions b ++ rest)
+case-yes k b rest e after = after ∙ sym (refusal-after (case_questions b) rest (all_yes b (sym e)))
 
 -- ---- what later questions require of the bytes
 
-pub asked-whole : (answer : Bool) (b : List ℕ) → answer ≡ case_whole b → not answer ≡ false → is_whole_case b ≡ true
+pub whole_held : {x : Unit {0}} (answer : Bool) (r : Refusal) (b : List ℕ) → Ok x ≡ (if answer then Ok tt else Err r) → answer ≡ case_whole b → is_whole_case b ≡ true
 unfolding case_whole
-asked-whole answer b e t = said-yes answer (is_whole_case b) e t
+whole_held answer r b h e = sym e ∙ held answer r h
 
-pub asked-summary : (answer : Bool) (S : Summary) → answer ≡ summary_kept S → not answer ≡ false → summary_kept S ≡ true
-asked-summary answer S e t = said-yes answer (summary_kept S) e t
-
-pub case-accepts : (refused : ℕ) (b : List ℕ) → refused ≡ refusal (case_questions b) → refused ≡ 0 → refusal (case_questions b) ≡ 0
-case-accepts refused b e z = sym e ∙ z
+pub test_held : {x : Unit {0}} (answer : Bool) (r : Refusal) (test : Bool) → Ok x ≡ (if answer then Ok tt else Err r) → answer ≡ test → test ≡ true
+test_held answer r test h e = sym e ∙ held answer r h
 
 pub accepted-whole : (b : List ℕ) → refusal (case_questions b) ≡ 0 → is_whole_case b ≡ true
 unfolding case_questions case_whole
 accepted-whole b e = (all_yes b e).0
 
-pub ruleset one_by_one = (rules, asked-no, asked-yes, asked-all)
+pub ruleset one_by_one = (rules, asked-no, asked-yes, asked-last)
 
-pub ruleset asked = (one_by_one, case-no, case-yes)
+pub ruleset asking = (one_by_one, case-no, case-yes)
 
-pub ruleset required = (rules, asked-whole, case-accepts, accepted-whole)
+pub ruleset required = (rules, whole_held, test_held, accepted-whole)

@@ -1,21 +1,22 @@
--- Questions 5 and 6 by what the code reads of a record: the summary's records and its nodes read as a document's agree. Assumes
--- nothing.
-use Prim.Native.Nat.{ℕ, zero, suc, ◌+◌, ◌≤◌, ◌<◌}
+-- Questions 5 and 6 by what the code reads: the summary's records and its nodes read as a document's agree, and siblings stand after their
+-- parent. Assumes nothing.
+use Prim.Native.Nat.{ℕ, zero, suc, ◌-◌, ◌≤◌, ◌<◌}
 use mathlib.Core.Path.{◌≡◌, refl, sym, ap, ◌∙◌}
 use mathlib.Core.Bool.{Bool, true, false, ◌&&◌, ◌||◌, not}
+use mathlib.Core.Logic.{◌⊎◌, inl, inr}
 use native.Mathlib.Omega.{arith}
 use lib.Dec.{eqb, leb, ltb}
 use lib.ListN.{length, get_or, get_or-map}
-use borrow.Author.Tests.{ne_eqb, le-ltb}
+use borrow.Author.Tests.{ne_eqb, le-ltb, ltb-true, ltb-false}
 use Rattle.model.specs.Lists.{up_from, all_of}
 use Rattle.model.specs.Tree.{DocumentRecord, no_document_record, Rooted}
 use Rattle.model.specs.Summary.{Summary, no_summary_record, without_strong, as_document, summary_parent, summary_label}
 use Rattle.model.specs.Fitting.{parent_rule}
 use Rattle.model.specs.Questions.{summary_record_kept, summary_kept, alike}
 use Rattle.model.proofs.Fitting.{rooted}
-use Rattle.model.proofs.ListLaws.{and_left, all-below}
+use Rattle.model.proofs.ListLaws.{bool-ext, true-or-false, and_left, all-intro, all-elim, all-below, below_all, mem-up_from, up_from-mem}
+use Rattle.questions.specs.Rules.{flag_rule}
 use Rattle.questions.proofs.TestLaws.{and_assoc}
-use Rattle.questions.proofs.LoopLaws.{Passed, passed-more, one-failed}
 
 module _ (S : Summary) (i : ℕ) where
   same-node : get_or (as_document S) i no_document_record ≡ without_strong (get_or S i no_summary_record)
@@ -25,23 +26,11 @@ module _ (S : Summary) (i : ℕ) where
   strong_of = (get_or S i no_summary_record).strong
 
   -- 5, with the rule for the flag by itself
-  pub summary-asked : (r : Bool) → r ≡ (parent_rule i (summary_parent S i) && ltb 0 (summary_label S i) && (leb strong_of 1 && (ltb 0 i || eqb strong_of 0)))
-      → r ≡ summary_record_kept S i
+  pub by_rules : (parent_rule i (summary_parent S i) && ltb 0 (summary_label S i) && flag_rule i strong_of) ≡ summary_record_kept S i
   unfolding summary_record_kept
-  summary-asked r e =
-      e ∙ ap (λ (d : DocumentRecord). parent_rule i d.parent && ltb 0 d.label && (leb strong_of 1 && (ltb 0 i || eqb strong_of 0))) same-node
+  by_rules =
+      ap (λ (d : DocumentRecord). parent_rule i d.parent && ltb 0 d.label && flag_rule i strong_of) same-node
       ∙ sym (and_assoc (parent_rule i (get_or S i no_summary_record).parent && ltb 0 (get_or S i no_summary_record).label) (leb strong_of 1) (ltb 0 i || eqb strong_of 0))
-
--- 6: no node that the loop has come past is alike to node j
-abbrev pub Unlike : Summary → ℕ → ℕ → Type 0
-Unlike S j i = Passed (λ k. not (alike S k j)) 0 i
-
-module _ (S : Summary) (i j : ℕ) (answer : Bool) (a : answer ≡ alike S i j) where
-  pub alike-stops : i < j → answer ≡ true → false ≡ all_of (λ k. not (alike S k j)) (up_from 0 j)
-  alike-stops h e = sym (one-failed (λ k. not (alike S k j)) 0 j i (omega arith) (omega arith) (ap not (sym a ∙ e)))
-
-  pub alike-more : Unlike S j i → answer ≡ false → Unlike S j (i + 1)
-  alike-more p e = passed-more (λ k. not (alike S k j)) 0 i p (ap not (sym a ∙ e))
 
 -- where question 5 was answered yes, parents come first, so no node up to j's parent is its sibling
 module _ (S : Summary) (kept : summary_kept S ≡ true) where
@@ -68,5 +57,17 @@ module _ (S : Summary) (kept : summary_kept S ≡ true) where
       middle true c = refl
       middle false c = refl
 
-  pub unlike-start : {j first : ℕ} → j < length S → first ≡ summary_parent S j → Unlike S j first
-  unlike-start {j} h e = record { began = omega arith; each = λ k l u. ap not (not-sibling j k h (omega arith)) }
+  -- so the nodes from the parent on decide
+  pub from_parent : (j first : ℕ) (r : Bool) → j < length S → first ≡ summary_parent S j → r ≡ all_of (λ i. not (alike S i j)) (up_from first (j - first))
+      → r ≡ all_of (λ i. not (alike S i j)) (up_from 0 j)
+  from_parent j first r h p e = e ∙ bool-ext (all_of (λ i. not (alike S i j)) (up_from first (j - first))) (all_of (λ i. not (alike S i j)) (up_from 0 j)) forth back
+    where
+      forth : all_of (λ i. not (alike S i j)) (up_from first (j - first)) ≡ true → all_of (λ i. not (alike S i j)) (up_from 0 j) ≡ true
+      forth t = below_all (λ i. not (alike S i j)) j (λ i l. go i l (true-or-false (ltb i first)))
+        where
+          go : (i : ℕ) → i < j → (ltb i first ≡ true) ⊎ (ltb i first ≡ false) → not (alike S i j) ≡ true
+          go i l (inl y) = let m = ltb-true i first y in ap not (not-sibling j i h (omega arith))
+          go i l (inr n) = let m = ltb-false i first n in all-elim (λ i. not (alike S i j)) (up_from first (j - first)) t i (mem-up_from first (j - first) i (omega arith) (omega arith))
+
+      back : all_of (λ i. not (alike S i j)) (up_from 0 j) ≡ true → all_of (λ i. not (alike S i j)) (up_from first (j - first)) ≡ true
+      back t = all-intro (λ i. not (alike S i j)) (up_from first (j - first)) (λ x m. let r = up_from-mem first (j - first) x m in all-below (λ i. not (alike S i j)) j t x (omega arith))

@@ -1,5 +1,5 @@
 -- Where the sections after the first pattern begin, found before any of them is known to be whole.
-use Rattle.std.specs.Prelude.{ℕ, ◌/◌, ◌%◌, Bool, true, false, ◌&&◌, List, leb, ltb, eqb, length}
+use Rattle.std.specs.Prelude.{ℕ, ◌/◌, ◌%◌, Bool, true, false, ◌&&◌, List, Option, Some, None, leb, ltb, eqb, length}
 use Rattle.model.specs.Limits.{max_case_bytes}
 use Rattle.model.specs.Bytes.{section_end, first_at}
 
@@ -11,6 +11,6 @@ after_first width b = section_end width b (first_at b)
 abbrev pub front_whole : ℕ → List ℕ → Bool
 front_whole width b = leb (length b) max_case_bytes && eqb (length b % 2) 0 && ltb (after_first width b) (length b / 2)
 
--- that field, or 0, which it never is, where this is not so
-unfoldable pub front_end : ℕ → List ℕ → ℕ
-front_end width b = elim (front_whole width b) [ true ↦ after_first width b | false ↦ 0 ]
+-- that field, where this is so
+unfoldable pub front_end : ℕ → List ℕ → Option ℕ
+front_end width b = elim (front_whole width b) [ true ↦ Some (after_first width b) | false ↦ None ]

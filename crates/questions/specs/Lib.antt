@@ -1,4 +1,5 @@
 pub mod Front
-pub mod Members
 pub mod Positions
+pub mod Refusal
 pub mod Rules
+pub mod Seen

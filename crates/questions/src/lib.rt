@@ -4,9 +4,12 @@
 
 ghost use Rattle.std.specs.Prelude.{◌≡◌};
 ghost use Rattle.model.specs.Questions.{refusal, case_questions};
+ghost use Rattle.questions.specs.Refusal.{asked};
 
 use case::{case_whole, counts_in_range, set_in_range};
-use members::{positions_kept, records_refusal};
+use format::case::Case;
+use members::{figures_kept, patterns_kept, positions_kept};
+use refusal::{Refusal, hold};
 use summary::{siblings_differ, summary_kept};
 
 pub mod case;
@@ -14,34 +17,22 @@ pub mod members;
 pub mod numbers;
 pub mod pattern;
 pub mod positions;
+pub mod refusal;
 pub mod rules;
 pub mod summary;
 
 // Questions 3 to 8, with 14 right after 4 and 17 right after 7, which every call asks of its case.
-pub fn case_refusal(b: &[u8]) -> u64
-    ensures { result ≡ refusal (case_questions b.now) }
+pub fn ask_case(b: &[u8]) -> Result<(), Refusal>
+    ensures { asked result ≡ refusal (case_questions b.now) }
 {
-    if !case_whole(b) {
-        return 3;
-    }
-    if !counts_in_range(b) {
-        return 4;
-    }
-    if !set_in_range(b) {
-        return 14;
-    }
-    if !summary_kept(b) {
-        return 5;
-    }
-    if !siblings_differ(b) {
-        return 6;
-    }
-    let of_records = records_refusal(b);
-    if of_records != 0 {
-        return of_records;
-    }
-    if !positions_kept(b) {
-        return 8;
-    }
-    0
+    hold(case_whole(b), Refusal::Bytes)?;
+    let case = Case::new(b);
+    let summary = case.summary();
+    hold(counts_in_range(&case), Refusal::Counts)?;
+    hold(set_in_range(&case), Refusal::SetCount)?;
+    hold(summary_kept(&summary), Refusal::SummaryRecords)?;
+    hold(siblings_differ(&summary), Refusal::Siblings)?;
+    hold(patterns_kept(&case), Refusal::PatternRecords)?;
+    hold(figures_kept(&case), Refusal::Figure)?;
+    hold(positions_kept(&case), Refusal::Positions)
 }

@@ -27,16 +27,25 @@ pub fn table_large_enough(records: usize) -> bool
     MIN_TABLE <= records
 }
 
-// 16. Is the caller 0 to 7?
-pub fn caller_in_range(caller: u64) -> bool
-    ensures { result ≡ caller_in_range caller }
-{
-    caller < CALLERS
+// Whose tally a call goes to, and what it has come to.
+#[derive(Clone, Copy)]
+pub struct Account {
+    pub caller: u64,
+    pub tally: u64,
 }
 
-// 9. Is the tally plus the most that may be tried at most 1,000,000,000,000? The sum itself could wrap.
-pub fn tally_in_range(tally: u64, most: u64) -> bool
-    ensures { result ≡ tally_in_range tally most }
-{
-    most <= MAX_TALLY && tally <= MAX_TALLY - most
+impl Account {
+    // 16. Is the caller 0 to 7?
+    pub fn caller_in_range(self) -> bool
+        ensures { result ≡ caller_in_range self.caller }
+    {
+        self.caller < CALLERS
+    }
+
+    // 9. Is the tally plus the most that may be tried at most 1,000,000,000,000? The sum itself could wrap.
+    pub fn tally_in_range(self, most: u64) -> bool
+        ensures { result ≡ tally_in_range self.tally most }
+    {
+        most <= MAX_TALLY && self.tally <= MAX_TALLY - most
+    }
 }

@@ -1,90 +1,48 @@
-// What is asked of one pattern: its part of 4, 7 and 17; and its k. A pattern is known by the field `at` that holds its count, so each
-// function serves every pattern of a case. Before question 7 a parent may be any number.
+// What is asked of one pattern: its part of 4, 7 and 17; and its k. Before question 7 a parent may be any number.
 
 ghost use Rattle.std.specs.Prelude.{◌≡◌, ◌<◌, length};
-ghost use Rattle.model.specs.Limits.{pattern_width};
 ghost use Rattle.model.specs.Pattern.{arity as arity_of};
-ghost use Rattle.model.specs.Bytes.{WholeSection};
-ghost use Rattle.model.specs.Questions.{count_in_range, pattern_record_kept, refusal};
-ghost use Rattle.format.specs.Given.{pattern_at};
-ghost use Rattle.questions.specs.Members.{record_questions, pattern_questions};
+ghost use Rattle.model.specs.Questions.{count_in_range, pattern_record_kept, pattern_kept, pattern_figures};
 
 use crate::rules::{between, figure_in_range, flag_rule, parent_rule};
 use format::limits::{MAX_PATTERN, MAX_POSITION};
 use format::nodes::PatternNode;
-use format::pattern::{
-    pattern_count, pattern_edge, pattern_figure, pattern_parent, pattern_position,
-};
+use format::pattern::Pattern;
 
 // The pattern has 1 to 16 nodes.
-pub fn count_in_range(b: &[u8], at: usize) -> bool
-    requires { WholeSection pattern_width b.now at }
-    ensures { result ≡ count_in_range (pattern_at b.now at) }
+pub fn count_in_range(p: &Pattern) -> bool
+    ensures { result ≡ count_in_range p.now }
 {
-    between(1, MAX_PATTERN, pattern_count(b, at) as u64)
+    between(1, MAX_PATTERN, p.count() as u64)
 }
 
 // Record q keeps the rules for parent and edge, with a position of at most 8.
-pub fn pattern_record_kept(b: &[u8], at: usize, q: PatternNode) -> bool
-    requires whole_section { WholeSection pattern_width b.now at }
-    requires q_in_bounds { q.0 < length (pattern_at b.now at) }
-    ensures { result ≡ pattern_record_kept (pattern_at b.now at) q.0 }
+pub fn pattern_record_kept(p: &Pattern, q: PatternNode) -> bool
+    requires { q.0 < length p.now }
+    ensures { result ≡ pattern_record_kept p.now q.0 }
 {
-    if !parent_rule(q.0, pattern_parent(b, at, q).0) {
-        return false;
-    }
-    if !flag_rule(q.0, pattern_edge(b, at, q)) {
-        return false;
-    }
-    pattern_position(b, at, q) <= MAX_POSITION
+    parent_rule(q.0, p.parent(q).0) && flag_rule(q.0, p.edge(q)) && p.position(q) <= MAX_POSITION
 }
 
-// 7 and 17 of record q.
-fn record_refusal(b: &[u8], at: usize, q: PatternNode) -> u64
-    requires whole_section { WholeSection pattern_width b.now at }
-    requires q_in_bounds { q.0 < length (pattern_at b.now at) }
-    ensures { result ≡ refusal (record_questions (pattern_at b.now at) q.0) }
+// 7 of the pattern: every record does.
+pub fn pattern_kept(p: &Pattern) -> bool
+    ensures { result ≡ pattern_kept p.now }
 {
-    if !pattern_record_kept(b, at, q) {
-        return 7;
-    }
-    if !figure_in_range(pattern_figure(b, at, q)) {
-        return 17;
-    }
-    0
+    (0..p.count()).all(|q| pattern_record_kept(p, PatternNode(q)))
 }
 
-// 7 and 17 of the pattern, in one pass over its records: 17 is remembered, since a later record may be refused by 7.
-pub fn pattern_refusal(b: &[u8], at: usize) -> u64
-    requires { WholeSection pattern_width b.now at }
-    ensures { result ≡ refusal (pattern_questions (pattern_at b.now at)) }
+// 17 of the pattern: every figure is at most 2,000.
+pub fn figures_in_range(p: &Pattern) -> bool
+    ensures { result ≡ pattern_figures p.now }
 {
-    let n = pattern_count(b, at);
-    let mut r: u64 = 0;
-    for q in 0..n {
-        let x = record_refusal(b, at, PatternNode(q));
-        if x == 7 {
-            return 7;
-        }
-        if x != 0 {
-            r = x;
-        }
-    }
-    r
+    (0..p.count()).all(|q| figure_in_range(p.figure(PatternNode(q))))
 }
 
 // k, the number of nodes that hold a position.
-pub fn arity(b: &[u8], at: usize) -> usize
-    requires { WholeSection pattern_width b.now at }
-    ensures { (result ≡ arity_of (pattern_at b.now at)) × (result < 65536) }
+pub fn arity(p: &Pattern) -> usize
+    ensures { (result ≡ arity_of p.now) × (result < 65536) }
 {
-    let n = pattern_count(b, at);
-    let mut k: usize = 0;
-    for q in 0..n {
-        let p = pattern_position(b, at, PatternNode(q));
-        if 0 < p {
-            k += 1;
-        }
-    }
-    k
+    (0..p.count())
+        .filter(|q| 0 < p.position(PatternNode(*q)))
+        .count()
 }

@@ -1,31 +1,23 @@
 // What is asked of one pattern's positions: its part of 8.
 
-ghost use Rattle.std.specs.Prelude.{◌≡◌, ◌&&◌, ◌+◌, ◌<◌, eqb, ltb};
-ghost use Rattle.model.specs.Limits.{pattern_width};
+ghost use Rattle.std.specs.Prelude.{◌≡◌, ◌&&◌, ◌<◌, eqb};
 ghost use Rattle.model.specs.Pattern.{arity as arity_of};
-ghost use Rattle.model.specs.Bytes.{WholeSection};
 ghost use Rattle.model.specs.Questions.{positions_once};
-ghost use Rattle.format.specs.Given.{pattern_at};
-ghost use Rattle.questions.specs.Positions.{one_if, holders_of, held_once, Sees, SeenIn};
+ghost use Rattle.questions.specs.Positions.{holders_of, held_once};
+ghost use Rattle.questions.specs.Seen.{Sees};
 
-use bits::{has64, insert_if64, insert64};
+use bits::Mask;
 use format::nodes::PatternNode;
-use format::pattern::{pattern_count, pattern_position};
+use format::pattern::Pattern;
+use std::marker::Model;
 
 // The number of nodes that hold the given position.
-pub fn holders(b: &[u8], at: usize, position: usize) -> usize
-    requires { WholeSection pattern_width b.now at }
-    ensures { result ≡ holders_of (pattern_at b.now at) position }
+pub fn holders(p: &Pattern, position: usize) -> usize
+    ensures { result ≡ holders_of p.now position }
 {
-    let n = pattern_count(b, at);
-    let mut k: usize = 0;
-    for q in 0..n {
-        let p = pattern_position(b, at, PatternNode(q));
-        if p == position {
-            k += 1;
-        }
-    }
-    k
+    (0..p.count())
+        .filter(|q| p.position(PatternNode(*q)) == position)
+        .count()
 }
 
 // The positions below 64 that are held, and those that are held more than once, as masks; and how many nodes hold one at all.
@@ -36,91 +28,89 @@ pub struct Seen {
     pub count: usize,
 }
 
-// One more where the position is one.
-fn count_in(count: usize, p: usize) -> usize
-    requires { count < 65536 }
-    ensures { result ≡ count + one_if (ltb 0 p) }
-{
-    if 0 < p { count + 1 } else { count }
-}
-
-// One more node, with position p or, by 0, none.
-fn see(h: Seen, p: usize) -> Seen
-    requires { h.count < 65536 }
-    ensures { Sees h p result }
-{
-    let count = count_in(h.count, p);
-    if 63 < p {
-        return Seen {
-            once: h.once,
-            twice: h.twice,
+impl Seen {
+    // One more node, with that position or, by 0, none.
+    fn with(self, position: usize) -> Seen
+        requires { self.count < 65536 }
+        ensures { Sees self position result }
+    {
+        let count = self.count + usize::from(0 < position);
+        if 63 < position {
+            return Seen { count, ..self };
+        }
+        Seen {
+            once: self.once.insert(position),
+            twice: self.twice.insert_if(position, self.once.has(position)),
             count,
-        };
-    }
-    Seen {
-        once: insert64(h.once, p),
-        twice: insert_if64(h.twice, p, has64(h.once, p)),
-        count,
-    }
-}
-
-// What the pattern's nodes hold, in one pass.
-pub fn positions_seen(b: &[u8], at: usize) -> Seen
-    requires { WholeSection pattern_width b.now at }
-    ensures { SeenIn (pattern_at b.now at) result × (result.count < 65536) }
-{
-    let n = pattern_count(b, at);
-    let mut h = Seen {
-        once: 0,
-        twice: 0,
-        count: 0,
-    };
-    for q in 0..n {
-        h = see(h, pattern_position(b, at, PatternNode(q)));
-    }
-    h
-}
-
-// Position p is held by one node. Question 7 lets no position pass that the masks have no room for; such a one is counted.
-fn held_once(b: &[u8], at: usize, h: Seen, p: usize) -> bool
-    requires { WholeSection pattern_width b.now at × SeenIn (pattern_at b.now at) h }
-    ensures { result ≡ held_once (pattern_at b.now at) p }
-{
-    if 63 < p {
-        return holders(b, at, p) == 1;
-    }
-    if has64(h.twice, p) {
-        return false;
-    }
-    has64(h.once, p)
-}
-
-// The pattern, whose nodes hold what is told, has the positions 1 to its own k once each, k at least 1.
-pub fn positions_once(b: &[u8], at: usize, h: Seen) -> bool
-    requires { WholeSection pattern_width b.now at × SeenIn (pattern_at b.now at) h × (h.count < 65536) }
-    ensures { result ≡ positions_once (pattern_at b.now at) }
-{
-    let k = h.count;
-    if k < 1 {
-        return false;
-    }
-    let end = k + 1;
-    for p in 1..end {
-        if !held_once(b, at, h, p) {
-            return false;
         }
     }
-    true
+}
+
+// A pattern with what its nodes hold.
+#[derive(Drop)]
+pub struct Held<'a> {
+    pattern: &'a Pattern<'a>,
+    seen: Seen,
+}
+
+impl<'a> Model for Held<'a> {
+    ghost use Rattle.std.specs.Prelude.{◌<◌};
+    ghost use Rattle.model.specs.Pattern.{Pattern};
+    ghost use Rattle.questions.specs.Seen.{SeenIn};
+
+    ghost Value = { Pattern };
+
+    ghost view = { λ h. h.pattern.now };
+
+    ghost invariant = { λ h. SeenIn h.pattern.now h.seen × (h.seen.count < 65536) };
+}
+
+impl<'a> Held<'a> {
+    // What the nodes hold, by one pass over them.
+    pub fn by(pattern: &'a Pattern<'a>) -> Held<'a>
+        ensures { result ≡ pattern.now }
+    {
+        let mut seen = Seen {
+            once: 0,
+            twice: 0,
+            count: 0,
+        };
+        for q in 0..pattern.count() {
+            seen = seen.with(pattern.position(PatternNode(q)));
+        }
+        Held { pattern, seen }
+    }
+
+    // k, the number of nodes that hold a position.
+    pub fn count(&self) -> usize
+        ensures { (result ≡ arity_of self.now) × (result < 65536) }
+    {
+        self.seen.count
+    }
+
+    // That position is held by one node. Question 7 lets no position pass that the masks have no room for; such a one is counted.
+    fn is_once(&self, position: usize) -> bool
+        ensures { result ≡ held_once self.now position }
+    {
+        if 63 < position {
+            return holders(self.pattern, position) == 1;
+        }
+        self.seen.once.has(position) && !self.seen.twice.has(position)
+    }
+
+    // The pattern has the positions 1 to its own k once each, k at least 1.
+    pub fn each_once(&self) -> bool
+        ensures { result ≡ positions_once self.now }
+    {
+        let k = self.seen.count;
+        1 <= k && (1..k + 1).all(|position| self.is_once(position))
+    }
 }
 
 // The pattern has the positions 1 to k once each, k at least 1.
-pub fn positions_to(b: &[u8], at: usize, k: usize) -> bool
-    requires { WholeSection pattern_width b.now at }
-    ensures { result ≡ (positions_once (pattern_at b.now at) && eqb k (arity_of (pattern_at b.now at))) }
+pub fn positions_to(p: &Pattern, k: usize) -> bool
+    ensures { result ≡ (positions_once p.now && eqb k (arity_of p.now)) }
 {
-    let h = positions_seen(b, at);
-    if k != h.count {
-        return false;
-    }
-    positions_once(b, at, h)
+    let held = Held::by(p);
+    held.count() == k && held.each_once()
 }

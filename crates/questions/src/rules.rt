@@ -25,10 +25,7 @@ pub fn parent_rule(i: usize, parent: usize) -> bool
 pub fn flag_rule(i: usize, flag: usize) -> bool
     ensures { result ≡ flag_rule i flag }
 {
-    if 1 < flag {
-        return false;
-    }
-    if 0 < i { true } else { flag == 0 }
+    flag <= 1 && (0 < i || flag == 0)
 }
 
 // The rule for figures, of patterns and of documents: at most 2,000.

@@ -1,7 +1,7 @@
 -- Question 13 by the test of each image: a list is among the placements exactly when it is an embedding (model's theorem), and an
 -- embedding is tested node by node. Assumes nothing.
 use Prim.Native.Nat.{ℕ, zero, suc, ◌/◌, ◌%◌, ◌≤◌, ◌<◌}
-use mathlib.Core.Path.{◌≡◌, refl, sym, ap, ◌∙◌, subst, subst⁻¹}
+use mathlib.Core.Path.{◌≡◌, refl, sym, ap, ap₂, ◌∙◌, subst, subst⁻¹}
 use mathlib.Core.Bool.{Bool, true, false, ◌&&◌}
 use mathlib.Core.Logic.{◌⊎◌, inl, inr}
 use mathlib.Core.List.{List, Memᴰ}
@@ -15,18 +15,15 @@ use Rattle.model.specs.Tree.{IsTree, Document, parent_of, Child, Below, once, do
 use Rattle.model.specs.Summary.{Summary, as_document, summary_parent, summary_label}
 use Rattle.model.specs.Pattern.{Pattern, no_pattern_record, IsPatternTree, pattern_parent, pattern_label, descends, label_fits, Embeds}
 use Rattle.model.specs.Embeddings.{below_test, climbs, edge_test, image_in, summary_embeddings}
-use Rattle.model.specs.Bytes.{case_of, list_of, is_whole_list}
-use Rattle.model.specs.Questions.{pattern_given, is_summary_embedding, selected, refusal, case_questions}
+use Rattle.model.specs.Bytes.{Case, list_of, is_whole_list}
+use Rattle.model.specs.Facts.{CaseFacts}
+use Rattle.model.specs.Questions.{pattern_given, is_summary_embedding, selected}
+use Rattle.model.proofs.CaseFacts.{selected-facts}
 use Rattle.model.proofs.ListLaws.{bool-ext, and_intro, and_left, and_right, any-intro, any-elim, all-below, below_all, same-eq, same_refl}
 use Rattle.model.proofs.TreeLaws.{length-as_document, test_below, below-test, below-cases, test-edge, edge_test_lem}
 use Rattle.model.proofs.Embeddings.{embeddings-sound, embeddings-complete-list}
-use Rattle.format.specs.Given.{summary_in, pattern_at}
-use Rattle.format.proofs.GivenLaws.{given-summary}
 use Rattle.format.proofs.ListLaws.{list_count}
-use Rattle.refusals.specs.Numbered.{numbered_at}
-use Rattle.refusals.specs.Images.{image_reached, image_kept, image_kept_in, Images}
-use Rattle.refusals.proofs.NumberedLaws.{numbered-pattern}
-use Rattle.refusals.proofs.AcceptedLaws.{accepted, given-numbered}
+use Rattle.refusals.specs.Images.{image_reached, image_kept, ImagesGiven}
 
 module _ (S : Summary) (P : Pattern) (es : List ℕ) where
   abbrev tests : Bool
@@ -177,42 +174,38 @@ module _ (S : Summary) (P : Pattern) (es : List ℕ) (q v : ℕ) where
 pub label_at : (S : Summary) (m v w : ℕ) → m ≡ summary_label S v → v ≡ w → m ≡ summary_label S w
 label_at S m v w e f = e ∙ ap (summary_label S) f
 
--- a number that was read is below a count
-pub moved-below : (x y n : ℕ) → x ≡ y → y < n → x < n
-moved-below x y n e h = omega arith
+module _ (S : Summary) (P : Pattern) (es : List ℕ) (i : ImagesGiven S P es) (q : ℕ) (h : q < length P) where
+  pub image_inside : q < length es
+  image_inside = let count : length es ≡ length P = i.count in omega arith
 
-pub read_below : (v x n count : ℕ) → v ≡ x → count ≡ n → v < count → x < n
-read_below v x n count e f h = omega arith
-
-pub images-inside : (b : List ℕ) (at : ℕ) (l : List ℕ) (q : ℕ) → Images b at l → q < length (pattern_at b at) → q < length (list_of l)
-images-inside b at l q i h = let count : length (list_of l) ≡ length (pattern_at b at) = i.count in omega arith
-
--- a node's parent has an image too
-pub parent-imaged : (b : List ℕ) (at : ℕ) (l : List ℕ) (q p : ℕ) → Images b at l → q < length (pattern_at b at) → (q ≡ 0 → ⊥) → p ≡ pattern_parent (pattern_at b at) q
-    → p < length (list_of l)
-parent-imaged b at l q p i h n e =
-    let low : pattern_parent (pattern_at b at) q < q = i.pattern.tree.earlier q (omega arith) h in
-    let count : length (list_of l) ≡ length (pattern_at b at) = i.count in
-    omega arith
+  -- a node's parent has an image too
+  pub parent_inside : (q ≡ 0 → ⊥) → (p : ℕ) → p ≡ pattern_parent P q → p < length P
+  parent_inside n p e = let low : pattern_parent P q < q = i.pattern.tree.earlier q (omega arith) h in omega arith
 
 -- ---- the question
 
-module _ (b : List ℕ) (s at : ℕ) (l : List ℕ) (accepts : refusal (case_questions b) ≡ 0) (g : pattern_given (case_of b) s ≡ true) (p : at ≡ numbered_at b s) where
-  pub images-given : (n : ℕ) → n ≡ length (pattern_at b at) → length l / 2 ≡ n → Images b at l
-  images-given n e half =
-      record { summary = given-summary (accepted b accepts); pattern = given-numbered (accepted b accepts) s g p; count = list_count l ∙ half ∙ e }
+module _ (c : Case) (s : ℕ) (l : List ℕ) (f : CaseFacts c) (g : pattern_given c s ≡ true) where
+  pub images_given : length l / 2 ≡ length (selected c s) → ImagesGiven c.summary (selected c s) (list_of l)
+  images_given half =
+      record {
+        summary = record { tree = f.summary.tree; few = f.summary_size };
+        pattern = record { tree = (selected-facts c s f g).pattern.tree; few = (selected-facts c s f g).size };
+        count = list_count l ∙ half;
+      }
 
   -- 13, by the fields
-  pub embedding-asked : (r : Bool) → r ≡ (eqb (length l % 2) 0 && (eqb (length l / 2) (length (pattern_at b at)) && all_of (image_kept_in b at l) (up_from 0 (length (pattern_at b at)))))
-      → r ≡ is_summary_embedding (case_of b) s l
+  pub embedding_asked : (r : Bool) → r ≡ (eqb (length l % 2) 0 && (eqb (length l / 2) (length (selected c s)) && all_of (image_kept c.summary (selected c s) (list_of l)) (up_from 0 (length (selected c s)))))
+      → r ≡ is_summary_embedding c s l
   unfolding is_summary_embedding is_whole_list
-  embedding-asked r e =
-      let S : Summary = summary_in b in
-      let P : Pattern = pattern_at b at in
-      let listed = listed-by-tests S P (list_of l) (given-numbered (accepted b accepts) s g p).tree (given-summary (accepted b accepts)).tree in
-      let same : any_of (same_list (list_of l)) (summary_embeddings S (selected (case_of b) s)) ≡ any_of (same_list (list_of l)) (summary_embeddings S P) =
-      ap (λ (Q : Pattern). any_of (same_list (list_of l)) (summary_embeddings S Q)) (numbered-pattern b s at g p) in
-      let counts = ap (λ (m : ℕ). eqb m (length P) && all_of (image_kept S P (list_of l)) (up_from 0 (length P))) (list_count l) in
-      e ∙ sym (ap (λ (t : Bool). eqb (length l % 2) 0 && t) (same ∙ listed ∙ counts))
+  embedding_asked r e =
+      let listed = listed-by-tests c.summary (selected c s) (list_of l) (selected-facts c s f g).pattern.tree f.summary.tree in
+      let counts = ap (λ (m : ℕ). eqb m (length (selected c s)) && all_of (image_kept c.summary (selected c s) (list_of l)) (up_from 0 (length (selected c s)))) (list_count l) in
+      e ∙ sym (ap (λ (t : Bool). eqb (length l % 2) 0 && t) (listed ∙ counts))
 
-pub ruleset imaged = (rules, reached-root, reached-other, label_at, moved-below, read_below, images-inside, parent-imaged)
+  -- by the values that were read
+  pub kept_by_images : (S : Summary) (P : Pattern) (r : Bool) → S ≡ c.summary → P ≡ selected c s → length l % 2 ≡ 0 → length l / 2 ≡ length (selected c s)
+      → r ≡ all_of (image_kept S P (list_of l)) (up_from 0 (length P)) → r ≡ is_summary_embedding c s l
+  kept_by_images S P r p q even half e =
+      embedding_asked r
+      (rw (eq-eqb (length l % 2) 0 even, eq-eqb (length l / 2) (length (selected c s)) half)
+      (e ∙ ap₂ (λ (S : Summary) (P : Pattern). all_of (image_kept S P (list_of l)) (up_from 0 (length P))) p q))

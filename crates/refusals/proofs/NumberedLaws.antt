@@ -10,12 +10,12 @@ use borrow.Author.Tests.{ne_eqb, eq-eqb, eqb-false}
 use Rattle.model.specs.Limits.{pattern_width}
 use Rattle.model.specs.Pattern.{Pattern, arity}
 use Rattle.model.specs.Bytes.{Case, first_at, set_at, member_at, set_of, case_of, WholeSection, is_whole_case}
-use Rattle.model.specs.Questions.{pattern_given, position_given, between, selected}
+use Rattle.model.specs.Questions.{pattern_given, selected}
 use Rattle.model.proofs.Bytes.{whole-case}
 use Rattle.model.proofs.CaseFacts.{between-facts}
 use Rattle.format.specs.Given.{pattern_at}
 use Rattle.format.proofs.SectionLaws.{set_below, set-member}
-use Rattle.questions.proofs.TestLaws.{said-yes, and-no-left}
+use Rattle.questions.proofs.TestLaws.{said-yes}
 use Rattle.questions.proofs.SectionLaws.{first-pattern, set-members, sections}
 use Rattle.refusals.specs.Numbered.{numbered_at}
 
@@ -29,6 +29,15 @@ numbered-member b s on at p e n = rw (ne_eqb s 1 n, numbered_at) (e ∙ ap (λ (
 -- a number that was answered to give a pattern does; where that is not the first, it is a member
 pub number-told : (answer : Bool) (b : List ℕ) (s : ℕ) → answer ≡ pattern_given (case_of b) s → not answer ≡ false → pattern_given (case_of b) s ≡ true
 number-told answer b s e t = said-yes answer (pattern_given (case_of b) s) e t
+
+module _ (c : Case) (s : ℕ) (g : pattern_given c s ≡ true) (n : s ≡ 1 → ⊥) where
+  pub number_least : 2 ≤ s
+  unfolding pattern_given
+  number_least = let r = between-facts 1 (length c.members + 1) s g in omega arith
+
+  pub number_inside : s - 2 < length c.members
+  unfolding pattern_given
+  number_inside = let r = between-facts 1 (length c.members + 1) s g in omega arith
 
 pub number-least : (b : List ℕ) (s : ℕ) → pattern_given (case_of b) s ≡ true → (s ≡ 1 → ⊥) → 2 ≤ s
 unfolding pattern_given
@@ -65,17 +74,3 @@ numbered-section b s at w g e =
     (λ i h. ((whole-case b).0 w).members.sections i (set_below b (set_at b) i h)))
 
 pub ruleset numbered = (sections, numbered-section, numbered-first, numbered-member, number-told, number-least, number-below)
-
--- 12 by the set's count, and by the pattern that the number gives
-pub number-asked : (b : List ℕ) (on n s : ℕ) (r : Bool) → on ≡ set_at b → n ≡ length (set_of b on) → r ≡ between 1 (n + 1) s → r ≡ pattern_given (case_of b) s
-unfolding pattern_given
-number-asked b on n s r p q e = rw (set-members b on p, ← q) e
-
-pub position-no : (c : Case) (s p : ℕ) → false ≡ pattern_given c s → false ≡ position_given c s p
-unfolding position_given
-position-no c s p e = and-no-left (pattern_given c s) (between 1 (arity (selected c s)) p) e
-
-pub position-asked : (b : List ℕ) (s at p : ℕ) (r : Bool) → pattern_given (case_of b) s ≡ true → at ≡ numbered_at b s → r ≡ between 1 (arity (pattern_at b at)) p
-    → r ≡ position_given (case_of b) s p
-unfolding position_given
-position-asked b s at p r g e a = rw (g, numbered-pattern b s at g e) a

@@ -1,3 +1,3 @@
-pub mod Numbered
 pub mod Images
+pub mod Numbered
 pub mod Records

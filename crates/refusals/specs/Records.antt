@@ -1,14 +1,10 @@
--- 10, where a document is whole and its count in range, and 17 right after it.
-use Rattle.std.specs.Prelude.{ℕ, List, length}
+-- What question 10 asks of a document's records, where its bytes are whole.
+use Rattle.std.specs.Prelude.{Bool, ◌&&◌, length}
+use Rattle.model.specs.Limits.{max_document}
 use Rattle.model.specs.Lists.{up_from, all_of}
-use Rattle.model.specs.Tree.{Document, figure_of}
-use Rattle.model.specs.Questions.{Question, document_record_kept, figure_in_range, document_figures}
-use Rattle.questions.specs.Members.{two_questions}
+use Rattle.model.specs.Tree.{Document}
+use Rattle.model.specs.Questions.{between, document_record_kept}
 
--- of record i
-abbrev pub record_questions : Document → ℕ → List Question
-record_questions W i = two_questions 10 (document_record_kept W i) (figure_in_range (figure_of W i))
-
--- of all records
-abbrev pub records_questions : Document → List Question
-records_questions W = two_questions 10 (all_of (document_record_kept W) (up_from 0 (length W))) (document_figures W)
+-- there are 1 to 1,024, and each keeps the rules
+abbrev pub records_kept : Document → Bool
+records_kept W = between 1 max_document (length W) && all_of (document_record_kept W) (up_from 0 (length W))

@@ -33,18 +33,13 @@ first-strikable {b} {present} A small l f =
       limited = l;
     }
 
-module _ {s : Struck} {present struck : List ℕ} {r : Strikes} (t : StruckBy s present struck r) where
-  -- no more are struck than the table has places
-  pub few-struck : r.count ≤ 16
-  few-struck =
-      let n : length (take r.count struck) ≡ r.count = ap length t.numbers ∙ sym t.count in
-      omega (arith, t.sizes.1, length-take r.count struck)
-
-pub struck-told : {c : Case} {limit : ℕ} {P : Pattern} {before after present struck : List ℕ} {r : Strikes} → P ≡ c.first → StruckBy (strike_all c.summary limit P) present struck r
-    → after ≡ written_at_front (encode_pattern (pattern_at present 0) ++ encode_counted (take r.count struck)) before → Told c limit before after (record { refused = 0; struck = r.count; tried = r.tried })
-struck-told {c} {limit} {P} {before} {after} {present} {struck} {r} e t w =
-    let u : StruckBy (strike_all c.summary limit c.first) present struck r = subst (λ (Q : Pattern). StruckBy (strike_all c.summary limit Q) present struck r) e t in
+pub struck-told : {c : Case} {limit : ℕ} {P : Pattern} {before after present struck : List ℕ} {r : Strikes} → P ≡ c.first → StruckBy (strike_all c.summary limit P) present r → struck ≡ r.struck
+    → after ≡ written_at_front (encode_pattern (pattern_at present 0) ++ encode_counted struck) before → Told c limit before after (record { struck = length struck; tried = r.tried })
+struck-told {c} {limit} {P} {before} {after} {present} {struck} {r} e t f w =
+    let u : StruckBy (strike_all c.summary limit c.first) present r = subst (λ (Q : Pattern). StruckBy (strike_all c.summary limit Q) present r) e t in
+    let numbers : struck ≡ (strike_all c.summary limit c.first).struck = f ∙ u.struck in
     record {
-      answer = λ i. record { refused = 0; struck = u.count i; tried = u.tried i };
-      buffer = w ∙ ap₂ (λ (Q : Pattern) (ns : List ℕ). written_at_front (encode_pattern Q ++ encode_counted ns) before) u.pattern u.numbers;
+      struck = ap length numbers;
+      tried = u.tried;
+      buffer = w ∙ ap₂ (λ (Q : Pattern) (ns : List ℕ). written_at_front (encode_pattern Q ++ encode_counted ns) before) u.pattern numbers;
     }

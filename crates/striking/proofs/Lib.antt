@@ -1,4 +1,5 @@
 pub mod NumberLaws
+pub mod NumbersLaws
 pub mod RecordLaws
 pub mod WriteWithout
 pub mod SectionBytes

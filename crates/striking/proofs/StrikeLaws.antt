@@ -4,11 +4,12 @@ use Prim.Native.Nat.{ℕ, suc, ◌+◌, ◌-◌, ◌*◌, ◌≤◌, ◌<◌}
 use mathlib.Core.Path.{◌≡◌, refl, sym, ap, ◌∙◌, subst}
 use mathlib.Core.Bool.{true}
 use mathlib.Core.Option.{Option, none, some}
+use Rattle.std.specs.Prelude.{Some, None}
 use mathlib.Core.List.{List, [], ◌∷◌, ◌++◌, map, append_assoc, append-nil}
 use native.Mathlib.Omega.{arith}
 use native.Mathlib.Nat.{zero-add}
 use native.Mathlib.Numerals.{add-one}
-use lib.ListN.{length, get_or, take, set, replicate, length-set}
+use lib.ListN.{length, get_or, replicate, length-append}
 use lib.Seq.{sets, length-sets, length-take-le, take-suc-set}
 use Rattle.model.specs.Limits.{max_limit, max_pattern, pattern_width}
 use Rattle.model.specs.Lists.{up_from, total}
@@ -20,11 +21,10 @@ use Rattle.model.specs.Striking.{removed, raised, without, may_go, may_go_of, ve
 use Rattle.model.proofs.ListLaws.{length-keep, length-up_from, get_or-up_from}
 use Rattle.model.proofs.Bytes.{Holds, pattern-readable, length-section}
 use Rattle.model.proofs.Verdict.{verdict-tried}
-use Rattle.model.proofs.Removing.{get_or-removed, length_without, not_root_lem, without-carries}
+use Rattle.model.proofs.Removing.{length_removed, length_without, not_root_lem, without-carries}
 use Rattle.model.proofs.Rounds.{total-append, RoundFacts, round-facts, each-limited}
 use Rattle.model.proofs.Striking.{leaf-may, facts-without}
 use Rattle.format.specs.Given.{summary_in, pattern_at}
-use Rattle.judging.proofs.TableSets.{table-entry}
 use Rattle.striking.specs.Present.{Strikable}
 use Rattle.striking.specs.Rounds.{leaf_of, round_of}
 use Rattle.striking.specs.Strikes.{StruckBy}
@@ -46,20 +46,19 @@ module _ (S : Summary) (L : ℕ) (P : Pattern) where
   struck-may : (q : ℕ) → r.struck ≡ some q → (q < length P) × (may_go P q ≡ true)
   struck-may q e = leaf-may P q (held.strikes q e).0
 
-  -- leaf 0 says that none is struck, since the root stays
-  leaf-none : leaf_of r.struck ≡ 0 → r.struck ≡ none
+  leaf-none : leaf_of r.struck ≡ None → r.struck ≡ none
   leaf-none z = go r.struck refl z
     where
-      go : (o : Option ℕ) → r.struck ≡ o → leaf_of o ≡ 0 → r.struck ≡ none
+      go : (o : Option ℕ) → r.struck ≡ o → leaf_of o ≡ None → r.struck ≡ none
       go none e k = e
-      go (some q) e k = let m = struck-may q e in absurd (let n = not_root_lem P q m.0 m.1 in omega arith)
+      go (some q) e k = absurd (cc k)
 
-  leaf-some : (leaf_of r.struck ≡ 0 → ⊥) → r.struck ≡ some (leaf_of r.struck)
-  leaf-some f = go r.struck refl f
+  leaf-some : {q : ℕ} → leaf_of r.struck ≡ Some q → r.struck ≡ some q
+  leaf-some {q} z = go r.struck refl z
     where
-      go : (o : Option ℕ) → r.struck ≡ o → (leaf_of o ≡ 0 → ⊥) → r.struck ≡ some (leaf_of r.struck)
-      go none e k = absurd (k refl)
-      go (some q) e k = e ∙ ap (λ (o : Option ℕ). some (leaf_of o)) (sym e)
+      go : (o : Option ℕ) → r.struck ≡ o → leaf_of o ≡ Some q → r.struck ≡ some q
+      go none e k = absurd (cc k)
+      go (some p) e k = let same : p ≡ q = cc k in e ∙ ap (λ (x : ℕ). some x) same
 
   few-leaves : length (may_go_of P) ≤ length P
   few-leaves = let l = length-keep (may_go P) (up_from 0 (length P)) in let n = length-up_from 0 (length P) in omega arith
@@ -126,70 +125,63 @@ stored-held Q few fit {b} e =
 
 -- ---- the turns
 
--- before turn k, of the pattern P₀ at first: the present pattern and the two tables
-pub record Striking (case : List ℕ) (L : ℕ) (P₀ : Pattern) (present struck names : List ℕ) (tried k : ℕ) : Type 0 where
-  pub own : List ℕ
-  pub ahead : Ahead (summary_in case) L (strike_all (summary_in case) L P₀) (pattern_at present 0) own (take k struck) tried
-  pub named : (i : ℕ) → i < length (pattern_at present 0) → get_or names i 0 ≡ get_or own i 0
+-- before turn k, of the pattern P₀ at first: the present pattern, its nodes' names and the numbers struck
+pub record Striking (case : List ℕ) (L : ℕ) (P₀ : Pattern) (present names struck : List ℕ) (tried k : ℕ) : Type 0 where
+  pub ahead : Ahead (summary_in case) L (strike_all (summary_in case) L P₀) (pattern_at present 0) names struck tried
+  pub named : length names ≡ length (pattern_at present 0)
+  pub count : length struck ≡ k
   pub stands : Strikable case present L
   pub turns : length (pattern_at present 0) + k ≡ length P₀
   pub few : length P₀ ≤ max_pattern
-  pub sizes : (length present ≡ 162) × (length struck ≡ 16)
+  pub size : length present ≡ 162
   pub bound : tried ≤ k * most_tried
 
-pub striking-start : {case present struck names : List ℕ} {L : ℕ} → Strikable case present L → (length present ≡ 162) × (length struck ≡ 16) → names ≡ up_from 0 16
-    → Striking case L (pattern_at present 0) present struck names 0 0
-striking-start {case} {present} {struck} {names} {L} s sizes e =
-    let few = s.pattern.few in
+pub striking-start : {case present names struck : List ℕ} {L : ℕ} → Strikable case present L → length present ≡ 162 → names ≡ up_from 0 (length (pattern_at present 0)) → struck ≡ []
+    → Striking case L (pattern_at present 0) present names struck 0 0
+striking-start {case} {present} {names} {struck} {L} s size e z =
     record {
-      own = up_from 0 (length (pattern_at present 0));
-      ahead = ahead-start (summary_in case) L (pattern_at present 0);
-      named = λ i h. ap (λ (l : List ℕ). get_or l i 0) e ∙ get_or-up_from 0 16 i 0 (omega arith) ∙ sym (get_or-up_from 0 (length (pattern_at present 0)) i 0 h);
+      ahead =
+          subst (λ (xs : List ℕ). Ahead (summary_in case) L (strike_all (summary_in case) L (pattern_at present 0)) (pattern_at present 0) names xs 0) (sym z)
+          (subst (λ (own : List ℕ). Ahead (summary_in case) L (strike_all (summary_in case) L (pattern_at present 0)) (pattern_at present 0) own [] 0) (sym e)
+          (ahead-start (summary_in case) L (pattern_at present 0)));
+      named = ap length e ∙ length-up_from 0 (length (pattern_at present 0));
+      count = ap length z;
       stands = s;
       turns = omega arith;
-      few = few;
-      sizes = sizes;
+      few = s.pattern.few;
+      size = size;
       bound = omega arith;
     }
 
-module _ {case : List ℕ} {L : ℕ} {P₀ : Pattern} {present struck names : List ℕ} {tried k : ℕ} (v : Striking case L P₀ present struck names tried k) where
+module _ {case : List ℕ} {L : ℕ} {P₀ : Pattern} {present names struck : List ℕ} {tried k : ℕ} (v : Striking case L P₀ present names struck tried k) where
   abbrev S : Summary
   S = summary_in case
 
   abbrev P : Pattern
   P = pattern_at present 0
 
-  -- the root is there at every turn, so fewer turns than nodes are made
-  pub turns-left : k < length P₀
-  turns-left = let i = v.stands.facts.tree.inhabited in let t = v.turns in omega arith
-
-  -- and there is a place for one more number
-  pub place-left : k < length struck
-  place-left = let t = turns-left in let f = v.few in let p = v.sizes.1 in omega arith
+  -- the root is there at every turn, so fewer turns than nodes are made, and there is a place for one more number
+  pub turns-left : (k < length P₀) × (length struck < 16)
+  turns-left = let i = v.stands.facts.tree.inhabited in let t = v.turns in let f = v.few in let c = v.count in (omega arith, omega arith)
 
   module _ {x : Rounded} (e : x ≡ round_of S L P) where
     pub tried-bound : x.tried ≤ most_tried
     tried-bound = subst (λ (n : ℕ). n ≤ most_tried) (ap (λ (y : Rounded). y.tried) (sym e)) (round-bound S L P v.stands.limited v.stands.pattern.few)
 
-    pub striking-end : x.leaf ≡ 0 → StruckBy (strike_all S L P₀) present struck (record { count = k; tried = tried + x.tried })
+    pub striking-end : x.leaf ≡ None → StruckBy (strike_all S L P₀) present (record { struck = struck; tried = tried + x.tried })
     striking-end z =
         let a = ahead-end S L v.ahead v.stands.facts.tree.inhabited (leaf-none S L P (ap (λ (y : Rounded). y.leaf) (sym e) ∙ z)) in
-        let c : length (take k struck) ≡ k = length-take-le k struck (let p = place-left in omega arith) in
         record {
           stands = v.stands.pattern;
           pattern = sym a.0;
-          count = sym (ap length a.1 ∙ c);
-          numbers = sym a.1;
+          struck = sym a.1;
           tried = ap (λ (y : Rounded). tried + y.tried) e ∙ sym a.2;
-          sizes = v.sizes;
+          size = v.size;
         }
 
-    module _ (f : x.leaf ≡ 0 → ⊥) where
-      abbrev q : ℕ
-      q = x.leaf
-
+    module _ {q : ℕ} (f : x.leaf ≡ Some q) where
       hit : (r S L P).struck ≡ some q
-      hit = leaf-some S L P (λ z. f (ap (λ (y : Rounded). y.leaf) e ∙ z)) ∙ ap (λ (y : Rounded). some y.leaf) (sym e)
+      hit = leaf-some S L P (ap (λ (y : Rounded). y.leaf) (sym e) ∙ f)
 
       pub leaf-inside : q < length P
       leaf-inside = (struck-may S L P q hit).0
@@ -197,22 +189,14 @@ module _ {case : List ℕ} {L : ℕ} {P₀ : Pattern} {present struck names : Li
       may : may_go P q ≡ true
       may = (struck-may S L P q hit).1
 
+      pub named-inside : q < length names
+      named-inside = let n = v.named in let l = leaf-inside in omega arith
+
       shorter : suc (length (without P q)) ≡ length P
       shorter = length_without P q leaf-inside
 
       few-left : length (without P q) < max_pattern
       few-left = let s = shorter in let n = v.stands.pattern.few in omega arith
-
-      named-after : {names' : List ℕ} → names' ≡ written_at_front (map (λ i. get_or names (raised q i) 0) (up_from 0 15)) (replicate 16 0)
-          → (i : ℕ) → i < length (without P q) → get_or names' i 0 ≡ get_or (removed q v.own) i 0
-      named-after d i h =
-          ap (λ (l : List ℕ). get_or l i 0) d ∙ table-entry (λ j. get_or names (raised q j) 0) 15 16 i (let n = few-left in omega arith)
-          ∙ v.named (raised q i) ((without-carries P q leaf-inside may).inside i h) ∙ sym (get_or-removed q v.own i 0)
-
-      taken : take (k + 1) (set struck k (get_or names q 0)) ≡ take k struck ++ get_or v.own q 0 ∷ []
-      taken =
-          ap (λ (j : ℕ). take j (set struck k (get_or names q 0))) (add-one k) ∙ take-suc-set struck k (get_or names q 0) place-left
-          ∙ ap (λ (y : ℕ). take k struck ++ y ∷ []) (v.named q leaf-inside)
 
       module _ {present' : List ℕ} (w : present' ≡ sets (replicate 162 0) 0 (encode_pattern (without P q))) where
         abbrev Q : Pattern
@@ -250,22 +234,24 @@ module _ {case : List ℕ} {L : ℕ} {P₀ : Pattern} {present struck names : Li
               limited = s.limited;
             }
 
-        ahead_after : Ahead S L (strike_all S L P₀) (pattern_at present' 0) (removed q v.own) (take (k + 1) (set struck k (get_or names q 0))) (tried + x.tried)
+        ahead_after : Ahead S L (strike_all S L P₀) (pattern_at present' 0) (removed q names) (struck ++ get_or names q 0 ∷ []) (tried + x.tried)
         ahead_after =
-            subst (λ (X : Pattern). Ahead S L (strike_all S L P₀) X (removed q v.own) (take (k + 1) (set struck k (get_or names q 0))) (tried + x.tried)) (sym same)
-            (subst (λ (l : List ℕ). Ahead S L (strike_all S L P₀) Q (removed q v.own) l (tried + x.tried)) (sym taken)
-            (subst (λ (y : Rounded). Ahead S L (strike_all S L P₀) Q (removed q v.own) (take k struck ++ get_or v.own q 0 ∷ []) (tried + y.tried)) (sym e) (ahead_step S L v.ahead hit)))
+            subst (λ (X : Pattern). Ahead S L (strike_all S L P₀) X (removed q names) (struck ++ get_or names q 0 ∷ []) (tried + x.tried)) (sym same)
+            (subst (λ (y : Rounded). Ahead S L (strike_all S L P₀) Q (removed q names) (struck ++ get_or names q 0 ∷ []) (tried + y.tried)) (sym e) (ahead_step S L v.ahead hit))
 
-        pub striking-step : {names' : List ℕ} → names' ≡ written_at_front (map (λ i. get_or names (raised q i) 0) (up_from 0 15)) (replicate 16 0)
-            → Striking case L P₀ present' (set struck k (get_or names q 0)) names' (tried + x.tried) (k + 1)
-        striking-step {names'} d =
+        pub striking-step : {names' struck' : List ℕ} {number : ℕ} → number ≡ get_or names q 0 → names' ≡ removed q names → struck' ≡ struck ++ number ∷ []
+            → Striking case L P₀ present' names' struck' (tried + x.tried) (k + 1)
+        striking-step {names'} {struck'} {number} d m u =
+            let put : struck' ≡ struck ++ get_or names q 0 ∷ [] = u ∙ ap (λ (n : ℕ). struck ++ n ∷ []) d in
             record {
-              own = removed q v.own;
-              ahead = ahead_after;
-              named = subst (λ (X : Pattern). (i : ℕ) → i < length X → get_or names' i 0 ≡ get_or (removed q v.own) i 0) (sym same) (named-after d);
+              ahead =
+                  subst (λ (ns : List ℕ). Ahead S L (strike_all S L P₀) (pattern_at present' 0) ns struck' (tried + x.tried)) (sym m)
+                  (subst (λ (xs : List ℕ). Ahead S L (strike_all S L P₀) (pattern_at present' 0) (removed q names) xs (tried + x.tried)) (sym put) ahead_after);
+              named = let a = ap length m in let b = length_removed q names named-inside in let l = ap length same in let s = shorter in let n = v.named in omega arith;
+              count = let a = ap length u in let l = length-append struck (number ∷ []) in let c = v.count in omega arith;
               stands = stands_after;
-              turns = let l = ap length same in let n = shorter in let t = v.turns in omega arith;
+              turns = let l = ap length same in let s = shorter in let t = v.turns in omega arith;
               few = v.few;
-              sizes = (long, length-set struck k (get_or names q 0) ∙ v.sizes.1);
+              size = long;
               bound = let b = tried-bound in let c = v.bound in omega arith;
             }

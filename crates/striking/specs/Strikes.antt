@@ -1,15 +1,14 @@
 -- What striking comes to, as the code leaves it.
-use Rattle.std.specs.Prelude.{ℕ, ◌≡◌, List, length, take}
+use Rattle.std.specs.Prelude.{ℕ, ◌≡◌, List, length}
 use Rattle.model.specs.Lists.{total}
 use Rattle.model.specs.Striking.{Struck}
 use Rattle.format.specs.Given.{pattern_at, PatternGiven}
 use Rattle.striking.specs.declared.strike.Strikes.{Strikes}
 
--- the shortened pattern at field 0 of `present`, and the struck numbers at the front of `struck`
-pub record StruckBy (s : Struck) (present struck : List ℕ) (r : Strikes) : Type 0 where
+-- the shortened pattern at field 0 of `present`, and the struck numbers
+pub record StruckBy (s : Struck) (present : List ℕ) (r : Strikes) : Type 0 where
   pub stands : PatternGiven present 0
   pub pattern : pattern_at present 0 ≡ s.pattern
-  pub count : r.count ≡ length s.struck
-  pub numbers : take r.count struck ≡ s.struck
+  pub struck : r.struck ≡ s.struck
   pub tried : r.tried ≡ total s.tried
-  pub sizes : (length present ≡ 162) × (length struck ≡ 16)
+  pub size : length present ≡ 162

@@ -2,11 +2,12 @@
 // questions refuse.
 #![tactic(auto)]
 
+mod numbers;
 mod round;
 mod shorten;
 mod strike;
 
-ghost use Rattle.std.specs.Prelude.{◌≡◌, ◌++◌, ◌≤◌, length, take};
+ghost use Rattle.std.specs.Prelude.{◌≡◌, ◌++◌, ◌≤◌, length};
 ghost use Rattle.model.specs.Limits.{max_limit, min_buffer};
 ghost use Rattle.model.specs.Bytes.{case_of, encode_pattern, encode_counted, written_at_front};
 ghost use Rattle.model.specs.Facts.{AcceptedCase};
@@ -19,16 +20,16 @@ use format::pattern::pattern_count;
 use format::sections::first_at;
 use format::write::{copy_fields, write_counted};
 use judging::rows::summary_rows;
-use refusals::minimise_refusal;
+use questions::numbers::Account;
+use questions::refusal::Refusal;
+use refusals::ask_minimise;
 use shorten::Section;
 use strike::strike;
 
-// The answer of the call: the refusal's number, or 0; how many leaves were struck; and the sum of tried over all verdicts made.
-#[repr(C)]
+// What striking comes to: how many leaves were struck, and the sum of tried over all verdicts made.
 #[derive(Clone, Copy)]
 pub struct Minimised {
-    pub refused: u64,
-    pub struck: u64,
+    pub struck: usize,
     pub tried: u64,
 }
 
@@ -44,16 +45,16 @@ fn first_section(case: &[u8]) -> Section
     present
 }
 
-// The section that stands in present, then a count k and the first k struck numbers, to the front of the answer buffer.
-fn write_order(present: &[u8], struck: &[u16], k: usize, answer: &mut [u8])
-    requires { PatternGiven present.now 0 × (k ≤ 16) × (16 ≤ length struck.now) × (min_buffer ≤ length answer.old) }
+// The section that stands in present, then the count of the struck numbers and these, to the front of the answer buffer.
+fn write_order(present: &[u8], struck: &[u16], answer: &mut [u8])
+    requires { PatternGiven present.now 0 × (length struck.now ≤ 16) × (min_buffer ≤ length answer.old) }
     ensures { answer.new
-        ≡ written_at_front (encode_pattern (pattern_at present.now 0) ++ encode_counted (take k struck.now)) answer.old }
+        ≡ written_at_front (encode_pattern (pattern_at present.now 0) ++ encode_counted struck.now) answer.old }
 {
     let n = 1 + PATTERN_WIDTH * pattern_count(present, 0);
     copy_fields(present, 0, n, answer, 0);
     let end = 2 * n;
-    write_counted(struck, k, &mut answer[end..]);
+    write_counted(struck, struck.len(), &mut answer[end..]);
 }
 
 // An accepted case, whose summary's rows are gathered once for all verdicts. Nothing is written before all is struck that may be.
@@ -63,12 +64,11 @@ fn accepted(case: &[u8], limit: u64, answer: &mut [u8]) -> Minimised
 {
     let rows = summary_rows(case);
     let mut present = first_section(case);
-    let mut struck = [0u16; 16];
-    let r = strike(case, &rows, &mut present, &mut struck, limit);
-    write_order(&present, &struck, r.count, answer);
+    let r = strike(case, &rows, &mut present, limit);
+    let struck = r.struck.as_slice();
+    write_order(&present, struck, answer);
     Minimised {
-        refused: 0,
-        struck: r.count as u64,
+        struck: struck.len(),
         tried: r.tried,
     }
 }
@@ -78,19 +78,11 @@ fn accepted(case: &[u8], limit: u64, answer: &mut [u8]) -> Minimised
 pub fn minimise_call(
     case: &[u8],
     limit: u64,
-    caller: u64,
-    tally: u64,
+    account: Account,
     answer: &mut [u8],
-) -> Minimised
-    ensures { MinimiseAnswered case.now limit caller tally answer.old (outcome_of tally result answer.new) }
+) -> Result<Minimised, Refusal>
+    ensures { MinimiseAnswered case.now limit account.caller account.tally answer.old (outcome_of account.tally result answer.new) }
 {
-    let refused = minimise_refusal(case, limit, caller, tally, answer.len());
-    if refused != 0 {
-        return Minimised {
-            refused,
-            struck: 0,
-            tried: 0,
-        };
-    }
-    accepted(case, limit, answer)
+    ask_minimise(case, limit, account, answer.len())?;
+    Ok(accepted(case, limit, answer))
 }

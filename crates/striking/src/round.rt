@@ -6,7 +6,7 @@ ghost use Rattle.format.specs.Given.{summary_in, pattern_at, PatternGiven};
 ghost use Rattle.judging.specs.Sets.{summary_rows};
 ghost use Rattle.containment.specs.Answer.{answer_of};
 ghost use Rattle.striking.specs.Present.{SetStands, Strikable};
-ghost use Rattle.striking.specs.Rounds.{turn_by, turn_in, round_of};
+ghost use Rattle.striking.specs.Rounds.{round_of};
 
 use crate::shorten::{may_go, write_without};
 use containment::Containment;
@@ -19,17 +19,10 @@ use judging::rows::SummaryRows;
 // Bytes for the patterns of a verdict: the set of one, its count in field 0, and after it the pattern without the leaf.
 pub type Work = [u8; 320];
 
-// Whether a leaf is struck, and how many were tried for it.
-#[derive(Clone, Copy)]
-pub struct Turned {
-    pub struck: bool,
-    pub tried: u64,
-}
-
-// The leaf that a round strikes, or 0: the root stays; and how many were tried in all.
+// What a round comes to: the leaf that it strikes, if any, and how many were tried in all.
 #[derive(Clone, Copy)]
 pub struct Rounded {
-    pub leaf: usize,
+    pub leaf: Option<usize>,
     pub tried: u64,
 }
 
@@ -65,63 +58,25 @@ fn verdict_without(
     verdict(case, rows, work, at, 0, &mut images, limit)
 }
 
-// Whether a verdict strikes: "included" does, the others keep; and its tried.
-fn turn_of(r: Containment) -> Turned
-    ensures { result ≡ turn_by r }
-{
-    match r {
-        Containment::Contained(tried) => Turned {
-            struck: true,
-            tried,
-        },
-        Containment::NotContained(tried) => Turned {
-            struck: false,
-            tried,
-        },
-        Containment::Stopped(tried) => Turned {
-            struck: false,
-            tried,
-        },
-    }
-}
-
-// The turn of node q: where it may go, its verdict decides; else nothing is tried for it.
-fn turn(
-    case: &[u8],
-    rows: &SummaryRows,
-    present: &[u8],
-    q: usize,
-    work: &mut Work,
-    limit: u64,
-) -> Turned
-    requires strikable { Strikable case.now present.now limit × (rows.now ≡ summary_rows (summary_in case.now)) }
-    requires set_stands { SetStands (pattern_at present.now 0) work.old × (q < length (pattern_at present.now 0)) }
-    ensures { (result ≡ turn_in (summary_in case.now) limit (pattern_at present.now 0) q)
-        × SetStands (pattern_at present.now 0) work.new }
-{
-    if !may_go(present, q) {
-        return Turned {
-            struck: false,
-            tried: 0,
-        };
-    }
-    turn_of(verdict_without(case, rows, present, q, work, limit))
-}
-
-// A round over the present pattern.
+// A round over the present pattern: each leaf that may go has its verdict. "Included" strikes it, the others keep it.
 pub fn round(case: &[u8], rows: &SummaryRows, present: &[u8], limit: u64) -> Rounded
     requires { Strikable case.now present.now limit × (rows.now ≡ summary_rows (summary_in case.now)) }
     ensures { result ≡ round_of (summary_in case.now) limit (pattern_at present.now 0) }
 {
     let mut work = set_of_one(present);
-    let n = pattern_count(present, 0);
-    let mut tried: u64 = 0;
-    for q in 0..n {
-        let t = turn(case, rows, present, q, &mut work, limit);
-        tried += t.tried;
-        if t.struck {
-            return Rounded { leaf: q, tried };
+    let mut tried = 0;
+    for q in 0..pattern_count(present, 0) {
+        if may_go(present, q) {
+            match verdict_without(case, rows, present, q, &mut work, limit) {
+                Containment::Contained(n) => {
+                    return Rounded {
+                        leaf: Some(q),
+                        tried: tried + n,
+                    };
+                }
+                Containment::NotContained(n) | Containment::Stopped(n) => tried += n,
+            }
         }
     }
-    Rounded { leaf: 0, tried }
+    Rounded { leaf: None, tried }
 }

@@ -4,26 +4,28 @@
 
 ghost use Rattle.std.specs.Prelude.{◌≡◌, ◌<◌, get_or};
 ghost use Rattle.model.specs.Strong.{strong_table};
-ghost use Rattle.format.specs.Given.{summary_in, SummaryGiven};
+ghost use Rattle.format.specs.Given.{SummaryKept};
 
-use bits::insert_if64;
+pub mod outline;
+
+use bits::Mask;
 use format::nodes::SummaryNode;
-use format::summary::{summary_count, summary_parent, summary_strong};
+use format::summary::Summary;
 
 // By summary node, the mask of its strong children: in ascending order they are in outline order.
 pub type Strong = [u64; 64];
 
 // Each summary node to which a strong edge leads puts itself into its parent's mask.
-pub fn strong_table(case: &[u8]) -> Strong
-    requires { SummaryGiven case.now }
-    ensures { result ≡ strong_table (summary_in case.now) }
+pub fn strong_table(summary: &Summary) -> Strong
+    requires { SummaryKept summary.now }
+    ensures { result ≡ strong_table summary.now }
 {
     let mut strong = [0u64; 64];
-    let n = summary_count(case);
+    let n = summary.count();
     for t in 1..n {
-        let s = summary_parent(case, SummaryNode(t)).0;
-        let is = summary_strong(case, SummaryNode(t)) == 1;
-        strong[s] = insert_if64(strong[s], t, is);
+        let s = summary.parent(SummaryNode(t)).0;
+        let is = summary.strong(SummaryNode(t)) == 1;
+        strong[s] = strong[s].insert_if(t, is);
     }
     strong
 }

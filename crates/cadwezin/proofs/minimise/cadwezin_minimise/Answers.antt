@@ -1,40 +1,24 @@
--- What `minimise_call` promises of the caller's tally by value carries over to the eight: the caller's own is raised by tried, which fits, and the
+-- What the call promises of the caller's tally by value carries over to the eight: the caller's own is raised by tried, which fits, and the
 -- others stay. Of a refused call nothing was tried, and they all stay.
-use Rattle.std.proofs.Common.{arith, ◌≡◌, ◌∙◌, ◌+◌, ◌<◌, ◌^◌, length}
-use Rattle.model.specs.Calls.{tally_of}
-use Rattle.cadwezin.proofs.TallyLaws.{none_read}
-use Rattle.cadwezin.proofs.MinimiseLaws.{raised-fits, accepted-known, charged-own, refused-own}
+use Rattle.std.proofs.Common.{arith, length, ◌≡◌, rules}
+use Rattle.std.proofs.lemmas.Result.{err_from_is_err_and}
+use Rattle.cadwezin.proofs.MinimiseLaws.{known, fits, charged-own, refused-own}
 use Rattle.cadwezin.proofs.minimise.cadwezin_minimise.Goals as goal
-use Rattle.cadwezin.proofs.minimise.cadwezin_minimise.Goals.{then-caller-lt8, else-caller-lt8}
 
-pub overflow_add-tallies : goal.overflow_add-tallies
-overflow_add-tallies c =
-    let fits : c.if-caller-lt8.tally < 2 ^ 64 = omega arith in
-    let raised : c.if-caller-lt8.tally + c.minimise_call-r.result.tried < 2 ^ 64 = raised-fits c.minimise_call-r.ensures fits in
-    omega arith
-
-pub offset_bounds-tallies-at-then-r-eq0 : goal.offset_bounds-tallies-at-then-r-eq0
-offset_bounds-tallies-at-then-r-eq0 c = let known : c.args.caller < 8 = accepted-known c.minimise_call-r.ensures c.if-r-eq0.true in omega arith
-
-pub bounds-tallies-at-then-r-eq0 : goal.bounds-tallies-at-then-r-eq0
-bounds-tallies-at-then-r-eq0 c = let known : c.args.caller < 8 = accepted-known c.minimise_call-r.ensures c.if-r-eq0.true in omega arith
-
-pub returns-then-r-eq0 : goal.returns-then-r-eq0
-returns-then-r-eq0 c =
+pub returns-in_err-minimised : goal.returns-in_err-minimised
+returns-in_err-minimised c =
     let size : length c.args.tallies.now.counts ≡ 8 = omega arith in
-    let own : c.if-caller-lt8.tally ≡ tally_of c.args.tallies.now.counts c.args.caller =
-    elim c.if-caller-lt8.branch [
-      | then-caller-lt8 w ↦ w.tally-is
-      | else-caller-lt8 w ↦ w.tally-is ∙ none_read c.args.tallies.now.counts size c.args.caller (omega arith)
-    ] in
-    charged-own c.args.tallies.now.counts size own c.minimise_call-r.ensures
+    let p = err_from_is_err_and c.from_residual.result c.from_residual.ensures.1 in
+    rw (p.1, p.2) (refused-own c.args.tallies.now.counts size c.in_err-minimised.field-0.0 (rw c.account-account.ensures at c.in_err-minimised.ensures))
 
-pub returns-else-r-eq0 : goal.returns-else-r-eq0
-returns-else-r-eq0 c =
+pub charge-requires-clause-known : goal.charge-requires-clause-known
+charge-requires-clause-known c = rw c.account-account.ensures (known c.args.tallies.now.counts c.in_ok-minimised.minimised (rw c.account-account.ensures at c.in_ok-minimised.ensures))
+
+pub charge-requires-clause-fits : goal.charge-requires-clause-fits
+charge-requires-clause-fits c = rw (c.account-account.ensures) (fits c.args.tallies.now.counts c.in_ok-minimised.minimised (rw c.account-account.ensures at c.in_ok-minimised.ensures))
+
+pub returns : goal.returns
+returns c =
     let size : length c.args.tallies.now.counts ≡ 8 = omega arith in
-    let own : c.if-caller-lt8.tally ≡ tally_of c.args.tallies.now.counts c.args.caller =
-    elim c.if-caller-lt8.branch [
-      | then-caller-lt8 w ↦ w.tally-is
-      | else-caller-lt8 w ↦ w.tally-is ∙ none_read c.args.tallies.now.counts size c.args.caller (omega arith)
-    ] in
-    refused-own c.args.tallies.now.counts size own c.minimise_call-r.ensures c.if-r-eq0.false
+    rw (c.charge.ensures, c.account-account.ensures)
+    (charged-own c.args.tallies.now.counts size c.in_ok-minimised.minimised (rw c.account-account.ensures at c.in_ok-minimised.ensures))

@@ -1,36 +1,25 @@
 -- `calls::fits::fits_call` meets its contract: a refusal is the definition's, and an accepted call answers what the test says. Assumes
 -- nothing.
-use mathlib.Core.Path.{sym, ◌∙◌}
-use Rattle.model.proofs.CallFacts.{FitsFacts, accepted-fits}
+use Rattle.std.proofs.Common.{sym}
+use Rattle.std.proofs.lemmas.Result.{err_from_is_err_and}
+use Rattle.model.proofs.CallFacts.{accepted-fits}
 use Rattle.model.proofs.Calls.{fits_refused, fits-accepted}
 use Rattle.model.proofs.Demands.{fits-answered}
 use Rattle.format.proofs.GivenLaws.{given-summary, given-document}
 use Rattle.calls.proofs.AnswerLaws.{answer-refused, answer-given}
 use Rattle.calls.proofs.fits.fits_call.Goals as goal
 
-pub returns-then-refused-ne0 : goal.returns-then-refused-ne0
-returns-then-refused-ne0 c =
+pub returns-in_err-ask_fits : goal.returns-in_err-ask_fits
+returns-in_err-ask_fits c =
     let a = c.args in
-    fits-answered _ _ (answer-refused _ (fits_refused a.case.now a.document.now) c.fits_refusal-refused.ensures c.if-refused-ne0.true)
+    let p = err_from_is_err_and c.from_residual.result c.from_residual.ensures.1 in
+    rw (p.1, p.2) (fits-answered _ _ (answer-refused _ (fits_refused a.case.now a.document.now) c.in_err-ask_fits.field-0.0 c.in_err-ask_fits.ensures))
 
 pub strong_table-strong-requires : goal.strong_table-strong-requires
-strong_table-strong-requires c =
-    let facts : FitsFacts c.args.case.now c.args.document.now =
-    accepted-fits _ _ (sym c.fits_refusal-refused.ensures ∙ c.if-refused-ne0.false) in
-    given-summary facts.case
+strong_table-strong-requires c = given-summary (accepted-fits _ _ (sym c.in_ok-ask_fits.ensures)).case
 
-pub fits-requires : goal.fits-requires
-fits-requires c =
-    let facts : FitsFacts c.args.case.now c.args.document.now =
-    accepted-fits _ _ (sym c.fits_refusal-refused.ensures ∙ c.if-refused-ne0.false) in
-    let F = facts in record { summary_given = (given-summary F.case, given-document F.document); strong_value = c.strong_table-strong.ensures }
-
-pub returns-then-fits : goal.returns-then-fits
-returns-then-fits c =
-    let a = c.args in
-    fits-answered _ _ (answer-given _ _ (fits-accepted a.case.now a.document.now) c.fits_refusal-refused.ensures c.if-refused-ne0.false c.fits.ensures c.if-fits.true)
+pub fits-requires-clause-summary_given : goal.fits-requires-clause-summary_given
+fits-requires-clause-summary_given c = let F = accepted-fits _ _ (sym c.in_ok-ask_fits.ensures) in (given-summary F.case, given-document F.document)
 
 pub returns : goal.returns
-returns c =
-    let a = c.args in
-    fits-answered _ _ (answer-given _ _ (fits-accepted a.case.now a.document.now) c.fits_refusal-refused.ensures c.if-refused-ne0.false c.fits.ensures c.if-fits.false)
+returns c = let a = c.args in fits-answered _ _ (answer-given _ _ (fits-accepted a.case.now a.document.now) c.in_ok-ask_fits.ensures c.fits.ensures)

@@ -1,12 +1,12 @@
 -- `calls::result::result_call` meets its contract: the model's call goes by the same refusal, and its answer is the same test's. Assumes
 -- nothing.
-use mathlib.Core.Path.{sym, ap, ◌∙◌, subst}
-use lib.ListN.{length}
+use Rattle.std.proofs.Common.{sym, ap, ◌∙◌, subst, length}
+use Rattle.std.proofs.lemmas.Result.{err_from_is_err_and}
 use Rattle.model.specs.Pattern.{Pattern, arity}
 use Rattle.model.specs.Embeddings.{is_result}
 use Rattle.model.specs.Bytes.{document_of, list_of}
 use Rattle.model.specs.Facts.{ListFacts}
-use Rattle.model.proofs.CallFacts.{ResultFacts, accepted-result}
+use Rattle.model.proofs.CallFacts.{accepted-result}
 use Rattle.model.proofs.Calls.{result-refused, result-accepted}
 use Rattle.model.proofs.Demands.{result-answered}
 use Rattle.format.proofs.GivenLaws.{given-document}
@@ -15,43 +15,31 @@ use Rattle.refusals.proofs.AcceptedLaws.{accepted-whole, numbered-facts, given-n
 use Rattle.calls.proofs.AnswerLaws.{answer-refused, answer-given}
 use Rattle.calls.proofs.result.result_call.Goals as goal
 
-pub returns-then-refused-ne0 : goal.returns-then-refused-ne0
-returns-then-refused-ne0 c =
+pub returns-in_err-ask_result : goal.returns-in_err-ask_result
+returns-in_err-ask_result c =
     let a = c.args in
-    result-answered _ _ _ _ (answer-refused _ (result-refused a.case.now a.number a.document.now a.list.now) c.result_refusal-refused.ensures c.if-refused-ne0.true)
+    let p = err_from_is_err_and c.from_residual.result c.from_residual.ensures.1 in
+    rw (p.1, p.2) (result-answered _ _ _ _ (answer-refused _ (result-refused a.case.now a.number a.document.now a.list.now) c.in_err-ask_result.field-0.0 c.in_err-ask_result.ensures))
 
 pub numbered_at-requires : goal.numbered_at-requires
 numbered_at-requires c =
-    let facts : (let a = c.args in ResultFacts a.case.now a.number a.document.now a.list.now) =
-    let a = c.args in
-    accepted-result a.case.now a.number a.document.now a.list.now (sym c.result_refusal-refused.ensures ∙ c.if-refused-ne0.false) in
-    let F = facts in record { b_value = accepted-whole F.case; number_value = F.number }
+    let F = accepted-result _ _ _ _ (sym c.in_ok-ask_result.ensures) in
+    record { b_value = accepted-whole F.case; number_value = F.number }
 
 pub is_result-requires : goal.is_result-requires
 is_result-requires c =
-    let facts : (let a = c.args in ResultFacts a.case.now a.number a.document.now a.list.now) =
     let a = c.args in
-    accepted-result a.case.now a.number a.document.now a.list.now (sym c.result_refusal-refused.ensures ∙ c.if-refused-ne0.false) in
-    let a = c.args in
-    let F = facts in
-    record { pattern_given = (given-numbered F.case a.number F.number c.numbered_at.ensures, numbered-facts F.case a.number F.number c.numbered_at.ensures, given-document F.document); list_facts = subst (λ (P : Pattern). ListFacts (arity P) (length (document_of a.document.now)) a.list.now) (numbered-pattern a.case.now a.number _ F.number c.numbered_at.ensures) F.list }
-
-pub returns-then-is_result : goal.returns-then-is_result
-returns-then-is_result c =
-    let a = c.args in
-    let F = accepted-result a.case.now a.number a.document.now a.list.now (sym c.result_refusal-refused.ensures ∙ c.if-refused-ne0.false) in
-    result-answered _ _ _ _
-    (answer-given _ _ (result-accepted a.case.now a.number a.document.now a.list.now) c.result_refusal-refused.ensures c.if-refused-ne0.false
-    (c.is_result.ensures
-    ∙ ap (λ (P : Pattern). is_result P (document_of a.document.now) (list_of a.list.now)) (sym (numbered-pattern a.case.now a.number _ F.number c.numbered_at.ensures)))
-    c.if-is_result.true)
+    let F = accepted-result a.case.now a.number a.document.now a.list.now (sym c.in_ok-ask_result.ensures) in
+    record {
+      pattern_given = (given-numbered F.case a.number F.number c.numbered_at.ensures, numbered-facts F.case a.number F.number c.numbered_at.ensures, given-document F.document);
+      list_facts = subst (λ (P : Pattern). ListFacts (arity P) (length (document_of a.document.now)) a.list.now) (numbered-pattern a.case.now a.number _ F.number c.numbered_at.ensures) F.list;
+    }
 
 pub returns : goal.returns
 returns c =
     let a = c.args in
-    let F = accepted-result a.case.now a.number a.document.now a.list.now (sym c.result_refusal-refused.ensures ∙ c.if-refused-ne0.false) in
+    let F = accepted-result a.case.now a.number a.document.now a.list.now (sym c.in_ok-ask_result.ensures) in
     result-answered _ _ _ _
-    (answer-given _ _ (result-accepted a.case.now a.number a.document.now a.list.now) c.result_refusal-refused.ensures c.if-refused-ne0.false
+    (answer-given _ _ (result-accepted a.case.now a.number a.document.now a.list.now) c.in_ok-ask_result.ensures
     (c.is_result.ensures
-    ∙ ap (λ (P : Pattern). is_result P (document_of a.document.now) (list_of a.list.now)) (sym (numbered-pattern a.case.now a.number _ F.number c.numbered_at.ensures)))
-    c.if-is_result.false)
+    ∙ ap (λ (P : Pattern). is_result P (document_of a.document.now) (list_of a.list.now)) (sym (numbered-pattern a.case.now a.number _ F.number c.numbered_at.ensures))))

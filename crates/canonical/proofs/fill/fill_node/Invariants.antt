@@ -1,11 +1,11 @@
-use Rattle.format.specs.Given.{summary_in}
-use Rattle.canonical.specs.Draft.{draft}
+use Rattle.bits.specs.Members.{members_left}
+use Rattle.canonical.specs.Draft.{tables, SameTables}
 use Rattle.canonical.proofs.FillLaws.{Visiting}
 use Rattle.canonical.proofs.fill.fill_node.Given as goal
 
-abbrev pub invariant-loop-rest : goal.invariant-loop-rest
-invariant-loop-rest l =
-    Visiting (summary_in l.case) l.v.0 l.count (draft l.initial.answer l.initial.on l.initial.kids) (draft l.answer l.on l.kids) l.total l.rest
-
-abbrev pub decreases-loop-rest : goal.decreases-loop-rest
-decreases-loop-rest l = l.rest
+abbrev pub invariant-loop-t : goal.invariant-loop-t
+invariant-loop-t l =
+    record {
+      same_tables : SameTables l.initial.draft l.draft;
+      visiting : Visiting l.outline l.v.0 l.initial.draft.count (tables l.initial.draft) (tables l.draft) l.draft.count (members_left l.t-iterator);
+    }

@@ -1,14 +1,8 @@
--- `cover::offers::either` meets its contract: before turn i the masks of the members before i are united. The measure is what is left of
--- 8. Assumes nothing.
-use mathlib.Core.Path.{refl}
-use Rattle.cover.proofs.CoverLaws.{made-start, made-step, made-end}
+-- `cover::offers::either` meets its contract: each mask is made by the operation. Assumes nothing.
+use Rattle.std.proofs.Common.{rules, ◌≡◌, ℕ, ◌<◌, get_or}
+use Rattle.std.specs.Int.Bits.{bit_or}
+use Rattle.cover.proofs.CoverLaws.{made-all}
 use Rattle.cover.proofs.offers.either.Goals as goal
 
-pub loop-i-init : goal.loop-i-init
-loop-i-init c = made-start refl
-
-pub loop-i-preserved : goal.loop-i-preserved
-loop-i-preserved c = made-step c.loop-i.invariant c.loop-i-test.true
-
 pub returns : goal.returns
-returns c = made-end c.loop-i.invariant c.loop-i-test.false
+returns c = made-all bit_or c.args.a.now c.args.b.now (search rules) (λ i h. search (rules, c.each.ensures i h))

@@ -1,20 +1,14 @@
--- `cover::offers::inside` meets its contract: before turn i a is inside b for the members before i. The measure is what is left of 8. Assumes
--- nothing.
-use mathlib.Core.Path.{sym, ◌∙◌}
-use borrow.Author.Rules.{rules}
-use Rattle.cover.proofs.CoverLaws.{inside-start, inside-step, inside-not, inside-end}
+-- `cover::offers::inside` meets its contract: the test of all pairs is the test at all members. Assumes nothing.
+use Rattle.std.proofs.Common.{rules, tests, sym, ◌∙◌}
+use Rattle.std.proofs.lemmas.Iterator.{YieldsList-from_slice, YieldsList-from_zip}
+use Rattle.std.proofs.lemmas.Iterator.Search.{all_from_yields_List}
+use Rattle.cover.proofs.CoverLaws.{pair_inside, pairs-inside}
 use Rattle.cover.proofs.offers.inside.Goals as goal
 
-pub loop-i-init : goal.loop-i-init
-loop-i-init c = inside-start (search rules)
-
-pub returns-then-not-subset16 : goal.returns-then-not-subset16
-returns-then-not-subset16 c =
-    inside-not c.loop-i.invariant c.loop-i-test.true (sym c.subset16.ensures ∙ c.if-not-subset16.true)
-
-pub loop-i-preserved : goal.loop-i-preserved
-loop-i-preserved c =
-    inside-step c.loop-i.invariant c.loop-i-test.true (sym c.subset16.ensures ∙ c.if-not-subset16.false)
-
 pub returns : goal.returns
-returns c = inside-end c.loop-i.invariant c.loop-i-test.false
+returns c =
+    let a = c.args.a.now in
+    let b = c.args.b.now in
+    all_from_yields_List pair_inside c.all.new.self _ c.all.result c.all.ensures.ran
+    (YieldsList-from_zip {s = c.zip.result} (YieldsList-from_slice a cc) (YieldsList-from_slice b cc)) (λ x t q k. search (rules, tests))
+    ∙ pairs-inside a b (cc)

@@ -1,14 +1,33 @@
--- `cover::offers::shared` meets its contract: before turn i the nodes of the members before i are counted. The measure is what is left of 8.
--- Assumes nothing.
+-- `cover::offers::shared` meets its contract: after so many pairs the nodes of the members before are counted. Assumes nothing.
+use Rattle.std.proofs.Common.{rules, arith, ◌≡◌, ◌≤◌, ◌+◌, length, sym, ap, ap₂, ◌∙◌, subst}
+use Rattle.std.proofs.lemmas.List.{length_push}
+use Rattle.std.proofs.lemmas.Slice.Zip.{zip_turn, zip_end}
+use lib.Bits.{bit_and}
+use lib.Count.{ones, ones-le}
 use Rattle.cover.proofs.CoverLaws.{shared_start, shared_step, shared-end}
 use Rattle.cover.proofs.offers.shared.Goals as goal
 
-pub loop-i-init : goal.loop-i-init
-loop-i-init c = shared_start
+few : (c : goal.After-count64-n) → c.count64-n.result ≤ 64
+few c = let l = ones-le 64 c.from.result c.from.type_inv in omega (arith, c.count64-n.ensures)
 
-pub loop-i-preserved : goal.loop-i-preserved
-loop-i-preserved c =
-    shared_step c.loop-i.invariant c.loop-i-test.true c.shared_at-n.ensures.0 c.shared_at-n.ensures.1
+pub overflow_add-n : goal.overflow_add-n
+overflow_add-n c =
+    let v = c.loop-x.invariant in
+    let l = few c in
+    search (rules, v.few, v.top, l)
+
+pub loop-x-init : goal.loop-x-init
+loop-x-init c = shared_start
+
+pub loop-x-preserved : goal.loop-x-preserved
+loop-x-preserved c =
+    let a = c.args.a.now in
+    let b = c.args.b.now in
+    let t = zip_turn a b c.loop-x.yielded c.into_iter-x-iterator.result c.loop-x.x-iterator c.next.new.self c.next.result (cc) (cc) c.loop-x.yielded_by (c.in-Some.x, c.in-Some.y) c.in-Some.is c.next.ensures.steps in
+    rw (length_push c.loop-x.yielded (c.in-Some.x, c.in-Some.y))
+    (shared_step c.loop-x.invariant (omega (arith, t.0, c.told-a)) (c.count64-n.ensures ∙ ap ones (c.from.ensures ∙ ap₂ bit_and (t.2 0) (t.3 0))) (few c))
 
 pub returns : goal.returns
-returns c = shared-end c.loop-i.invariant c.loop-i-test.false
+returns c =
+    let e = zip_end c.args.a.now c.args.b.now c.loop-x.yielded c.into_iter-x-iterator.result c.loop-x.x-iterator c.next.new.self c.next.result (cc) (cc) c.loop-x.yielded_by c.in-None.is c.next.ensures.steps in
+    shared-end c.loop-x.invariant (omega (arith, e, c.told-a, c.told-b))

@@ -5,4 +5,4 @@ use Rattle.format.proofs.write.put_field.Goals as goal
 
 pub returns : goal.returns
 unfolding field_bytes
-returns c = rw add-one
+returns c = rw (c.to_le_bytes.ensures, add-one)

@@ -1,25 +1,24 @@
--- `matching::outcomes::nodes_with` meets its contract: after v turns the nodes below v whose mask has q stand at the front. The measure is
--- what is left of n. Assumes nothing.
-use native.Mathlib.Omega.{arith}
-use Rattle.matching.proofs.ReadLoops.{listing_start, listing_step, listing-end}
+-- `matching::outcomes::nodes_with` meets its contract: after v turns the nodes below v whose mask has q stand at the front. Assumes
+-- nothing.
+use Prim.Native.Nat.{ℕ, ◌+◌}
+use mathlib.Core.Path.{sym, subst₂, ◌∙◌}
+use mathlib.Core.List.{List}
+use Rattle.matching.specs.Outcomes.{in_mask}
+use Rattle.matching.proofs.ReadLoops.{Listing, listing_start, listing-in, listing-out}
 use Rattle.matching.proofs.outcomes.nodes_with.Goals as goal
+use Rattle.matching.proofs.outcomes.nodes_with.Goals.{then-in_mask, else-in_mask}
 
 pub loop-v-init : goal.loop-v-init
 loop-v-init c = listing_start
 
-pub in_mask-requires : goal.in_mask-requires
-in_mask-requires c = (omega arith, c.requires.3)
-
-pub push_if-count-requires : goal.push_if-count-requires
-push_if-count-requires c = (omega arith, omega (arith, c.loop-v.invariant.few, c.loop-v.invariant.size))
-
 pub loop-v-preserved : goal.loop-v-preserved
 loop-v-preserved c =
-    listing_step c.in_mask.result c.loop-v.invariant c.requires.1 c.loop-v-test.true c.in_mask.ensures c.push_if-count.ensures.0
-    c.push_if-count.ensures.1
-
-pub shape_of-out : goal.shape_of-out
-shape_of-out c = c.loop-v.invariant.size
-
-pub returns : goal.returns
-returns c = listing-end c.loop-v.invariant c.loop-v-test.false
+    let test = in_mask c.args.table.now c.args.q.0 in
+    elim c.if-in_mask.branch [
+      | then-in_mask w ↦
+          subst₂ (λ (l : List ℕ) (k : ℕ). Listing test c.args.n c.args.out.now l k (c.loop-v.v + 1)) (sym w.out-is) (sym w.count-is)
+          (listing-in c.loop-v.invariant c.requires.1 c.loop-v-test.true (sym c.in_mask.ensures ∙ w.if-in_mask.true))
+      | else-in_mask w ↦
+          subst₂ (λ (l : List ℕ) (k : ℕ). Listing test c.args.n c.args.out.now l k (c.loop-v.v + 1)) (sym w.out-is) (sym w.count-is)
+          (listing-out c.loop-v.invariant c.loop-v-test.true (sym c.in_mask.ensures ∙ w.if-in_mask.false))
+    ]

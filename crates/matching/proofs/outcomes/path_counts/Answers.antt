@@ -1,17 +1,19 @@
--- `matching::outcomes::path_counts` meets its contract: after q turns the first q counts stand. The measure is what is left of 16. Assumes
--- nothing.
-use mathlib.Core.Path.{refl, ◌∙◌}
+-- `matching::outcomes::path_counts` meets its contract: each mask is counted. Assumes nothing.
+use Prim.Native.Nat.{ℕ}
+use mathlib.Core.Path.{sym, ◌∙◌}
+use mathlib.Core.List.{map}
 use native.Mathlib.Omega.{arith}
-use borrow.Author.Rules.{rules}
-use Rattle.format.proofs.FrontLoops.{filled-start, filled-step, filled-end}
-use Rattle.matching.proofs.ReadLoops.{filled-zeros}
+use lib.Count.{ones}
+use lib.ListN.{get_or}
+use lib.Seq.{ext_get_or}
+use Rattle.std.proofs.Common.{rules}
+use Rattle.model.specs.Lists.{up_from}
+use Rattle.model.proofs.ListLaws.{length-map-up_from}
+use Rattle.format.proofs.RangeLaws.{get_or-map-below}
 use Rattle.matching.proofs.outcomes.path_counts.Goals as goal
 
-pub loop-q-init : goal.loop-q-init
-loop-q-init c = filled-start refl
-
-pub loop-q-preserved : goal.loop-q-preserved
-loop-q-preserved c = filled-step c.loop-q.invariant c.loop-q-test.true (search rules) c.count64.ensures
-
 pub returns : goal.returns
-returns c = filled-end c.loop-q.invariant c.loop-q-test.false ∙ filled-zeros _ 16 16 (omega arith) (λ i h l. absurd (omega arith))
+returns c =
+    let f = (λ (q : ℕ). ones (get_or c.args.masks.now q 0)) in
+    ext_get_or 0 _ (map f (up_from 0 16)) (c.map.ensures.items.long ∙ sym (length-map-up_from f 0 16))
+    (λ q h. (let e = c.map.ensures.items.at q 0 0 (omega (arith, c.map.ensures.items.long)) in search rules) ∙ sym (get_or-map-below f 16 q 0 (omega (arith, c.map.ensures.items.long))))

@@ -1,25 +1,14 @@
--- `matching::tables::parts` meets its contract: before turn v the nodes from v on are settled. The measure is what is left of the nodes.
--- Assumes nothing.
+-- `matching::tables::parts` meets its contract: before turn v the nodes from v on are settled. Assumes nothing.
 use Prim.Native.Nat.{◌-◌}
 use native.Mathlib.Omega.{arith}
-use Rattle.format.specs.Given.{third_in}
 use Rattle.matching.proofs.PartLoop.{settling-start, settling-step, settling-end}
 use Rattle.matching.proofs.tables.parts.Goals as goal
 
 pub loop-v-init : goal.loop-v-init
-loop-v-init c = λ Q K. settling-start _ _ _ _ c.requires.t_in_bounds.1 c.tree_count-v.ensures.0
-
-pub settle-requires : goal.settle-requires
-settle-requires c =
-    let k = c.loop-v.invariant c.requires.tree_lent.1.0 c.requires.tree_lent.1.1 in
-    (c.requires.tree_lent.0, omega (arith, k.turns), omega (arith, k.turns, k.size, c.requires.t_in_bounds.0), c.requires.tree_lent.1)
+loop-v-init g c = λ Q K. settling-start _ _ _ _ c.requires.t_in_bounds.1 c.count-n.ensures.0
 
 pub loop-v-preserved : goal.loop-v-preserved
-loop-v-preserved c =
-    λ Q K. settling-step (third_in c.args.width c.args.t.now) (c.loop-v.v - 1) K c.requires.tree_lent.0.1.tree c.requires.t_in_bounds.0 (c.loop-v.invariant Q K) (omega arith) c.settle.ensures
-
-pub shape_of-table : goal.shape_of-table
-shape_of-table c = let k = c.requires.tree_lent.1 in (c.loop-v.invariant k.0 k.1).size
+loop-v-preserved g c = λ Q K. settling-step (c.loop-v.v - 1) K c.requires.tree_lent c.requires.t_in_bounds.0 (c.loop-v.invariant Q K) (omega arith) c.settle.ensures
 
 pub returns : goal.returns
-returns c = λ Q K. settling-end (c.loop-v.invariant Q K) (omega arith) c.requires.t_in_bounds.0
+returns g c = λ Q K. settling-end (c.loop-v.invariant Q K) (omega arith) c.requires.t_in_bounds.0

@@ -1,41 +1,14 @@
 -- `matching::tables::stands` meets its contract: before turn v the nodes before v hold what stands there and what they leave to their
--- children. The measure is what is left of the nodes. Assumes nothing.
-use mathlib.Core.Path.{◌∙◌}
+-- children. Assumes nothing.
 use native.Mathlib.Omega.{arith}
-use Rattle.format.specs.Given.{third_in}
-use Rattle.matching.proofs.StandLoop.{descending-start, descending-step, descending-end}
+use Rattle.matching.proofs.StandLoop.{descending-step, descending-end}
 use Rattle.matching.proofs.tables.stands.Goals as goal
 
-pub loop-v-init : goal.loop-v-init
-loop-v-init c = λ Q K. descending-start _ _ _ _ _
-
-pub left_at-requires : goal.left_at-requires
-left_at-requires c =
-    let k = c.loop-v.invariant c.requires.tree_lent.1.0 c.requires.tree_lent.1.1 in
-    let n = c.tree_count-n.ensures.0 in
-    (c.requires.tree_lent.0, omega (arith, n), omega (arith, n, k.left_size, c.requires.t_in_bounds.1))
-
-pub descend-requires : goal.descend-requires
-descend-requires c =
-    let k = c.loop-v.invariant c.requires.tree_lent.1.0 c.requires.tree_lent.1.1 in
-    let n = c.tree_count-n.ensures.0 in
-    (omega (arith, n, k.size, c.parts.auto.table, c.requires.t_in_bounds.0), omega (arith, n, k.left_size, c.requires.t_in_bounds.1), c.requires.tree_lent.1)
-
 pub loop-v-preserved : goal.loop-v-preserved
-loop-v-preserved c =
-    λ Q K. descending-step (third_in c.args.width c.args.t.now) c.left_at.result c.args.table.now K c.requires.tree_lent.0.1.tree c.requires.t_in_bounds.0 c.requires.t_in_bounds.1
-    (c.parts.ensures Q K) (c.loop-v.invariant Q K) (omega (arith, c.loop-v-test.true, c.tree_count-n.ensures.0))
-    c.left_at.ensures c.descend.ensures.table_after c.descend.ensures.left_after
-
-pub shape_of-table : goal.shape_of-table
-shape_of-table c =
-    let k = c.requires.tree_lent.1 in
-    (c.loop-v.invariant k.0 k.1).size ∙ c.parts.auto.table
-
-pub shape_of-left : goal.shape_of-left
-shape_of-left c = let k = c.requires.tree_lent.1 in (c.loop-v.invariant k.0 k.1).left_size
+loop-v-preserved g c =
+    λ Q K. descending-step c.left_at.result c.args.table.now K c.requires.tree_lent.0 c.requires.t_in_bounds.0 c.requires.t_in_bounds.1 (c.parts.ensures Q K) (c.loop-v.invariant Q K)
+    (omega (arith, c.count-n.ensures.0)) c.left_at.ensures c.descend.ensures.table_after c.descend.ensures.left_after
 
 pub returns : goal.returns
-returns c =
-    λ Q K. descending-end c.args.table.now (c.loop-v.invariant Q K) (omega (arith, c.loop-v-test.false, c.tree_count-n.ensures.0)) c.requires.t_in_bounds.0
-    (c.parts.ensures Q K)
+returns g c =
+    λ Q K. descending-end c.args.table.now (c.loop-v.invariant Q K) (omega (arith, c.count-n.ensures.0)) c.requires.t_in_bounds.0 (c.parts.ensures Q K)

@@ -1,12 +1,7 @@
-use Prim.Native.Nat.{◌-◌}
 use Rattle.model.specs.Pattern.{Pattern}
-use Rattle.format.specs.Given.{tree_of, third_in}
-use Rattle.matching.specs.Wanted.{Wants, block_pin}
+use Rattle.matching.specs.Wanted.{Wants, pin_of}
 use Rattle.matching.proofs.StandLoop.{Descending}
 use Rattle.matching.proofs.tables.stands.Given as goal
 
 abbrev pub invariant-loop-v : goal.invariant-loop-v
-invariant-loop-v l = (Q : Pattern) → Wants Q l.wanted → Descending Q (tree_of l.width l.t) (block_pin l.wanted (third_in l.width l.t)) l.initial.table l.initial.left l.table l.left l.v
-
-abbrev pub decreases-loop-v : goal.decreases-loop-v
-decreases-loop-v l = l.n - l.v
+invariant-loop-v g l = let W = g.T.Tree.nodes l.t in (Q : Pattern) → Wants Q l.wanted → Descending Q W (pin_of l.wanted W) l.initial.table l.initial.left l.table l.left l.v

@@ -1,28 +1,10 @@
--- `moving::refusals::figureless` meets its contract. The loop's invariant: every figure before q's is 0. Assumes nothing.
-use Rattle.questions.proofs.LoopLaws.{kept}
-use Rattle.moving.proofs.BackLaws.{figure-stops, figure-more, figures-end}
+-- `moving::refusals::figureless` meets its contract: each figure is tested. Assumes nothing.
+use Rattle.std.proofs.Common.{refl, sym, ◌∙◌, length, rules, tests}
+use Rattle.format.proofs.ChainLaws.{all_range}
+use Rattle.moving.proofs.BackLaws.{no_figure, by_number}
 use Rattle.moving.proofs.refusals.figureless.Goals as goal
 
-pub pattern_count-n-requires : goal.pattern_count-n-requires
-pattern_count-n-requires c = search kept
-
-pub loop-q-init : goal.loop-q-init
-loop-q-init c = search kept
-
-pub pattern_figure-requires : goal.pattern_figure-requires
-pattern_figure-requires c = search kept
-
-pub returns-then-pattern_figure-ne0 : goal.returns-then-pattern_figure-ne0
-returns-then-pattern_figure-ne0 c = search (kept, figure-stops)
-
-pub overflow_step-q : goal.overflow_step-q
-overflow_step-q c = search kept
-
-pub loop-q-smaller : goal.loop-q-smaller
-loop-q-smaller c = search kept
-
-pub loop-q-preserved : goal.loop-q-preserved
-loop-q-preserved c = search (kept, figure-more)
-
 pub returns : goal.returns
-returns c = search (kept, figures-end)
+returns c =
+    let P = c.args.p.now in
+    all_range (no_figure P) 0 (length P) _ _ refl (search rules) (λ x t q k. search (rules, tests)) c.all.ensures.ran ∙ sym (by_number P)

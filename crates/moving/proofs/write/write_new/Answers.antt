@@ -13,42 +13,42 @@ copy_fields-requires c =
     new-room _ c.requires.b_value c.first_at-first.ensures c.second_at-second.ensures _ c.requires.b_in_bounds in
     let r = room in (omega arith, omega arith)
 
-pub write_wider-set-requires : goal.write_wider-set-requires
-write_wider-set-requires c =
+pub write_pattern-set-requires : goal.write_pattern-set-requires
+write_pattern-set-requires c =
     let room : RoomForNew c.args.b.now c.first_at-first.result c.second_at-second.result (length c.args.out.now) =
     new-room _ c.requires.b_value c.first_at-first.ensures c.second_at-second.ensures _ c.requires.b_in_bounds in
-    let r = room in (r.one, omega arith)
+    let r = room in record { widths = search rules; room = (r.one, omega arith) }
 
 pub put_field-requires : goal.put_field-requires
 put_field-requires c =
     let room : RoomForNew c.args.b.now c.first_at-first.result c.second_at-second.result (length c.args.out.now) =
     new-room _ c.requires.b_value c.first_at-first.ensures c.second_at-second.ensures _ c.requires.b_in_bounds in
-    let r = room in let e = c.write_wider-set.ensures.end in omega arith
+    let r = room in let e = c.write_pattern-set.ensures.end in omega arith
 
 pub overflow_add-set : goal.overflow_add-set
 overflow_add-set c =
     let room : RoomForNew c.args.b.now c.first_at-first.result c.second_at-second.result (length c.args.out.now) =
     new-room _ c.requires.b_value c.first_at-first.ensures c.second_at-second.ensures _ c.requires.b_in_bounds in
-    let r = room in let e = c.write_wider-set.ensures.end in search rules
+    let r = room in let e = c.write_pattern-set.ensures.end in search rules
 
-pub write_wider-end-requires : goal.write_wider-end-requires
-write_wider-end-requires c =
+pub write_pattern-end-requires : goal.write_pattern-end-requires
+write_pattern-end-requires c =
     let room : RoomForNew c.args.b.now c.first_at-first.result c.second_at-second.result (length c.args.out.now) =
     new-room _ c.requires.b_value c.first_at-first.ensures c.second_at-second.ensures _ c.requires.b_in_bounds in
-    let r = room in let e = c.write_wider-set.ensures.end in (r.two, omega arith)
+    let r = room in let e = c.write_pattern-set.ensures.end in record { widths = search rules; room = (r.two, omega arith) }
 
 pub overflow_mul-result : goal.overflow_mul-result
 overflow_mul-result c =
     let room : RoomForNew c.args.b.now c.first_at-first.result c.second_at-second.result (length c.args.out.now) =
     new-room _ c.requires.b_value c.first_at-first.ensures c.second_at-second.ensures _ c.requires.b_in_bounds in
     let r = room in
-    let e = c.write_wider-set.ensures.end in
-    let f = c.write_wider-end.ensures.end in
+    let e = c.write_pattern-set.ensures.end in
+    let f = c.write_pattern-end.ensures.end in
     record { fits = omega (arith, r.few, e, f) }
 
 pub returns : goal.returns
-returns c = let both = new-written _ c.requires.b_value c.first_at-first.ensures c.second_at-second.ensures _ c.requires.b_in_bounds c.copy_fields.ensures c.write_wider-set.ensures.end c.write_wider-set.ensures.buffer
-    c.put_field.ensures c.write_wider-end.ensures.end c.write_wider-end.ensures.buffer in record { end = both.0; buffer = both.1 }
+returns c = let both = new-written _ c.requires.b_value c.first_at-first.ensures c.second_at-second.ensures _ c.requires.b_in_bounds c.copy_fields.ensures c.write_pattern-set.ensures.end c.write_pattern-set.ensures.buffer
+    c.put_field.ensures c.write_pattern-end.ensures.end c.write_pattern-end.ensures.buffer in record { end = both.0; buffer = both.1 }
 
 pub first_at-first-requires : goal.first_at-first-requires
 first_at-first-requires c = search old_sections

@@ -1,73 +1,49 @@
--- `normalising::gather::gather` meets its contract: before turn j the last j - 1 nodes' rows have gone to their parents'. Assumes nothing.
-use Prim.Native.Nat.{◌-◌, ◌<◌}
-use mathlib.Core.Path.{refl, sym, ◌∙◌}
+-- `normalising::gather::gather` meets its contract: before turn k the subtrees from k on have gone to their parents. Assumes nothing.
+use Prim.Native.Nat.{suc, ◌-◌, ◌<◌}
+use mathlib.Core.Path.{◌≡◌, sym, ap, ap₂, ◌∙◌, subst}
+use mathlib.Core.List.{List, ◌++◌}
 use native.Mathlib.Omega.{arith}
-use Rattle.model.specs.Bytes.{field}
-use Rattle.normalising.proofs.GatherLaws.{turning-start, turn_inside, turn-parent, turn-joinable, turn-joined, turning-end}
+use lib.ListN.{length, set}
+use Rattle.model.specs.Normal.{Entry}
+use Rattle.model.specs.Gathering.{joined}
+use Rattle.normalising.proofs.TreeLaws.{Gathering, gathering-start, set-front, front_row, back_row, below, insertable, gathering-step, gathering-end}
 use Rattle.normalising.proofs.gather.gather.Goals as goal
 
-pub loop-j-init : goal.loop-j-init
-loop-j-init c = turning-start c.requires.0 c.field-n.ensures.0 c.requires.1
+pub loop-k-init : goal.loop-k-init
+loop-k-init g c =
+    let P = g.T.Tree.table c.args.tree.now in
+    subst (Gathering P c.args.rows.now) (sym c.count-k.ensures.0) (gathering-start c.requires.0.tree c.requires.1)
 
-pub record_field-p-requires : goal.record_field-p-requires
-record_field-p-requires c =
-    let inside : (c.field-n.result - c.loop-j.j < field c.args.b.now c.args.at)
-    × (c.field-n.result - c.loop-j.j < 64) =
-    turn_inside c.requires.0 c.field-n.ensures.0 c.loop-j.invariant c.loop-j-test.true refl in
-    record { whole_section = c.requires.0.whole; i_bound = (inside.0, omega (arith, c.requires.0.fields.least), c.requires.0.fields.most) }
+pub insert-requires : goal.insert-requires
+insert-requires g c =
+    let P = g.T.Tree.table c.args.tree.now in
+    let rows = c.loop-k.rows in
+    let k = c.loop-k.k - 1 in
+    let now : c.loop-k.k ≡ suc k = omega (arith, c.loop-k-test.true) in
+    let w : Gathering P rows (suc k) = subst (Gathering P rows) now c.loop-k.invariant in
+    let some : 0 < k = omega (arith, c.loop-k-test.true) in
+    let lower = below c.requires.0.tree c.requires.0.few w some c.parent.ensures in
+    let f = front_row rows c.split_at_mut-front.ensures.front lower (omega (arith, w.turns, w.size)) c.index-front-parent.is in
+    let b = back_row rows c.split_at_mut-front.ensures.back (omega (arith, w.turns, w.size)) c.index-back-0.is in
+    let i = insertable c.requires.0.tree c.requires.0.few w some c.parent.ensures in
+    (omega (arith, ap length b, i.0), omega (arith, ap length f, ap length b, i.1))
 
-pub offset_bounds-sizes-k : goal.offset_bounds-sizes-k
-offset_bounds-sizes-k c =
-    let inside : (c.field-n.result - c.loop-j.j < field c.args.b.now c.args.at)
-    × (c.field-n.result - c.loop-j.j < 64) =
-    turn_inside c.requires.0 c.field-n.ensures.0 c.loop-j.invariant c.loop-j-test.true refl in
-    record { fits = omega (arith, inside.1) }
-
-pub bounds-sizes-k : goal.bounds-sizes-k
-bounds-sizes-k c =
-    let inside : (c.field-n.result - c.loop-j.j < field c.args.b.now c.args.at)
-    × (c.field-n.result - c.loop-j.j < 64) =
-    turn_inside c.requires.0 c.field-n.ensures.0 c.loop-j.invariant c.loop-j-test.true refl in
-    inside.1
-
-pub offset_bounds-sizes-p : goal.offset_bounds-sizes-p
-offset_bounds-sizes-p c =
-    let parent : c.record_field-p.result < 64 =
-    turn-parent c.requires.0 c.field-n.ensures.0 c.loop-j.invariant c.loop-j-test.true refl c.record_field-p.ensures.0 in
-    record { fits = omega (arith, parent) }
-
-pub bounds-sizes-p : goal.bounds-sizes-p
-bounds-sizes-p c =
-    let parent : c.record_field-p.result < 64 =
-    turn-parent c.requires.0 c.field-n.ensures.0 c.loop-j.invariant c.loop-j-test.true refl c.record_field-p.ensures.0 in
-    parent
-
-pub join-requires : goal.join-requires
-join-requires c =
-    turn-joinable c.requires.0 c.field-n.ensures.0 c.loop-j.invariant c.loop-j-test.true refl c.record_field-p.ensures.0
-
-pub overflow_add-sizes : goal.overflow_add-sizes
-overflow_add-sizes c =
-    omega (arith, (turn-joinable c.requires.0 c.field-n.ensures.0 c.loop-j.invariant c.loop-j-test.true refl c.record_field-p.ensures.0).room)
-
-pub offset_bounds-sizes-p-in-loop-j : goal.offset_bounds-sizes-p-in-loop-j
-offset_bounds-sizes-p-in-loop-j c =
-    let parent : c.record_field-p.result < 64 =
-    turn-parent c.requires.0 c.field-n.ensures.0 c.loop-j.invariant c.loop-j-test.true refl c.record_field-p.ensures.0 in
-    record { fits = omega (arith, parent) }
-
-pub bounds-sizes-p-in-loop-j : goal.bounds-sizes-p-in-loop-j
-bounds-sizes-p-in-loop-j c =
-    let parent : c.record_field-p.result < 64 =
-    turn-parent c.requires.0 c.field-n.ensures.0 c.loop-j.invariant c.loop-j-test.true refl c.record_field-p.ensures.0 in
-    parent
-
-pub loop-j-preserved : goal.loop-j-preserved
-loop-j-preserved c =
-    turn-joined c.requires.0 c.field-n.ensures.0 c.loop-j.invariant c.loop-j-test.true refl c.record_field-p.ensures.0 c.join.ensures
-
-pub shape_of-rows : goal.shape_of-rows
-shape_of-rows c = c.loop-j.invariant.gathers.size ∙ sym c.requires.1.size
+pub loop-k-preserved : goal.loop-k-preserved
+loop-k-preserved g c =
+    let P = g.T.Tree.table c.args.tree.now in
+    let rows = c.loop-k.rows in
+    let k = c.loop-k.k - 1 in
+    let p = c.parent.result in
+    let now : c.loop-k.k ≡ suc k = omega (arith, c.loop-k-test.true) in
+    let w : Gathering P rows (suc k) = subst (Gathering P rows) now c.loop-k.invariant in
+    let some : 0 < k = omega (arith, c.loop-k-test.true) in
+    let lower = below c.requires.0.tree c.requires.0.few w some c.parent.ensures in
+    let f = front_row rows c.split_at_mut-front.ensures.front lower (omega (arith, w.turns, w.size)) c.index-front-parent.is in
+    let b = back_row rows c.split_at_mut-front.ensures.back (omega (arith, w.turns, w.size)) c.index-back-0.is in
+    let new = c.insert.ensures ∙ ap₂ joined b f in
+    let parts = ap₂ (λ (x y : List (List Entry)). set x p c.insert.new.self ++ y) c.split_at_mut-front.ensures.front c.split_at_mut-front.ensures.back in
+    let whole = parts ∙ set-front rows k p c.insert.new.self lower (omega (arith, w.turns, w.size)) ∙ ap (set rows p) new in
+    subst (λ (r : List (List Entry)). Gathering P r k) (sym whole) (gathering-step c.requires.0.tree c.requires.0.few w some c.parent.ensures)
 
 pub returns : goal.returns
-returns c = turning-end c.requires.0 c.field-n.ensures.0 c.loop-j.invariant c.loop-j-test.false
+returns g c = gathering-end c.requires.0.tree c.loop-k.invariant c.loop-k-test.false

@@ -1,80 +1,43 @@
--- `normalising::write::write_records` meets its contract: before turn k the first k records are written, and the table holds the last entry
--- of each depth. Assumes nothing.
-use Prim.Native.Nat.{◌+◌, ◌*◌, ◌≤◌, ◌<◌}
+-- `normalising::write::write_records` meets its contract: before turn k the first k records are written, and the table holds the last
+-- entry of each depth. Assumes nothing.
+use Prim.Native.Nat.{ℕ, ◌+◌, ◌*◌, ◌-◌}
+use mathlib.Core.Path.{◌≡◌, sym, ap, ap₂, ◌∙◌, subst}
 use native.Mathlib.Omega.{arith}
-use lib.ListN.{length}
-use Rattle.normalising.proofs.RecordLaws.{writing_start, record-room, depth-inside, writing_step, writing-end}
+use lib.ListN.{get_or, set}
+use lib.Seq.{sets}
+use Rattle.std.proofs.lemmas.List.{get_or_read}
+use Rattle.model.specs.Normal.{Entry, no_entry}
+use Rattle.model.specs.Bytes.{bytes_of}
+use Rattle.normalising.specs.Trees.{record_with}
+use Rattle.normalising.proofs.RecordLaws.{Writing, writing_start, depth-inside, writing_step, writing-end}
 use Rattle.normalising.proofs.write.write_records.Goals as goal
 
 pub loop-k-init : goal.loop-k-init
-loop-k-init c = writing_start _ _ _ _
-
-pub overflow_mul-width : goal.overflow_mul-width
-overflow_mul-width c =
-    let room : c.loop-k.k < length c.args.keys.now
-    → (c.args.width * c.loop-k.k + c.args.width ≤ c.args.width * length c.args.keys.now)
-    × (2 * (c.args.at + c.args.width * c.loop-k.k + c.args.width) ≤ length c.args.out.now) =
-    (λ more. record-room c.args.width c.loop-k.k (length c.args.keys.now) c.args.at more c.requires.2) in
-    let z = c.loop-k.invariant.size in
-    let r = room c.loop-k-test.true in
-    record { fits = omega arith }
-
-pub overflow_add-at : goal.overflow_add-at
-overflow_add-at c =
-    let room : c.loop-k.k < length c.args.keys.now
-    → (c.args.width * c.loop-k.k + c.args.width ≤ c.args.width * length c.args.keys.now)
-    × (2 * (c.args.at + c.args.width * c.loop-k.k + c.args.width) ≤ length c.args.out.now) =
-    (λ more. record-room c.args.width c.loop-k.k (length c.args.keys.now) c.args.at more c.requires.2) in
-    let z = c.loop-k.invariant.size in
-    let r = room c.loop-k-test.true in
-    omega arith
-
-pub offset_bounds-last-up : goal.offset_bounds-last-up
-offset_bounds-last-up c =
-    let inside : (c.index64-depth.result < 64) × (c.above-up.result < 64) × (c.loop-k.k < 65536) =
-    depth-inside c.requires.0 c.requires.1 c.loop-k.invariant c.loop-k-test.true c.depth_of.ensures.0 c.index64-depth.ensures c.above-up.ensures in
-    let d = inside in record { fits = omega (arith, d.0, d.1) }
-
-pub bounds-last-up : goal.bounds-last-up
-bounds-last-up c =
-    let inside : (c.index64-depth.result < 64) × (c.above-up.result < 64) × (c.loop-k.k < 65536) =
-    depth-inside c.requires.0 c.requires.1 c.loop-k.invariant c.loop-k-test.true c.depth_of.ensures.0 c.index64-depth.ensures c.above-up.ensures in
-    let d = inside in omega (arith, d.0, d.1)
-
-pub put_record-requires : goal.put_record-requires
-put_record-requires c =
-    let room : c.loop-k.k < length c.args.keys.now
-    → (c.args.width * c.loop-k.k + c.args.width ≤ c.args.width * length c.args.keys.now)
-    × (2 * (c.args.at + c.args.width * c.loop-k.k + c.args.width) ≤ length c.args.out.now) =
-    (λ more. record-room c.args.width c.loop-k.k (length c.args.keys.now) c.args.at more c.requires.2) in
-    let z = c.loop-k.invariant.size in
-    let r = room c.loop-k-test.true in
-    (c.requires.1, omega arith)
-
-pub overflow_cast-last : goal.overflow_cast-last
-overflow_cast-last c =
-    let inside : (c.index64-depth.result < 64) × (c.above-up.result < 64) × (c.loop-k.k < 65536) =
-    depth-inside c.requires.0 c.requires.1 c.loop-k.invariant c.loop-k-test.true c.depth_of.ensures.0 c.index64-depth.ensures c.above-up.ensures in
-    record { fits = omega (arith, inside.2) }
-
-pub offset_bounds-last-depth : goal.offset_bounds-last-depth
-offset_bounds-last-depth c =
-    let inside : (c.index64-depth.result < 64) × (c.above-up.result < 64) × (c.loop-k.k < 65536) =
-    depth-inside c.requires.0 c.requires.1 c.loop-k.invariant c.loop-k-test.true c.depth_of.ensures.0 c.index64-depth.ensures c.above-up.ensures in
-    let d = inside in record { fits = omega (arith, d.0, d.1) }
+loop-k-init g c = writing_start _ _ _ _
 
 pub bounds-last-depth : goal.bounds-last-depth
-bounds-last-depth c =
-    let inside : (c.index64-depth.result < 64) × (c.above-up.result < 64) × (c.loop-k.k < 65536) =
-    depth-inside c.requires.0 c.requires.1 c.loop-k.invariant c.loop-k-test.true c.depth_of.ensures.0 c.index64-depth.ensures c.above-up.ensures in
-    let d = inside in omega (arith, d.0, d.1)
+bounds-last-depth g c =
+    let own = c.entry.view_is ∙ get_or_read c.args.list.now c.loop-k.k _ c.loop-k-test.true c.index-list-k.is no_entry in
+    let small = depth-inside g.met.T.Tree.even c.requires.0 c.loop-k.invariant c.loop-k-test.true own in
+    omega (arith, small, c.from-depth.ensures)
+
+pub offset_bounds-last-depth : goal.offset_bounds-last-depth
+offset_bounds-last-depth g c =
+    let own = c.entry.view_is ∙ get_or_read c.args.list.now c.loop-k.k _ c.loop-k-test.true c.index-list-k.is no_entry in
+    let small = depth-inside g.met.T.Tree.even c.requires.0 c.loop-k.invariant c.loop-k-test.true own in
+    record { fits = omega (arith, small, c.from-depth.ensures) }
 
 pub loop-k-preserved : goal.loop-k-preserved
-loop-k-preserved c =
-    writing_step c.requires.0 c.requires.1 c.loop-k.invariant c.loop-k-test.true c.depth_of.ensures.0 c.index64-depth.ensures c.above-up.ensures c.put_record.ensures
-
-pub shape_of-out : goal.shape_of-out
-shape_of-out c = c.loop-k.invariant.size
+loop-k-preserved g c =
+    let fields = g.T.Tree.fields in
+    let k = c.loop-k.k in
+    let own = c.entry.view_is ∙ get_or_read c.args.list.now k _ c.loop-k-test.true c.index-list-k.is no_entry in
+    let above : c.saturating_sub-above.result ≡ c.entry.inside.depth - 1 = c.saturating_sub-above.ensures ∙ ap (λ (x : ℕ). x - 1) c.from-depth.ensures in
+    let put = c.put.ensures
+    ∙ ap₂ (λ (w a : ℕ). sets c.loop-k.out (2 * (c.args.at + w * k)) (bytes_of (fields (record_with (get_or c.loop-k.last a 0) c.index-list-k.result)))) c.width.ensures.0 above
+    ∙ ap (λ (e : Entry). sets c.loop-k.out (2 * (c.args.at + g.T.Tree.width * k)) (bytes_of (fields (record_with (get_or c.loop-k.last (c.entry.inside.depth - 1) 0) e)))) (sym c.entry.view_is) in
+    subst (λ (d : ℕ). Writing fields c.args.list.now c.args.at c.args.out.now c.put.new.out (set c.loop-k.last d k) (k + 1)) (sym c.from-depth.ensures)
+    (writing_step g.met.T.Tree.even c.requires.0 c.loop-k.invariant c.loop-k-test.true own put)
 
 pub returns : goal.returns
-returns c = writing-end c.loop-k.invariant c.loop-k-test.false
+returns g c = writing-end c.loop-k.invariant c.loop-k-test.false

@@ -1,16 +1,11 @@
--- `questions::case::case_whole` meets its contract: where the set's count is not found, the case is cut before it; else the number of fields
--- decides. Assumes nothing.
-use Rattle.questions.proofs.CaseLaws.{whole}
+-- `questions::case::case_whole` meets its contract: where nothing is found, no end is the bytes', and else the set's end decides. Assumes
+-- nothing.
+use Rattle.std.proofs.Common.{sym, ◌∙◌, rules}
+use Rattle.questions.proofs.CaseLaws.{set-inside, by_front}
 use Rattle.questions.proofs.case.case_whole.Goals as goal
 
-pub front_end-set-requires : goal.front_end-set-requires
-front_end-set-requires c = search whole
-
-pub returns-then-set-eq0 : goal.returns-then-set-eq0
-returns-then-set-eq0 c = search whole
-
-pub set_ends-requires : goal.set_ends-requires
-set_ends-requires c = search whole
+pub is_some_and-requires : goal.is_some_and-requires
+is_some_and-requires c = λ on e _ _ _ _ _ _. set-inside _ on (sym e ∙ c.front_end.ensures)
 
 pub returns : goal.returns
-returns c = search whole
+returns c = by_front _ _ _ c.front_end.ensures (search rules)

@@ -1,26 +1,16 @@
--- `questions::members::positions_kept` meets its contract: a whole case has every section, and each test is the definition's. Assumes nothing.
-use Rattle.questions.proofs.TestLaws.{joined}
-use Rattle.questions.proofs.SectionLaws.{sections}
-use Rattle.questions.proofs.PatternLaws.{positions-asked}
+-- `questions::members::positions_kept` meets its contract: the first pattern, and each member to the first one's k. Assumes nothing.
+use Rattle.std.proofs.Common.{◌&&◌, eqb, rules, arith}
+use Rattle.std.proofs.lemmas.Grind.{common_steps}
+use Rattle.model.specs.Pattern.{Pattern, arity}
+use Rattle.model.specs.Questions.{positions_once, positions_kept}
+use Rattle.format.proofs.ChainLaws.{all_listed}
 use Rattle.questions.proofs.members.positions_kept.Goals as goal
 
-pub first_at-first-requires : goal.first_at-first-requires
-first_at-first-requires c = search sections
+pub returns-then-each_once : goal.returns-then-each_once
+unfolding positions_kept
+returns-then-each_once c =
+    let e = all_listed (λ (Q : Pattern). positions_once Q && eqb c.count-k.result (arity Q)) _ (λ x t q k. search rules) c.all.ensures.ran in grind (arith, common_steps)
 
-pub set_at-set-requires : goal.set_at-set-requires
-set_at-set-requires c = search sections
-
-pub positions_seen-h-requires : goal.positions_seen-h-requires
-positions_seen-h-requires c = search sections
-
-pub positions_once-requires : goal.positions_once-requires
-positions_once-requires c = search sections
-
-pub returns-then-not-positions_once : goal.returns-then-not-positions_once
-returns-then-not-positions_once c = search (joined, positions-asked)
-
-pub members_kept-requires : goal.members_kept-requires
-members_kept-requires c = search sections
-
-pub returns : goal.returns
-returns c = search (joined, positions-asked)
+pub returns-else-each_once : goal.returns-else-each_once
+unfolding positions_kept
+returns-else-each_once c = grind (arith, common_steps)

@@ -1,15 +1,11 @@
 -- `questions::summary::summary_record_kept` meets its contract: the three rules are the definition's. Assumes nothing.
-use Rattle.model.specs.Fitting.{parent_rule}
-use Rattle.questions.specs.Rules.{flag_rule}
-use Rattle.questions.proofs.TestLaws.{joined, ruled, ruled-no, ruled-yes, compared}
-use Rattle.questions.proofs.SummaryLaws.{summary-asked}
+use Rattle.std.proofs.Common.{arith}
+use Rattle.std.proofs.lemmas.Grind.{common_steps}
+use Rattle.questions.proofs.SummaryLaws.{by_rules}
 use Rattle.questions.proofs.summary.summary_record_kept.Goals as goal
 
-pub returns-then-not-parent_rule : goal.returns-then-not-parent_rule
-returns-then-not-parent_rule c = search (joined, summary-asked, ruled-no parent_rule)
+pub returns-then-label-ne0 : goal.returns-then-label-ne0
+returns-then-label-ne0 c = rw (← by_rules c.args.s.now c.args.i.0) (grind (arith, common_steps))
 
-pub returns-then-summary_label-eq0 : goal.returns-then-summary_label-eq0
-returns-then-summary_label-eq0 c = search (joined, summary-asked, ruled-yes parent_rule, compared)
-
-pub returns : goal.returns
-returns c = search (joined, summary-asked, ruled-yes parent_rule, compared, ruled flag_rule)
+pub returns-else-label-ne0 : goal.returns-else-label-ne0
+returns-else-label-ne0 c = rw (← by_rules c.args.s.now c.args.i.0) (grind (arith, common_steps))

@@ -1,29 +1,13 @@
 -- `refusals::document::document_whole` meets its contract: the length is compared with the definition's end. Assumes nothing.
-use borrow.Author.Rules.{rules}
+use Rattle.std.proofs.Common.{rules, arith, refl, ℕ}
+use Rattle.std.proofs.lemmas.Grind.{common_steps}
 use Rattle.model.specs.Bytes.{is_whole_document}
 use Rattle.refusals.proofs.DocumentLaws.{no-count}
 use Rattle.refusals.proofs.document.document_whole.Goals as goal
 
-pub returns-then-bytes-le1 : goal.returns-then-bytes-le1
+pub returns-then-w-gt1 : goal.returns-then-w-gt1
 unfolding is_whole_document
-returns-then-bytes-le1 c = search no-count
+returns-then-w-gt1 c = rw (← c.field.ensures.0)
 
-pub field-requires : goal.field-requires
-unfolding is_whole_document
-field-requires c = search rules
-
-pub overflow_mul-result : goal.overflow_mul-result
-unfolding is_whole_document
-overflow_mul-result c = search rules
-
-pub overflow_add-result : goal.overflow_add-result
-unfolding is_whole_document
-overflow_add-result c = search rules
-
-pub overflow_mul-result-2 : goal.overflow_mul-result-2
-unfolding is_whole_document
-overflow_mul-result-2 c = search rules
-
-pub returns : goal.returns
-unfolding is_whole_document
-returns c = rw (← c.field.ensures.0)
+pub returns-else-w-gt1 : goal.returns-else-w-gt1
+returns-else-w-gt1 c = let e = no-count c.args.w.now c.if-w-gt1.false in grind (arith, common_steps)

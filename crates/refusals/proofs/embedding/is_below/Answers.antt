@@ -6,8 +6,8 @@ use Rattle.refusals.proofs.embedding.is_below.Goals as goal
 pub loop-x-init : goal.loop-x-init
 loop-x-init c = search climbing
 
-pub summary_parent-x-requires : goal.summary_parent-x-requires
-summary_parent-x-requires c = search climbing
+pub parent-x-requires : goal.parent-x-requires
+parent-x-requires c = search climbing
 
 pub returns-then-x-a : goal.returns-then-x-a
 returns-then-x-a c = search climbing

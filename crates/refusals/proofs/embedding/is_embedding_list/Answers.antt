@@ -1,26 +1,25 @@
--- `refusals::embedding::is_embedding_list` meets its contract: in an accepted case the tables are trees, so a list is an embedding exactly
--- when it has a field for each node and each image passes. Assumes nothing.
-use Rattle.questions.proofs.TestLaws.{joined, compared}
-use Rattle.questions.proofs.RefusalLaws.{accepted-whole}
-use Rattle.refusals.proofs.NumberedLaws.{numbered}
-use Rattle.refusals.proofs.EmbeddingLaws.{images-given, embedding-asked}
+-- `refusals::embedding::is_embedding_list` meets its contract: the count is tested first, and then each image. Assumes nothing.
+use Rattle.std.proofs.Common.{rules, arith, length, ap, ◌∙◌}
+use Rattle.model.specs.Pattern.{Pattern}
+use Rattle.std.proofs.lemmas.Grind.{common_steps}
+use Rattle.refusals.proofs.EmbeddingLaws.{images_given, embedding_asked, kept_by_images}
 use Rattle.refusals.proofs.embedding.is_embedding_list.Goals as goal
 
-pub images_kept-requires : goal.images_kept-requires
-images_kept-requires c =
-    images-given _ c.args.number _ _ c.requires.b_value c.requires.number_value c.numbered_at-at.ensures _ c.pattern_count.ensures.0 c.if-bytes-pattern_count.false
+pub returns-then-l-ne0 : goal.returns-then-l-ne0
+returns-then-l-ne0 c = embedding_asked _ _ _ c.requires.case_facts c.requires.number_given _ (grind (arith, common_steps))
 
-pub numbered_at-at-requires : goal.numbered_at-at-requires
-numbered_at-at-requires c = search (numbered, accepted-whole)
+pub returns-then-l-count : goal.returns-then-l-count
+returns-then-l-count c = embedding_asked _ _ _ c.requires.case_facts c.requires.number_given _ (grind (arith, common_steps))
 
-pub returns-then-bytes-ne0 : goal.returns-then-bytes-ne0
-returns-then-bytes-ne0 c = search (joined, compared, embedding-asked)
-
-pub pattern_count-requires : goal.pattern_count-requires
-pattern_count-requires c = search (numbered, accepted-whole)
-
-pub returns-then-bytes-pattern_count : goal.returns-then-bytes-pattern_count
-returns-then-bytes-pattern_count c = search (joined, compared, embedding-asked)
+pub invariant_of-images : goal.invariant_of-images
+invariant_of-images c =
+    record {
+      given =
+          rw (c.summary-summary.ensures, c.numbered-pattern.ensures)
+          (images_given _ _ _ c.requires.case_facts c.requires.number_given (c.if-l-count.false ∙ c.count.ensures.0 ∙ ap (λ (P : Pattern). length P) c.numbered-pattern.ensures));
+    }
 
 pub returns : goal.returns
-returns c = search (joined, compared, embedding-asked)
+returns c =
+    kept_by_images _ _ _ c.requires.case_facts c.requires.number_given _ _ _ c.summary-summary.ensures c.numbered-pattern.ensures c.if-l-ne0.false
+    (c.if-l-count.false ∙ c.count.ensures.0 ∙ ap (λ (P : Pattern). length P) c.numbered-pattern.ensures) c.are_kept.ensures

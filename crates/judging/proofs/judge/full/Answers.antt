@@ -1,7 +1,0 @@
--- `judging::judge::full` meets its contract: the two entries are the definition's. Assumes nothing.
-use Rattle.judging.specs.Judging.{full_by}
-use Rattle.judging.proofs.judge.full.Goals as goal
-
-pub returns : goal.returns
-unfolding full_by
-returns c = rw (c.high.ensures, c.low.ensures)

@@ -1,5 +1,0 @@
--- `judging::member::low` meets its contract: a byte as an index is itself. Assumes nothing.
-use Rattle.judging.proofs.member.low.Goals as goal
-
-pub returns : goal.returns
-returns c = cc

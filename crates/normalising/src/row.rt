@@ -1,0 +1,95 @@
+// The list of a subtree's entries, at most as many as a tree may have nodes.
+
+ghost use Rattle.std.specs.Prelude.{◌≡◌, ◌+◌, ◌≤◌, ◌<◌, [], ◌∷◌, length};
+ghost use Rattle.model.specs.Gathering.{place_in, opens as opens_in, joined};
+
+use crate::entry::Entry;
+use std::marker::Model;
+
+// As many entries.
+pub const ROW: usize = 64;
+
+#[derive(Drop)]
+pub struct Row {
+    entries: [Entry; ROW],
+    len: usize,
+}
+
+impl Model for Row {
+    ghost use Rattle.std.specs.Prelude.{List, take, ◌≤◌};
+    ghost use Rattle.model.specs.Normal.{Entry};
+
+    ghost Value = { List Entry };
+
+    ghost view = { λ r. take r.len r.entries };
+
+    ghost invariant = { λ r. r.len ≤ 64 };
+}
+
+// The rest of a list goes on with a subtree as deep as the row's root, which the row does not come after.
+fn opens(row: &[Entry], rest: &[Entry]) -> bool
+    requires { (0 < length row.now) × (0 < length rest.now) }
+    ensures { result ≡ opens_in row.now rest.now }
+{
+    let (next, root) = (rest[0], row[0]);
+    next.depth == root.depth && row <= rest
+}
+
+// The first place of a list where a row can stand, or the end.
+fn place(row: &[Entry], into: &[Entry]) -> usize
+    requires { 0 < length row.now }
+    ensures { (result ≡ place_in row.now into.now) × (result ≤ length into.now) }
+{
+    for m in 0..into.len() {
+        if opens(row, &into[m..]) {
+            return m;
+        }
+    }
+    into.len()
+}
+
+impl Row {
+    pub fn new() -> Row
+        ensures { result ≡ [] }
+    {
+        let none = Entry {
+            depth: 0,
+            label: 0,
+            edge: 0,
+            position: 0,
+            figure: 0,
+        };
+        Row {
+            entries: [none; ROW],
+            len: 0,
+        }
+    }
+
+    pub fn entries(&self) -> &[Entry]
+        ensures { result.now ≡ self.now }
+    {
+        &self.entries[..self.len]
+    }
+
+    // It becomes an entry alone.
+    pub fn start(&mut self, entry: Entry)
+        ensures { self.new ≡ entry ∷ [] }
+    {
+        self.entries[0] = entry;
+        self.len = 1;
+    }
+
+    // A complete subtree's row goes in at its place.
+    pub fn insert(&mut self, row: &Row)
+        requires { (0 < length row.now) × (length self.old + length row.now ≤ 64) }
+        ensures { self.new ≡ joined row.now self.old }
+    {
+        let row = row.entries();
+        let (len, end) = (self.len, self.len + row.len());
+        let at = place(row, self.entries());
+        let entries = &mut self.entries[..];
+        entries[len..end].copy_from_slice(row);
+        entries[at..end].rotate_right(row.len());
+        self.len = end;
+    }
+}
