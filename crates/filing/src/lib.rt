@@ -2,36 +2,34 @@
 // a refusal's line, told as Err and for standard error. The number told is how many bytes.
 #![tactic(auto)]
 
-ghost use Rattle.std.specs.Prelude.{◌<◌};
 ghost use Rattle.model.specs.Text.{refused_text, upgrade_told, downgrade_told, normalise_told};
+ghost use Rattle.questions.specs.Refusal.{number_of};
 ghost use Rattle.text.specs.Told.{Filed};
 ghost use Rattle.filing.specs.Filed.{Answered};
 
-use moving::answers::Moved;
 use moving::downgrade::downgrade_call;
 use moving::upgrade::upgrade_call;
 use normalising::normalise_call;
+use questions::refusal::Refusal;
 use text::page::Page;
 
 // A refusal's line, put at the front, and how many bytes it has.
-fn refusal_line(refused: u64, out: &mut [u8; 8192]) -> usize
-    requires { refused < 100 }
-    ensures { Filed (record { stream = 2; bytes = refused_text refused }) out.old out.new (Err result) }
+fn refusal_line(refusal: Refusal, out: &mut [u8; 8192]) -> usize
+    ensures { Filed (record { stream = 2; bytes = refused_text (number_of refusal) }) out.old out.new (Err result) }
 {
     let mut page = Page::new(out);
-    page.line(b"refused", refused);
+    page.line(b"refused", refusal.number());
     page.at
 }
 
 // Of a call's answer: a refusal's line is put at the front; a written case stands there.
-fn tell(moved: Moved, out: &mut [u8; 8192]) -> Result<usize, usize>
-    requires { moved.refused < 100 }
-    ensures { Answered moved out.old out.new result }
+fn tell(written: Result<usize, Refusal>, out: &mut [u8; 8192]) -> Result<usize, usize>
+    ensures { Answered written out.old out.new result }
 {
-    if moved.refused != 0 {
-        return Err(refusal_line(moved.refused, out));
+    match written {
+        Ok(count) => Ok(count),
+        Err(refusal) => Err(refusal_line(refusal, out)),
     }
-    Ok(moved.count as usize)
 }
 
 // Of an old case from standard input: the set of one that it is.

@@ -6,8 +6,8 @@ use Rattle.filing.proofs.refusal_line.Goals as goal
 
 pub line-requires : goal.line-requires
 unfolding refused_text
-line-requires c = line-room _ c.requires c.new-page.ensures.front (search rules)
+line-requires c = line-room c.args.refusal c.number.ensures c.new-page.ensures.front (search rules)
 
 pub returns : goal.returns
 unfolding refused_text
-returns c = rw (← c.new-page.ensures.bytes) (line-filed _ c.new-page.ensures.front c.line.ensures)
+returns c = rw (← c.new-page.ensures.bytes, ← c.number.ensures) (line-filed _ c.new-page.ensures.front c.line.ensures)
