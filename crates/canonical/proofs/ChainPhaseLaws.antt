@@ -58,10 +58,6 @@ laying-start S P es {count = count} c =
       rest = ap (lay_nodes es S root_layout) (drop-one P);
     }
 
--- the own nodes' table keeps its length
-pub laying-own : {S : Summary} {P : Pattern} {es : List ℕ} {base now : Tables} {own : List ℕ} {q count : ℕ} → Laying S P es base now own q count → q ≤ max_pattern → length own ≡ max_pattern
-laying-own l h = ap (λ (x : List ℕ). length x) l.own_front ∙ front_length l.layout.own (replicate 16 0) (let n = l.own_length in omega arith)
-
 -- all pattern nodes are laid out
 pub laying-end : {S : Summary} {P : Pattern} {es : List ℕ} {base now : Tables} {own : List ℕ} {q count : ℕ}
     → Laying S P es base now own q count → length P ≤ q → Drafted S (chains S P es).spots base now count × (own ≡ written_at_front (chains S P es).own (replicate 16 0))

@@ -36,10 +36,6 @@ module _ {S : Summary} {P : Pattern} {images : List ℕ} {k : ℕ} (h : Showable
     own-size : length (own_nodes S P es) ≡ length P
     own-size = let e = h.embedded in (canonical-built S P es e.summary.tree e.pattern.tree e.embedding).own_length
 
-    pub own-length : length r.own ≡ max_pattern
-    own-length =
-        ap (λ (xs : List ℕ). length xs) w.own ∙ front_length (own_nodes S P es) (replicate 16 0) (let n = own-size in let f = h.embedded.pattern.few in omega arith)
-
     own-node : (i : ℕ) → i < k → image_in r.own (node_at P (i + 1)) ≡ image_in (own_nodes S P es) (node_at P (i + 1))
     own-node i p =
         let n = own-size in

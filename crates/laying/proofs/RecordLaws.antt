@@ -45,10 +45,6 @@ use Rattle.laying.specs.Array.{records_in, IsFilled}
 abbrev no_record : LaidRecord
 no_record = record { parent = 0; summary_node = 0; label = 0; figure = 0 }
 
-pub record-made : {p : DocumentNode} {a : SummaryNode} {l f : ℕ} (w : Document) (on : List ℕ) (i : ℕ) → p.0 ≡ parent_of w i → a.0 ≡ get_or on i 0 → l ≡ label_of w i
-    → f ≡ figure_of w i → ◌≡◌ {A = NodeRecord} (record { parent = p; at = a; label = l; figure = f }) (node_record (laid_at w on i))
-record-made w on i p a l f = λ k. record { parent = record { 0 = p k }; at = record { 0 = a k }; label = l k; figure = f k }
-
 pub length-blank : length blank_nodes ≡ min_table
 unfolding blank_nodes
 length-blank = length-replicate min_table (node_record no_record)
