@@ -6,14 +6,14 @@ use mathlib.Core.List.{List, map}
 use native.Mathlib.Omega.{arith}
 use lib.ListN.{length, get_or, take, replicate, length-map}
 use lib.Seq.{ext_get_or}
-use Rattle.model.specs.Limits.{max_pattern, max_canonical}
+use Rattle.model.specs.Limits.{max_canonical}
 use Rattle.model.specs.Summary.{Summary}
 use Rattle.model.specs.Pattern.{Pattern, node_at, return_nodes}
 use Rattle.model.specs.Embeddings.{image_in}
 use Rattle.model.specs.Canonical.{canonical, own_nodes, own_result}
 use Rattle.model.specs.Bytes.{encode_document, encode_counted, written_at_front}
 use Rattle.model.proofs.ListLaws.{length-map-up_from}
-use Rattle.model.proofs.Bytes.{front_length, front-written}
+use Rattle.model.proofs.Bytes.{front-written}
 use Rattle.model.proofs.Canonical.{length-canonical, canonical-built}
 use Rattle.model.proofs.ReturnNodes.{length-return_nodes, return-at}
 use Rattle.format.proofs.FrontLaws.{front-get_or}

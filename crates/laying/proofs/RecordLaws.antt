@@ -1,7 +1,7 @@
 -- The layout by value: the records that are read off a document are the model's, a refusal lays out none, and what is laid out for a
 -- table of 1,024 records is what is laid out for any larger one, since its size is asked only to be large enough. Assumes nothing.
 use Prim.Native.Nat.{ℕ, ◌≤◌, ◌<◌}
-use mathlib.Core.Path.{◌≡◌, sym, ap, ap₂, ◌∙◌, subst}
+use mathlib.Core.Path.{◌≡◌, sym, ap, ◌∙◌, subst}
 use mathlib.Core.Bool.{Bool, true, false}
 use mathlib.Core.List.{List, [], ◌∷◌, ◌++◌, map, map-map, map-id}
 use native.Mathlib.Omega.{arith}
@@ -33,8 +33,6 @@ use Rattle.questions.specs.declared.refusal.Refusal.{Refusal}
 use Rattle.questions.specs.Refusal.{number_of, asked}
 use Rattle.questions.proofs.RefusalLaws.{number-not_zero}
 use Rattle.refusals.proofs.AcceptedLaws.{selected-size}
-use Rattle.format.specs.declared.nodes.DocumentNode.{DocumentNode}
-use Rattle.format.specs.declared.nodes.SummaryNode.{SummaryNode}
 use Rattle.laying.specs.declared.laid.NodeRecord.{NodeRecord}
 use Rattle.laying.specs.Records.{node_record, record_of, laid_at, laid_in, blank_nodes, at_front, laid_nodes, laid_for, laid, outcome_for, LaidBy}
 use Rattle.laying.specs.Array.{records_in, IsFilled}
