@@ -5,7 +5,6 @@ use mathlib.Core.List.{List}
 use native.Mathlib.Omega.{arith}
 use lib.Bits.{bit_or}
 use lib.ListN.{length, get_or, set}
-use Rattle.model.specs.Tree.{Rooted}
 use Rattle.judging.specs.Judging.{join_up, gather}
 
 -- one node's turn
@@ -46,11 +45,3 @@ module _ {parent : ℕ → ℕ} {F : ℕ → ℕ → ℕ} {m : ℕ} {start : Lis
 
   pub gathering-end : {c : ℕ} {t : List ℕ} → Gathering parent F m start c t → c ≤ 1 → t ≡ gather parent F (m - 1) start
   gathering-end {c} {t} v h = let l : 0 < c = v.low in sym (gather_none parent F (c - 1) t (omega arith)) ∙ v.same
-
-  -- the parent's entry is in the table
-  pub gathering-room : {c j : ℕ} {t : List ℕ} → Rooted m parent → Gathering parent F m start c t → 1 < c → m ≤ length start → j ≡ parent (c - 1) → j < length t
-  gathering-room {c} {j} {t} T v h l e =
-      let k : c ≤ m = v.top in
-      let i : parent (c - 1) < c - 1 = T.earlier (c - 1) (omega arith) (omega arith) in
-      let n : length t ≡ length start = v.long in
-      omega arith
