@@ -1,7 +1,7 @@
 pub mod Skipping
 pub mod Offered
 mod JoinLaws
-mod FillLaws
+pub mod FillLaws
 mod OpenLaws
 pub mod RowsLaws
-pub mod TableLaws
+mod TableLaws

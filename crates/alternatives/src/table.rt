@@ -23,6 +23,7 @@ const ROOM: usize = 2048;
 // known at least by that.
 const SPARE: usize = 1024;
 
+#[derive(Drop)]
 pub struct Table {
     cells: [Cell; 1024],
     sets: [Offer; 2048],

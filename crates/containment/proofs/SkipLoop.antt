@@ -2,13 +2,13 @@
 use Prim.Native.Nat.{ℕ, ◌+◌, ◌-◌, ◌≤◌, ◌<◌}
 use mathlib.Core.Path.{◌≡◌, refl, sym, ap, ◌∙◌, subst}
 use mathlib.Core.Bool.{Bool, true, false}
-use mathlib.Core.List.{List, Memᴰ}
+use mathlib.Core.List.{List, ◌∷◌, Memᴰ}
 use native.Mathlib.Omega.{arith}
-use lib.Count.{count_trailing_zeros}
 use lib.Dec.{ltb}
 use lib.ListN.{length, get_or, set, take}
 use lib.Seq.{get_or-take, get_or-set_same, get_or-set_other}
 use borrow.Author.Tests.{ltb-true, ltb-false}
+use Rattle.std.specs.Prelude.{Result}
 use Rattle.model.specs.Lists.{has, members}
 use Rattle.model.specs.Pattern.{Pattern, IsPatternTree, pattern_parent}
 use Rattle.model.specs.Skipping.{skip}
@@ -17,7 +17,7 @@ use Rattle.judging.specs.Stepping.{Candidates, step_from, places_by, sites_by}
 use Rattle.alternatives.proofs.Skipping.{covered-skips}
 use Rattle.containment.specs.Steps.{progress_of, Stepped}
 use Rattle.containment.specs.declared.Budget.{Budget}
-use Rattle.containment.specs.declared.Run.{Run}
+use Rattle.containment.specs.declared.Halt.{Halt}
 use Rattle.containment.proofs.StepLoop.{sites-take, StepInv, first-among}
 
 -- ---- the images so far
@@ -78,18 +78,18 @@ module _ {P : Pattern} {M : Candidates} (T : IsPatternTree P) where
 -- ---- stepping
 
 -- with the next node placed, the images still stand at places of theirs
-pub placed-step : {test : List ℕ → Bool} {P : Pattern} {M : Candidates} {q : ℕ} {n : Budget} {entry images : List ℕ} {rest v : ℕ} {now : Budget} {images' : List ℕ} → IsPatternTree P → length entry ≡ length P
-    → StepInv test P M q n entry images rest now → PlacedBy P M q entry → 0 < q → q < length P → (rest ≡ 0 → ⊥) → v ≡ count_trailing_zeros 64 rest → images' ≡ set images q v → PlacedBy P M (q + 1) images'
-placed-step {P = P} {M} {q} {entry = entry} {images} {v = v} t e I G z h ne p s =
+pub placed-step : {test : List ℕ → Bool} {P : Pattern} {M : Candidates} {q : ℕ} {n : Budget} {entry images rest : List ℕ} {v : ℕ} {rest' : List ℕ} {now : Budget} {images' : List ℕ} → IsPatternTree P → length entry ≡ length P
+    → StepInv test P M q n entry images rest now → PlacedBy P M q entry → 0 < q → q < length P → rest ≡ v ∷ rest' → images' ≡ set images q v → PlacedBy P M (q + 1) images'
+placed-step {P = P} {M} {q} {entry = entry} {images} {v = v} t e I G z h p s =
     let k : length images ≡ length P = I.placed in
     let l : pattern_parent P q < q = t.earlier q z h in
     let same : get_or entry (pattern_parent P q) 0 ≡ get_or images (pattern_parent P q) 0 = sym (get_or-take q entry (pattern_parent P q) 0 l) ∙ ap (λ (xs : List ℕ). get_or xs (pattern_parent P q) 0) (sym I.kept) ∙ get_or-take q images (pattern_parent P q) 0 l in
     subst (λ (es : List ℕ). PlacedBy P M (q + 1) es) (sym s)
     (placed-next t q v images z h (omega arith) (placed-kept t q entry images z (omega arith) I.kept G)
-    (subst (λ (x : ℕ). Memᴰ v (members (places_by P M q x))) same (subst (λ (m : ℕ). Memᴰ v (members m)) (sites-take P M entry q (omega arith) l) (first-among I ne p))))
+    (subst (λ (x : ℕ). Memᴰ v (members (places_by P M q x))) same (subst (λ (m : ℕ). Memᴰ v (members m)) (sites-take P M entry q (omega arith) l) (first-among I p))))
 
 -- all extensions pass, and are skipped
-pub step_skip : {test : List ℕ → Bool} {P : Pattern} {M : Candidates} {counts : List ℕ} {K q : ℕ} {n : Budget} {c : ℕ} {entry : List ℕ} {r : Run} → Counts P M counts K → PlacedBy P M q entry
+pub step_skip : {test : List ℕ → Bool} {P : Pattern} {M : Candidates} {counts : List ℕ} {K q : ℕ} {n : Budget} {c : ℕ} {entry : List ℕ} {r : Result Budget Halt} → Counts P M counts K → PlacedBy P M q entry
     → 0 < q → q ≤ length P → n.left < K → length entry ≡ length P → ((c : ℕ) → c < length P → get_or entry c 0 < 64)
     → ((fs : List ℕ) → Memᴰ fs (step_from (sites_by P M) (length P - q) (take q entry)) → test fs ≡ true) → c ≡ left_by K P counts q entry
     → ((es : List ℕ) → progress_of es r ≡ skip n.left n.tried c) → Stepped test P M q n entry entry r

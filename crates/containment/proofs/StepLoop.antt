@@ -7,23 +7,22 @@ use mathlib.Core.List.{List, [], ◌∷◌, ◌++◌, flat_map, Memᴰ}
 use native.Mathlib.Omega.{arith}
 use native.Mathlib.Numerals.{add-one}
 use lib.Bits.{bit_and}
-use lib.Count.{count_trailing_zeros}
 use lib.Dec.{eqb}
 use lib.ListN.{length, get_or, set, take, length-set}
 use lib.Seq.{length-take-le, take-length, take-take, take-suc-set, take-set-le, get_or-take, get_or-set_same, get_or-set_other}
 use borrow.Author.Tests.{eqb-true, eqb-false}
+use Rattle.std.specs.Prelude.{Result, Ok, Err}
 use Rattle.model.specs.Lists.{has, members}
 use Rattle.model.specs.Pattern.{Pattern, pattern_parent, descends}
 use Rattle.model.specs.Verdict.{Progress, going, failed, halted, step, run}
 use Rattle.model.proofs.Verdict.{run-append, run-failed, run-halted, step-pass, step-fail}
-use Rattle.judging.specs.Room.{Steppable}
+use Rattle.judging.specs.Room.{Placed}
 use Rattle.judging.specs.Stepping.{Candidates, step_from, reach_by, places_by, sites_by, all_by}
 use Rattle.model.proofs.KeepLaws.{flat-cons}
-use Rattle.bits.proofs.MaskMembers.{members-none, first-left}
 use Rattle.containment.specs.Steps.{going_by, progress_of, Stepped}
 use Rattle.containment.specs.declared.Budget.{Budget}
-use Rattle.containment.specs.declared.Run.{Run}
-use Rattle.containment.specs.declared.Run.TheVariants.{Going, Failed, Stopped}
+use Rattle.containment.specs.declared.Halt.{Halt}
+use Rattle.containment.specs.declared.Halt.TheVariants.{Failed, Stopped}
 
 -- ---- one embedding tried
 
@@ -80,22 +79,21 @@ run-sum test (suc left) tried l t (x ∷ xs) e = go (test x) e (λ a b p. run-su
 
 module _ (test : List ℕ → Bool) (P : Pattern) (M : Candidates) where
   -- what is left to step through with the places of node q in `rest`, after the images es
-  abbrev pub ahead : ℕ → List ℕ → ℕ → List (List ℕ)
-  ahead q es rest = flat_map (λ v. step_from (sites_by P M) (length P - (q + 1)) (es ++ v ∷ [])) (members rest)
+  abbrev pub ahead : ℕ → List ℕ → List ℕ → List (List ℕ)
+  ahead q es rest = flat_map (λ v. step_from (sites_by P M) (length P - (q + 1)) (es ++ v ∷ [])) rest
 
   -- where the loop stands: rest has the places of node q that are left
-  pub record StepInv (q : ℕ) (n : Budget) (entry images : List ℕ) (rest : ℕ) (now : Budget) : Type 0 where
+  pub record StepInv (q : ℕ) (n : Budget) (entry images rest : List ℕ) (now : Budget) : Type 0 where
     pub kept : take q images ≡ take q entry
     pub placed : length images ≡ length P
     pub inside : (c : ℕ) → c < length P → get_or images c 0 < 64
     pub sum : now.left + now.tried ≡ n.left + n.tried
-    pub fits : rest < 2 ^ 64
-    pub among : (v : ℕ) → Memᴰ v (members rest) → Memᴰ v (members (sites_by P M (take q entry)))
+    pub among : (v : ℕ) → Memᴰ v rest → Memᴰ v (members (sites_by P M (take q entry)))
     pub same : run test (going_by now) (ahead q (take q entry) rest) ≡ run test (going_by n) (step_from (sites_by P M) (length P - q) (take q entry))
 
 module _ {test : List ℕ → Bool} {P : Pattern} {M : Candidates} {q : ℕ} {n : Budget} {entry : List ℕ} where
   -- a whole embedding
-  pub step-leaf : {r : Run} → q ≡ length P → length entry ≡ length P → ((c : ℕ) → c < length P → get_or entry c 0 < 64) → progress_of entry r ≡ step test (going_by n) entry
+  pub step-leaf : {r : Result Budget Halt} → q ≡ length P → length entry ≡ length P → ((c : ℕ) → c < length P → get_or entry c 0 < 64) → progress_of entry r ≡ step test (going_by n) entry
       → Stepped test P M q n entry entry r
   unfolding step_from run
   step-leaf {r} e p i s =
@@ -111,35 +109,34 @@ module _ {test : List ℕ → Bool} {P : Pattern} {M : Candidates} {q : ℕ} {n 
       all : take q entry ≡ entry
       all = ap (λ (k : ℕ). take k entry) (e ∙ sym p) ∙ take-length entry
 
-  pub step_start : {rest : ℕ} → q < length P → length entry ≡ length P → ((c : ℕ) → c < length P → get_or entry c 0 < 64) → rest ≡ sites_by P M (take q entry) → rest < 2 ^ 64
+  pub step_start : {rest : List ℕ} → q < length P → length entry ≡ length P → ((c : ℕ) → c < length P → get_or entry c 0 < 64) → rest ≡ members (sites_by P M (take q entry))
       → StepInv test P M q n entry entry rest n
   unfolding step_from
-  step_start {rest} h p i e f =
+  step_start {rest} h p i e =
       record {
         kept = refl;
         placed = p;
         inside = i;
         sum = refl;
-        fits = f;
-        among = λ v k. subst (λ (s : ℕ). Memᴰ v (members s)) e k;
-        same = ap (λ (k : ℕ). run test (going_by n) (ahead test P M q (take q entry) k)) e ∙ ap (λ (k : ℕ). run test (going_by n) (step_from (sites_by P M) k (take q entry))) more;
+        among = λ v k. subst (λ (s : List ℕ). Memᴰ v s) e k;
+        same = ap (λ (k : List ℕ). run test (going_by n) (ahead test P M q (take q entry) k)) e ∙ ap (λ (k : ℕ). run test (going_by n) (step_from (sites_by P M) k (take q entry))) more;
       }
     where
       more : suc (length P - (q + 1)) ≡ length P - q
       more = omega arith
 
-  pub step_end : {images : List ℕ} {rest : ℕ} {now : Budget} → StepInv test P M q n entry images rest now → rest ≡ 0 → Stepped test P M q n entry images (Going now)
+  pub step_end : {images rest : List ℕ} {now : Budget} → StepInv test P M q n entry images rest now → rest ≡ [] → Stepped test P M q n entry images (Ok now)
   unfolding flat_map run
   step_end {images} {rest} {now} v e =
       record {
         kept = v.kept;
         inside = v.inside;
-        same = sym (ap (λ (xs : List ℕ). run test (going_by now) (flat_map (λ v. step_from (sites_by P M) (length P - (q + 1)) (take q entry ++ v ∷ [])) xs)) (ap members e ∙ members-none)) ∙ v.same;
+        same = sym (ap (λ (xs : List ℕ). run test (going_by now) (flat_map (λ v. step_from (sites_by P M) (length P - (q + 1)) (take q entry ++ v ∷ [])) xs)) e) ∙ v.same;
       }
 
   -- one place more, by the recursion
-  module _ {images : List ℕ} {rest v rest' : ℕ} {now : Budget} {images' images'' : List ℕ} {r : Run} (I : StepInv test P M q n entry images rest now) (h : q < length P) (ne : rest ≡ 0 → ⊥)
-      (p : v ≡ count_trailing_zeros 64 rest) (p' : rest' ≡ rest - 2 ^ v) (s : images' ≡ set images q v) (S : Stepped test P M (q + 1) now images' images'' r) where
+  module _ {images rest : List ℕ} {v : ℕ} {rest' : List ℕ} {now : Budget} {images' images'' : List ℕ} {r : Result Budget Halt} (I : StepInv test P M q n entry images rest now) (h : q < length P)
+      (p : rest ≡ v ∷ rest') (s : images' ≡ set images q v) (S : Stepped test P M (q + 1) now images' images'' r) where
     longer : take (q + 1) images' ≡ take q entry ++ v ∷ []
     longer =
         let k : length images ≡ length P = I.placed in
@@ -152,15 +149,15 @@ module _ {test : List ℕ → Bool} {P : Pattern} {M : Candidates} {q : ℕ} {n 
 
     next-same : run test (progress_of images'' r) (ahead test P M q (take q entry) rest') ≡ run test (going_by n) (step_from (sites_by P M) (length P - q) (take q entry))
     next-same =
-        ap (λ (g : Progress). run test g (flat_map F (members rest'))) (S.same ∙ ap (λ (es : List ℕ). run test (going_by now) (step_from (sites_by P M) (length P - (q + 1)) es)) longer)
-        ∙ sym (run-append test (going_by now) (F v) (flat_map F (members rest')))
-        ∙ ap (run test (going_by now)) (sym (flat-cons F v (members rest')) ∙ ap (flat_map F) (sym (first-left I.fits ne p p')))
+        ap (λ (g : Progress). run test g (flat_map F rest')) (S.same ∙ ap (λ (es : List ℕ). run test (going_by now) (step_from (sites_by P M) (length P - (q + 1)) es)) longer)
+        ∙ sym (run-append test (going_by now) (F v) (flat_map F rest'))
+        ∙ ap (run test (going_by now)) (sym (flat-cons F v rest') ∙ ap (flat_map F) (sym p))
         ∙ I.same
       where
         F : ℕ → List (List ℕ)
         F u = step_from (sites_by P M) (length P - (q + 1)) (take q entry ++ u ∷ [])
 
-    pub step-again : {now' : Budget} → length images'' ≡ length images → r ≡ Going now' → StepInv test P M q n entry images'' rest' now'
+    pub step-again : {now' : Budget} → length images'' ≡ length images → r ≡ Ok now' → StepInv test P M q n entry images'' rest' now'
     step-again {now'} len e =
         let G : progress_of images'' r ≡ going_by now' = ap (progress_of images'') e in
         record {
@@ -168,32 +165,24 @@ module _ {test : List ℕ → Bool} {P : Pattern} {M : Candidates} {q : ℕ} {n 
           placed = len ∙ I.placed;
           inside = S.inside;
           sum = run-sum test now.left now.tried now'.left now'.tried (step_from (sites_by P M) (length P - (q + 1)) (take (q + 1) images')) (sym S.same ∙ G) ∙ I.sum;
-          fits = let k : rest < 2 ^ 64 = I.fits in omega arith;
-          among = λ u k. I.among u (subst (λ (us : List ℕ). Memᴰ u us) (sym (first-left I.fits ne p p')) (Memᴰ.tail k));
+          among = λ u k. I.among u (subst (λ (us : List ℕ). Memᴰ u us) (sym p) (Memᴰ.tail k));
           same = ap (λ (g : Progress). run test g (ahead test P M q (take q entry) rest')) (sym G) ∙ next-same;
         }
 
   -- the verdict is known
-  pub step-over : {images : List ℕ} {rest v rest' : ℕ} {now : Budget} {images' images'' : List ℕ} (r : Run) → StepInv test P M q n entry images rest now → q < length P → (rest ≡ 0 → ⊥)
-      → v ≡ count_trailing_zeros 64 rest → rest' ≡ rest - 2 ^ v → images' ≡ set images q v → Stepped test P M (q + 1) now images' images'' r → ((x : Budget) → r ≡ Going x → ⊥)
-      → Stepped test P M q n entry images'' r
-  step-over (Going a) I h ne p p' s S other = absurd (other a refl)
-  step-over {rest' = rest'} {images'' = images''} (Failed a) I h ne p p' s S tag =
-      record {
-        kept = next-kept I h ne p p' s S;
-        inside = S.inside;
-        same = sym (run-failed test a images'' (ahead test P M q (take q entry) rest')) ∙ next-same I h ne p p' s S;
-      }
-  step-over {rest' = rest'} {images'' = images''} (Stopped a) I h ne p p' s S tag =
-      record {
-        kept = next-kept I h ne p p' s S;
-        inside = S.inside;
-        same = sym (run-halted test a (ahead test P M q (take q entry) rest')) ∙ next-same I h ne p p' s S;
-      }
+  pub step-over : {images rest : List ℕ} {v : ℕ} {rest' : List ℕ} {now : Budget} {images' images'' : List ℕ} {r : Result Budget Halt} (e : Halt) → StepInv test P M q n entry images rest now → q < length P
+      → rest ≡ v ∷ rest' → images' ≡ set images q v → Stepped test P M (q + 1) now images' images'' r → r ≡ Err e → Stepped test P M q n entry images'' (Err e)
+  step-over {rest' = rest'} {images'' = images''} e I h p s S tag =
+      let S' = subst (Stepped test P M (q + 1) _ _ images'') tag S in
+      record { kept = next-kept I h p s S'; inside = S'.inside; same = over e ∙ next-same I h p s S' }
+    where
+      over : (e : Halt) → progress_of images'' (Err e) ≡ run test (progress_of images'' (Err e)) (ahead test P M q (take q entry) rest')
+      over (Failed a) = sym (run-failed test a images'' (ahead test P M q (take q entry) rest'))
+      over (Stopped a) = sym (run-halted test a (ahead test P M q (take q entry) rest'))
 
   -- the first place left is one of the node's
-  pub first-among : {images : List ℕ} {rest v : ℕ} {now : Budget} → StepInv test P M q n entry images rest now → (rest ≡ 0 → ⊥) → v ≡ count_trailing_zeros 64 rest → Memᴰ v (members (sites_by P M (take q entry)))
-  first-among {v = v} I ne p = I.among v (subst (λ (us : List ℕ). Memᴰ v us) (sym (first-left I.fits ne p refl)) (Memᴰ.head refl))
+  pub first-among : {images rest : List ℕ} {v : ℕ} {rest' : List ℕ} {now : Budget} → StepInv test P M q n entry images rest now → rest ≡ v ∷ rest' → Memᴰ v (members (sites_by P M (take q entry)))
+  first-among {v = v} I p = I.among v (subst (λ (us : List ℕ). Memᴰ v us) (sym p) (Memᴰ.head refl))
 
 -- ---- other images
 
@@ -206,21 +195,13 @@ placed-inside {m} {q} {v} images {images'} h k s i c l = subst (λ (xs : List �
     go false e = subst (λ (x : ℕ). x < 64) (sym (get_or-set_other images q c v 0 (eqb-false c q e))) (i c l)
 
 -- other images in the summary do as well
-pub other-images : {ts : List (List ℕ)} {p : List ℕ} {at : ℕ} {images : List ℕ} (images' : List ℕ) → Steppable ts p at images → length images' ≡ length images → ((c : ℕ) → c < length images → get_or images' c 0 < 64)
-    → Steppable ts p at images'
-other-images images' R e i =
-    record {
-      base = R.base;
-      stands = record { pattern = R.stands.pattern; placed = e ∙ R.stands.placed; inside = λ c h. i c (subst (λ (n : ℕ). c < n) (sym R.stands.placed) h) };
-    }
+pub other-images : {P : Pattern} {images : List ℕ} (images' : List ℕ) → Placed P images → length images' ≡ length images → ((c : ℕ) → c < length images → get_or images' c 0 < 64) → Placed P images'
+other-images images' R e i = record { pattern = R.pattern; placed = e ∙ R.placed; inside = λ c h. i c (subst (λ (n : ℕ). c < n) (sym R.placed) h) }
 
 -- with one node placed
-pub images-placed : {ts : List (List ℕ)} {p : List ℕ} {at q v : ℕ} {images images' : List ℕ} → Steppable ts p at images → q < length images → v < 64 → images' ≡ set images q v → Steppable ts p at images'
-images-placed {q = q} {v = v} {images = images} {images' = images'} R h k s =
-    record {
-      base = R.base;
-      stands = record { pattern = R.stands.pattern; placed = ap length s ∙ length-set images q v ∙ R.stands.placed; inside = placed-inside images h k s R.stands.inside };
-    }
+pub images-placed : {P : Pattern} {q v : ℕ} {images images' : List ℕ} → Placed P images → q < length images → v < 64 → images' ≡ set images q v → Placed P images'
+images-placed {q = q} {v = v} {images = images} R h k s =
+    record { pattern = R.pattern; placed = ap length s ∙ length-set images q v ∙ R.placed; inside = placed-inside images h k s R.inside }
 
 -- ---- all embeddings
 
@@ -229,7 +210,7 @@ module _ (test : List ℕ → Bool) (P : Pattern) (M : Candidates) (limit : ℕ)
   unfolding all_by run
   all_none e = sym (ap (λ (b : Bool). run test (going limit 0) (elim b as (λ _. List (List ℕ)) [ true ↦ step_from (sites_by P M) (length P - 1) (0 ∷ []) | false ↦ [] ])) e)
 
-  pub all-some : {n : Budget} (images : List ℕ) {images' images'' : List ℕ} {r : Run} → going_by n ≡ going limit 0 → has (M.parts 0) 0 ≡ true → 0 < length images → images' ≡ set images 0 0
+  pub all-some : {n : Budget} (images : List ℕ) {images' images'' : List ℕ} {r : Result Budget Halt} → going_by n ≡ going limit 0 → has (M.parts 0) 0 ≡ true → 0 < length images → images' ≡ set images 0 0
       → Stepped test P M 1 n images' images'' r → progress_of images'' r ≡ run test (going limit 0) (all_by P M)
   unfolding all_by
   all-some {n} images {images'} g e h s S =

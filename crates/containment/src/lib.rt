@@ -6,22 +6,24 @@ mod steps;
 pub mod verdict;
 
 // How many embeddings may still be tried, and how many were and passed.
-#[derive(Clone, Copy)]
+#[derive(Clone, Copy, Debug, PartialEq, Eq)]
 pub struct Budget {
     pub left: u64,
     pub tried: u64,
 }
 
-// How far the trials have come; or one failed, or the limit was met with more to try, each with how many were tried.
-#[derive(Clone, Copy)]
-pub enum Run {
-    Going(Budget),
+// Why trials end early, with how many were tried: one failed, or the limit was met with more to try.
+#[derive(Clone, Copy, Debug, PartialEq, Eq)]
+pub enum Halt {
     Failed(u64),
     Stopped(u64),
 }
 
+// How far the trials have come, unless they ended early.
+pub type Run = Result<Budget, Halt>;
+
 // Document 01's verdict, with how many were tried: included, not included, stopped.
-#[derive(Clone, Copy)]
+#[derive(Clone, Copy, Debug, PartialEq, Eq)]
 pub enum Containment {
     Contained(u64),
     NotContained(u64),

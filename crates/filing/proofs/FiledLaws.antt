@@ -2,12 +2,11 @@
 -- and else the bytes that the call wrote. Assumes nothing.
 use Prim.Native.Nat.{ℕ, ◌≤◌, ◌<◌}
 use mathlib.Core.Path.{◌≡◌, refl, sym, ap, ◌∙◌, subst}
-use mathlib.Core.Logic.{◌≢◌}
 use mathlib.Core.List.{List}
 use native.Mathlib.Omega.{arith}
-use lib.ListN.{length, drop, length-append}
+use lib.ListN.{length}
+use Rattle.std.specs.Prelude.{Result, Ok, Err}
 use Rattle.model.specs.Limits.{min_buffer}
-use Rattle.model.specs.Bytes.{written_at_front}
 use Rattle.model.specs.Calls.{CountOutcome}
 use Rattle.model.specs.Moving.{upgrade_refusal, downgrade_refusal, upgraded, downgraded, moved_accepted}
 use Rattle.model.specs.Normal.{normalise_refusal, normalised}
@@ -15,102 +14,86 @@ use Rattle.model.specs.Text as model
 use Rattle.model.specs.Demands as demands
 use Rattle.model.proofs.Calls.{by_number}
 use Rattle.model.proofs.Moving.{moved-accepted}
-use Rattle.model.proofs.Text.{refused-short, told-refused, told-accepted, upgrade-most, downgrade-most, normalise-most}
+use Rattle.model.proofs.Text.{refused-short, told-refused, told-accepted}
+use Rattle.questions.specs.Refusal.{number_of}
+use Rattle.questions.specs.declared.refusal.Refusal.{Refusal}
+use Rattle.questions.specs.declared.refusal.Refusal.TheVariants.{Limit, Room as Room', Bytes, Counts, SummaryRecords, Siblings, PatternRecords, Positions, Tally, Document, ResultList, PatternNumber, Embedding, SetCount, OldForm, Caller, Figure}
+use Rattle.questions.proofs.RefusalLaws.{number-not_zero}
 use Rattle.text.specs.Put.{Room, Put}
+use Rattle.text.specs.Told.{Filed, stream_of, count_of}
+use Rattle.text.specs.declared.page.Page.{Page}
 use Rattle.text.proofs.PutLaws.{put_front}
 use Rattle.moving.specs.Answers.{moved_of}
-use Rattle.moving.specs.declared.answers.Moved.{Moved}
-use Rattle.filing.specs.Filed.{Filed, Answered}
-use Rattle.filing.specs.declared.Told.{Told}
+use Rattle.filing.specs.Filed.{Answered}
 
 -- ---- the line of a refusal
 
-pub line-room : (n : ℕ) {out : List ℕ} → n < 100 → 11 ≤ length out → Room (model.refused_text n) 0 out
-line-room n h l = record { fits = omega (arith, refused-short n h) }
+number-small : (r : Refusal) → number_of r < 100
+number-small Limit = omega arith
+number-small Room' = omega arith
+number-small Bytes = omega arith
+number-small Counts = omega arith
+number-small SummaryRecords = omega arith
+number-small Siblings = omega arith
+number-small PatternRecords = omega arith
+number-small Positions = omega arith
+number-small Tally = omega arith
+number-small Document = omega arith
+number-small ResultList = omega arith
+number-small PatternNumber = omega arith
+number-small Embedding = omega arith
+number-small SetCount = omega arith
+number-small OldForm = omega arith
+number-small Caller = omega arith
+number-small Figure = omega arith
 
-pub line-filed : (n : ℕ) {before after : List ℕ} {stop : ℕ} → Put (model.refused_text n) 0 before after stop
-    → Filed (record { stream = 2; bytes = model.refused_text n }) before after (record { stream = 2; count = stop })
-line-filed n p = record { stream = refl; counted = omega (arith, p.ends); bytes = put_front p }
+pub line-room : (r : Refusal) {n : ℕ} {page : Page} → n ≡ number_of r → page.at ≡ 0 → 11 ≤ length page.out.now → Room (model.refused_text n) page
+line-room r {n} e z l = record { fits = omega (arith, refused-short n (omega (arith, e, number-small r))) }
+
+pub line-filed : (n : ℕ) {before after : Page} → before.at ≡ 0 → Put (model.refused_text n) before after
+    → Filed (record { stream = 2; bytes = model.refused_text n }) before.out.now after.out.now (Err after.at)
+line-filed n z p = record { stream = refl; counted = omega (arith, p.ends); bytes = put_front z p }
 
 -- ---- from a call's answer to what is written
 
--- a call that was lent 4,096 bytes and left `mid`
-module _ (refusal : ℕ → ℕ) (written : List ℕ) {before : List ℕ} (long : length before ≡ min_buffer) {Kept : CountOutcome → Type 0} {m : Moved} {mid : List ℕ}
-    (a : demands.MoveAnswered (refusal (length before)) written Kept before (moved_of m mid)) where
-  outcome : refusal (length before) ≡ 0 → moved_of m mid ≡ moved_accepted written before
-  outcome z = a.outcome ∙ moved-accepted (refusal (length before)) written before z
+module _ (refusal : ℕ → ℕ) (written : List ℕ) {before : List ℕ} (long : length before ≡ min_buffer) {after : List ℕ} {r : Result ℕ ℕ} where
+  told : Filed (model.told (refusal (length before)) written) before after r → Filed (model.told (refusal min_buffer) written) before after r
+  told h = subst (λ (n : ℕ). Filed (model.told (refusal n) written) before after r) long h
 
-  short : refusal (length before) ≤ 17 → m.refused < 100
+  -- a call that was lent 8,192 bytes and left `mid`
+  filed : (Kept : CountOutcome → Type 0) (mid : List ℕ) (answer : Result ℕ Refusal) → demands.MoveAnswered (refusal (length before)) written Kept before (moved_of answer mid) → Answered answer mid after r
+      → Filed (model.told (refusal min_buffer) written) before after r
   unfolding moved_accepted
-  short most =
-      by_number (refusal (length before)) (λ z. omega (arith, ap (λ (o : CountOutcome). o.answer.refused) (outcome z)))
-      (λ f. omega (arith, ap (λ (o : CountOutcome). o.answer.refused) (a.demand1 f), most))
-
-  -- what the call wrote stands in the array
-  accepted : {after : List ℕ} {r : Told} → refusal (length before) ≡ 0 → Answered m mid after r → Filed (record { stream = 1; bytes = written }) before after r
-  unfolding moved_accepted
-  accepted {after} z h =
-      let o = outcome z in
-      let t = h.moved (ap (λ (x : CountOutcome). x.answer.refused) o) in
-      record { stream = t.0; counted = t.1 ∙ ap (λ (x : CountOutcome). x.answer.count) o; bytes = t.2 ∙ ap (λ (x : CountOutcome). x.buffer) o }
-
-  refused : {after : List ℕ} {r : Told} → refusal (length before) ≢ 0 → Answered m mid after r → Filed (record { stream = 2; bytes = model.refused_text (refusal (length before)) }) before after r
-  refused {after} {r} f h =
+  filed Kept mid (Ok n) a h =
+      by_number (refusal (length before))
+      (λ z.
+      let o = a.outcome ∙ moved-accepted (refusal (length before)) written before z in
+      told (subst (λ (t : model.Told). Filed t before after r) (sym (told-accepted (refusal (length before)) written z)) (record {
+        stream = ap stream_of h.0;
+        counted = ap count_of h.0 ∙ ap (λ (x : CountOutcome). x.answer.count) o;
+        bytes = h.1 ∙ ap (λ (x : CountOutcome). x.buffer) o;
+      })))
+      (λ f. absurd (f (sym (ap (λ (x : CountOutcome). x.answer.refused) (a.demand1 f)))))
+  filed Kept mid (Err refused) a h =
+      by_number (refusal (length before))
+      (λ z. absurd (number-not_zero refused (ap (λ (x : CountOutcome). x.answer.refused) (a.outcome ∙ moved-accepted (refusal (length before)) written before z))))
+      (λ f.
       let o = a.demand1 f in
-      let e : m.refused ≡ refusal (length before) = ap (λ (x : CountOutcome). x.answer.refused) o in
-      subst (λ (x : List ℕ). Filed (record { stream = 2; bytes = model.refused_text (refusal (length before)) }) x after r) (ap (λ (x : CountOutcome). x.buffer) o)
-      (subst (λ (n : ℕ). Filed (record { stream = 2; bytes = model.refused_text n }) mid after r) e (h.refused (λ z. f (sym e ∙ z))))
-
-  filed : {after : List ℕ} {r : Told} → Answered m mid after r → Filed (model.told (refusal min_buffer) written) before after r
-  filed {after} {r} h =
-      subst (λ (n : ℕ). Filed (model.told (refusal n) written) before after r) long
-      (by_number (refusal (length before))
-      (λ z. subst (λ (t : model.Told). Filed t before after r) (sym (told-accepted (refusal (length before)) written z)) (accepted z h))
-      (λ f. subst (λ (t : model.Told). Filed t before after r) (sym (told-refused (refusal (length before)) written f)) (refused f h)))
+      told (subst (λ (t : model.Told). Filed t before after r) (sym (told-refused (refusal (length before)) written f))
+      (subst (λ (x : List ℕ). Filed (record { stream = 2; bytes = model.refused_text (refusal (length before)) }) x after r) (ap (λ (x : CountOutcome). x.buffer) o)
+      (subst (λ (n : ℕ). Filed (record { stream = 2; bytes = model.refused_text n }) mid after r) (ap (λ (x : CountOutcome). x.answer.refused) o) h))))
 
 -- ---- the three calls
 
-module _ (b : List ℕ) {before : List ℕ} (long : length before ≡ min_buffer) {m : Moved} {mid : List ℕ} where
-  pub upgrade-short : demands.UpgradeAnswered b before (moved_of m mid) → m.refused < 100
-  upgrade-short a = short (upgrade_refusal b) (upgraded b) long a (upgrade-most b (length before))
-
-  pub upgrade-filed : {after : List ℕ} {r : Told} → demands.UpgradeAnswered b before (moved_of m mid) → Answered m mid after r → Filed (model.upgrade_told b) before after r
+module _ (b : List ℕ) {before : List ℕ} (long : length before ≡ min_buffer) (answer : Result ℕ Refusal) {mid after : List ℕ} {r : Result ℕ ℕ} where
+  pub upgrade-filed : demands.UpgradeAnswered b before (moved_of answer mid) → Answered answer mid after r → Filed (model.upgrade_told b) before after r
   unfolding model.upgrade_told
-  upgrade-filed a = filed (upgrade_refusal b) (upgraded b) long a
+  upgrade-filed a = filed (upgrade_refusal b) (upgraded b) long _ _ answer a
 
-  pub downgrade-short : demands.DowngradeAnswered b before (moved_of m mid) → m.refused < 100
-  downgrade-short a = short (downgrade_refusal b) (downgraded b) long a (downgrade-most b (length before))
-
-  pub downgrade-filed : {after : List ℕ} {r : Told} → demands.DowngradeAnswered b before (moved_of m mid) → Answered m mid after r → Filed (model.downgrade_told b) before after r
+  pub downgrade-filed : demands.DowngradeAnswered b before (moved_of answer mid) → Answered answer mid after r → Filed (model.downgrade_told b) before after r
   unfolding model.downgrade_told
-  downgrade-filed a = filed (downgrade_refusal b) (downgraded b) long a
+  downgrade-filed a = filed (downgrade_refusal b) (downgraded b) long _ _ answer a
 
-  pub normalise-short : demands.NormaliseAnswered b before (moved_of m mid) → m.refused < 100
-  normalise-short a = short (normalise_refusal b) (normalised b) long a (normalise-most b (length before))
-
-  pub normalise-filed : {after : List ℕ} {r : Told} → demands.NormaliseAnswered b before (moved_of m mid) → Answered m mid after r → Filed (model.normalise_told b) before after r
+  pub normalise-filed : demands.NormaliseAnswered b before (moved_of answer mid) → Answered answer mid after r → Filed (model.normalise_told b) before after r
   unfolding model.normalise_told
-  normalise-filed a = filed (normalise_refusal b) (normalised b) long a
-
--- ---- what is told is a part of the array, and the stream's number is a small one
-
-pub filed-fits : {t : model.Told} {before after : List ℕ} {r : Told} → Filed t before after r → r.count ≤ length after
-unfolding written_at_front
-filed-fits {t} {before} h = omega (arith, h.counted, ap length h.bytes ∙ length-append t.bytes (drop (length t.bytes) before))
-
-told-stream : (n : ℕ) (w : List ℕ) → (model.told n w).stream ≤ 2
-told-stream n w =
-    by_number n (λ z. omega (arith, ap (λ (t : model.Told). t.stream) (told-accepted n w z))) (λ f. omega (arith, ap (λ (t : model.Told). t.stream) (told-refused n w f)))
-
-module _ (b : List ℕ) {before after : List ℕ} {r : Told} where
-  pub upgrade-stream : Filed (model.upgrade_told b) before after r → r.stream ≤ 2
-  unfolding model.upgrade_told
-  upgrade-stream h = omega (arith, h.stream, told-stream (upgrade_refusal b min_buffer) (upgraded b))
-
-  pub downgrade-stream : Filed (model.downgrade_told b) before after r → r.stream ≤ 2
-  unfolding model.downgrade_told
-  downgrade-stream h = omega (arith, h.stream, told-stream (downgrade_refusal b min_buffer) (downgraded b))
-
-  pub normalise-stream : Filed (model.normalise_told b) before after r → r.stream ≤ 2
-  unfolding model.normalise_told
-  normalise-stream h = omega (arith, h.stream, told-stream (normalise_refusal b min_buffer) (normalised b))
+  normalise-filed a = filed (normalise_refusal b) (normalised b) long _ _ answer a

@@ -1,58 +1,54 @@
-// What the programs that write a case write: the written case's bytes, or a refusal's line, at the front of a lent array.
+// What the programs that write a case write, at the front of a lent array: the written case's bytes, told as Ok and for standard output, or
+// a refusal's line, told as Err and for standard error. The number told is how many bytes.
 #![tactic(auto)]
 
-ghost use Rattle.std.specs.Prelude.{◌≤◌, ◌<◌, length};
-ghost use Rattle.model.specs.Text.{upgrade_told, downgrade_told, normalise_told};
-ghost use Rattle.filing.specs.Filed.{Filed, Answered};
+ghost use Rattle.model.specs.Text.{refused_text, upgrade_told, downgrade_told, normalise_told};
+ghost use Rattle.questions.specs.Refusal.{number_of};
+ghost use Rattle.text.specs.Told.{Filed};
+ghost use Rattle.filing.specs.Filed.{Answered};
 
-use moving::answers::Moved;
 use moving::downgrade::downgrade_call;
 use moving::upgrade::upgrade_call;
 use normalising::normalise_call;
-use text::line::line;
+use questions::refusal::Refusal;
+use text::page::Page;
 
-// How many bytes are to be written, and to which stream: 1 is standard output, 2 standard error.
-#[derive(Clone, Copy)]
-pub struct Told {
-    pub stream: u64,
-    pub count: usize,
+// A refusal's line, put at the front, and how many bytes it has.
+fn refusal_line(refusal: Refusal, out: &mut [u8; 8192]) -> usize
+    ensures { Filed (record { stream = 2; bytes = refused_text (number_of refusal) }) out.old out.new (Err result) }
+{
+    let mut page = Page::new(out);
+    page.line(b"refused", refusal.number());
+    page.at
 }
 
 // Of a call's answer: a refusal's line is put at the front; a written case stands there.
-fn tell(moved: Moved, out: &mut [u8]) -> Told
-    requires { (moved.refused < 100) × (11 ≤ length out.old) }
-    ensures { Answered moved out.old out.new result }
+fn tell(written: Result<usize, Refusal>, out: &mut [u8; 8192]) -> Result<usize, usize>
+    ensures { Answered written out.old out.new result }
 {
-    if moved.refused != 0 {
-        let count = line(b"refused", moved.refused, out, 0);
-        return Told { stream: 2, count };
-    }
-    Told {
-        stream: 1,
-        count: moved.count as usize,
+    match written {
+        Ok(count) => Ok(count),
+        Err(refusal) => Err(refusal_line(refusal, out)),
     }
 }
 
 // Of an old case from standard input: the set of one that it is.
-pub fn upgrade_told(case: &[u8], out: &mut [u8; 8192]) -> Told
+pub fn upgrade_told(case: &[u8], out: &mut [u8; 8192]) -> Result<usize, usize>
     ensures { Filed (upgrade_told case.now) out.old out.new result }
 {
-    let moved = upgrade_call(case, out);
-    tell(moved, out)
+    tell(upgrade_call(case, out), out)
 }
 
 // Of a case from standard input: the old case that a set of one goes back to.
-pub fn downgrade_told(case: &[u8], out: &mut [u8; 8192]) -> Told
+pub fn downgrade_told(case: &[u8], out: &mut [u8; 8192]) -> Result<usize, usize>
     ensures { Filed (downgrade_told case.now) out.old out.new result }
 {
-    let moved = downgrade_call(case, out);
-    tell(moved, out)
+    tell(downgrade_call(case, out), out)
 }
 
 // Of a case from standard input: the same case in its one way of writing.
-pub fn normalise_told(case: &[u8], out: &mut [u8; 8192]) -> Told
+pub fn normalise_told(case: &[u8], out: &mut [u8; 8192]) -> Result<usize, usize>
     ensures { Filed (normalise_told case.now) out.old out.new result }
 {
-    let moved = normalise_call(case, out);
-    tell(moved, out)
+    tell(normalise_call(case, out), out)
 }

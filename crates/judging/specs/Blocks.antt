@@ -1,6 +1,6 @@
 -- What is worked out once a case: of the summary and the first pattern, and of each member of the set. Where a summary or a pattern has
 -- fewer nodes than a table has entries, zeros follow.
-use Rattle.std.specs.Prelude.{ℕ, ◌+◌, ◌*◌, List, [], get_or}
+use Rattle.std.specs.Prelude.{ℕ, ◌+◌, ◌*◌, [], get_or}
 use Rattle.judging.specs.declared.member.Member.{Member}
 use Rattle.judging.specs.declared.masks.Masks.{Masks}
 use Rattle.judging.specs.Judging.{Sets}

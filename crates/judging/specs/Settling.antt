@@ -1,6 +1,6 @@
 -- Settling: what a part of the first pattern offers is worked out once, when its last node is placed, and kept in a row of sets, one for
 -- each node: what the complete parts that hang from it offer. `last c` is the last node of c's part.
-use Rattle.std.specs.Prelude.{ℕ, ◌-◌, ◌≤◌, ◌<◌, ◌≡◌, Bool, true, false, List, eqb, ltb, length, replicate}
+use Rattle.std.specs.Prelude.{ℕ, ◌-◌, ◌≤◌, ◌<◌, ◌≡◌, true, false, List, eqb, ltb, length, replicate}
 use Rattle.model.specs.Pattern.{Pattern, pattern_parent}
 use Rattle.judging.specs.Judging.{gather, Sets, pass_by}
 use Rattle.judging.specs.declared.member.Member.{Member}

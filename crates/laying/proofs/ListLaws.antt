@@ -1,80 +1,71 @@
 -- An accepted list is an embedding of the pattern that the call names, so what is read is what laying out asks for. Assumes nothing.
 use Prim.Native.Nat.{ℕ, ◌/◌, ◌≤◌, ◌<◌}
-use mathlib.Core.Path.{◌≡◌, sym, ap, ap₂, ◌∙◌, subst}
+use mathlib.Core.Path.{◌≡◌, sym, ap, ◌∙◌, subst}
 use mathlib.Core.List.{List}
 use native.Mathlib.Omega.{arith}
-use lib.ListN.{length, get_or, take}
-use Rattle.model.specs.Limits.{max_pattern}
+use lib.ListN.{length, take}
+use Rattle.model.specs.Limits.{max_pattern, max_canonical, min_buffer, document_width}
+use Rattle.model.specs.Summary.{Summary, summary_label}
 use Rattle.model.specs.Pattern.{Pattern, SummaryEmbedding}
 use Rattle.model.specs.Embeddings.{image_in}
 use Rattle.model.specs.Facts.{FewFigures}
-use Rattle.model.specs.Bytes.{case_of, list_of, written_at_front}
-use Rattle.model.specs.Canonical.{Spot, canonical_spots}
+use Rattle.model.specs.Bytes.{case_of, list_of, document_of, written_at_front, WholeSection, AreBytes}
 use Rattle.model.specs.Questions.{selected}
 use Rattle.model.specs.Calls.{laid_records}
 use Rattle.model.proofs.Bytes.{front_length, front-written}
 use Rattle.model.proofs.CallFacts.{LayoutFacts}
 use Rattle.model.proofs.CaseFacts.{selected-facts, selected-figures}
 use Rattle.model.proofs.Embeddings.{embeddings-sound}
-use Rattle.format.specs.Given.{summary_in, pattern_at}
-use Rattle.format.proofs.GivenLaws.{given-summary}
-use Rattle.refusals.specs.Numbered.{numbered_at}
+use Rattle.model.proofs.ReadBack.{label_small}
+use Rattle.format.specs.Given.{SummaryKept, PatternKept}
 use Rattle.format.proofs.ListLaws.{list_count}
-use Rattle.refusals.proofs.NumberedLaws.{numbered-pattern}
-use Rattle.refusals.proofs.AcceptedLaws.{selected-size, given-numbered}
 use Rattle.canonical.specs.Given.{embedding_in, Embedded, WrittenOut}
 use Rattle.canonical.specs.declared.LaidOut.{LaidOut}
-use Rattle.canonical.proofs.ReadBackLaws.{back-document}
-use Rattle.laying.specs.Records.{laid_in, laid_nodes}
+use Rattle.canonical.proofs.ReadBackLaws.{back-document, back_whole, back_count}
+use Rattle.canonical.proofs.LayoutLaws.{spots-few}
+use Rattle.laying.specs.Records.{laid_in}
 use Rattle.laying.proofs.RecordLaws.{records-laid}
 
 -- the pattern is the model's, and the images are the list
 module _ {b : List ℕ} {s : ℕ} {l : List ℕ} {k : ℕ} (f : LayoutFacts b s l k) where
-  embedded : (length (list_of l) ≡ length (selected (case_of b) s)) × SummaryEmbedding (case_of b).summary (selected (case_of b) s) (image_in (list_of l))
+  abbrev S : Summary
+  S = (case_of b).summary
+
+  abbrev P : Pattern
+  P = selected (case_of b) s
+
+  embedded : (length (list_of l) ≡ length P) × SummaryEmbedding S P (image_in (list_of l))
   embedded = embeddings-sound (selected-facts (case_of b) s f.case.facts f.number).pattern.tree f.case.facts.summary.tree f.embedding
 
+  pub outline-kept : SummaryKept (case_of b).summary
+  outline-kept = record { tree = f.case.facts.summary.tree; few = f.case.facts.summary_size }
+
+  selected-kept : PatternKept P
+  selected-kept = let m = selected-facts (case_of b) s f.case.facts f.number in record { tree = m.pattern.tree; few = m.size }
+
   pub list-fits : length l / 2 ≤ max_pattern
-  list-fits = let n = list_count l in let e = embedded.0 in let h = selected-size f.case s f.number in omega arith
+  list-fits = let n = list_count l in let e = embedded.0 in let h = selected-kept.few in omega arith
 
-  module _ {at : ℕ} {images : List ℕ} (images₀ : List ℕ) (here : at ≡ numbered_at b s) (room : max_pattern ≤ length images₀) (read : images ≡ written_at_front (list_of l) images₀) where
-    same : selected (case_of b) s ≡ pattern_at b at
-    same = numbered-pattern b s at f.number here
+  pub list-labels : AreBytes b → (i : ℕ) → i < length (case_of b).summary → summary_label (case_of b).summary i < 65536
+  list-labels small = label_small b small
 
-    count : length (pattern_at b at) ≡ length (list_of l)
-    count = ap (λ (P : Pattern). length P) (sym same) ∙ sym embedded.0
+  -- what is read as a figure is small
+  pub list-figures : FewFigures (selected (case_of b) s)
+  list-figures = selected-figures (case_of b) s f.case.facts f.number
 
+  module _ {images : List ℕ} (images₀ : List ℕ) (room : max_pattern ≤ length images₀) (read : images ≡ written_at_front (list_of l) images₀) where
     -- as many of the images as the pattern has nodes are the list
-    pub list_back : embedding_in b at images ≡ list_of l
-    list_back = ap (take (length (pattern_at b at))) read ∙ ap (λ (n : ℕ). take n (written_at_front (list_of l) images₀)) count ∙ front-written (list_of l) images₀
+    pub list-back : embedding_in (selected (case_of b) s) images ≡ list_of l
+    list-back = ap (take (length P)) read ∙ ap (λ (n : ℕ). take n (written_at_front (list_of l) images₀)) (sym embedded.0) ∙ front-written (list_of l) images₀
 
-    pub list-embedded : Embedded b at images
+    pub list-embedded : Embedded (case_of b).summary (selected (case_of b) s) images
     list-embedded =
-        let n = count in
-        let few : length (pattern_at b at) ≤ max_pattern = subst (λ (P : Pattern). length P ≤ max_pattern) same (selected-size f.case s f.number) in
+        let n = embedded.0 in
+        let few = selected-kept.few in
         let m = ap (λ (x : List ℕ). length x) read ∙ front_length (list_of l) images₀ (omega arith) in
         record {
-          summary = given-summary f.case;
-          pattern = given-numbered f.case s f.number here;
+          summary = outline-kept;
+          pattern = selected-kept;
           enough = omega arith;
-          embedding =
-              subst (λ (P : Pattern). SummaryEmbedding (case_of b).summary P (image_in (embedding_in b at images))) same
-              (subst (λ (es : List ℕ). SummaryEmbedding (case_of b).summary (selected (case_of b) s) (image_in es)) (sym list_back) embedded.1);
+          embedding = subst (λ (es : List ℕ). SummaryEmbedding S P (image_in es)) (sym list-back) embedded.1;
         }
-
-    pub list-figures : FewFigures (pattern_at b at)
-    list-figures = subst FewFigures same (selected-figures (case_of b) s f.case.facts f.number)
-
-    -- ---- what is then laid out
-
-    spots : canonical_spots (summary_in b) (pattern_at b at) (embedding_in b at images) ≡ laid_nodes b s l
-    spots = ap₂ (canonical_spots (summary_in b)) (sym same) list_back
-
-    module _ {bytes₀ bytes on₀ on : List ℕ} {r : LaidOut} (w : WrittenOut (summary_in b) (pattern_at b at) (embedding_in b at images) bytes₀ bytes on₀ on r) where
-      pub laid-count : r.count ≡ length (laid_nodes b s l)
-      laid-count = w.counted ∙ ap (λ (T : List Spot). length T) spots
-
-      pub laid-read : ((i : ℕ) → get_or b i 0 < 256) → laid_in bytes on r.count ≡ laid_records (summary_in b) (selected (case_of b) s) (list_of l)
-      laid-read small =
-          ap (laid_in bytes on) w.counted
-          ∙ records-laid (summary_in b) (pattern_at b at) (embedding_in b at images) bytes on on₀ (back-document list-embedded small list-figures w) w.nodes
-          ∙ ap₂ (laid_records (summary_in b)) (sym same) list_back

@@ -13,6 +13,7 @@ use Rattle.model.proofs.Calls.{by_number}
 use Rattle.model.specs.Bytes.{AreBytes}
 use Rattle.model.proofs.OrderPrinted.{order-orderable, order-back, prints-order, prints-refusal, order_small}
 use Rattle.text.specs.Put.{Room, Put, Printed}
+use Rattle.text.specs.declared.page.Page.{Page}
 use Rattle.text.proofs.PutLaws.{room-same, put_same, put-printed}
 use Rattle.listing.specs.Order.{OrderHeld, told_text}
 use Rattle.listing.proofs.OrderLaws.{told-order, told-refusal}
@@ -36,10 +37,12 @@ module _ (b : List ℕ) (small : AreBytes b) {before after : List ℕ} (size : l
       by_number answer.refused (λ e. told-order answer.refused answer.tried after e ∙ sym (prints-order b size a small e))
       (λ f. told-refusal answer.refused answer.tried after f ∙ sym (prints-refusal b size a f))
 
-  pub told-fits : {out : List ℕ} → length out ≡ max_order_text → Room (told_text answer.refused answer.tried after) 0 out
-  told-fits l =
-      let s : length (told_text answer.refused answer.tried after) ≤ max_order_text = subst (λ (x : List ℕ). length x ≤ max_order_text) (sym told-printed) (order_small b small) in
-      record { fits = omega arith }
+  -- an empty page of an array of that size
+  module _ {page : Page} (front : page.at ≡ 0) (l : length page.out.now ≡ max_order_text) where
+    pub told-fits : Room (told_text answer.refused answer.tried after) page
+    told-fits =
+        let s : length (told_text answer.refused answer.tried after) ≤ max_order_text = subst (λ (x : List ℕ). length x ≤ max_order_text) (sym told-printed) (order_small b small) in
+        record { fits = omega arith }
 
-  pub text-printed : {out out' : List ℕ} {stop : ℕ} → length out ≡ max_order_text → Put (told_text answer.refused answer.tried after) 0 out out' stop → Printed (order_printed b) out out' stop
-  text-printed l p = put-printed (room-same told-printed (told-fits l)) (put_same told-printed p)
+    pub text-printed : {page' : Page} → Put (told_text answer.refused answer.tried after) page page' → Printed (order_printed b) page.out.now page'.out.now page'.at
+    text-printed p = put-printed front (room-same told-printed told-fits) (put_same told-printed p)

@@ -10,29 +10,30 @@ use format::field::field;
 use format::limits::PATTERN_WIDTH;
 use format::sections::pattern_end;
 use striking::minimise_call;
-use text::fields::{list_line, record_lines};
-use text::line::line;
+use text::page::Page;
 
 // The text of a shortened order that an answer buffer holds: tried, the selection's nodes, and the struck numbers behind it.
-fn order(tried: u64, answer: &[u8], out: &mut [u8]) -> usize
-    requires { OrderHeld answer.now × Room (text_of tried answer.now) 0 out.old }
-    ensures { Put (text_of tried answer.now) 0 out.old out.new result }
+fn order(tried: u64, answer: &[u8], page: &mut Page)
+    requires held { OrderHeld answer.now }
+    requires room { Room (text_of tried answer.now) page.old }
+    ensures { Put (text_of tried answer.now) page.old page.new }
 {
-    let told = line(b"tried", tried, out, 0);
-    let listed = record_lines(answer, PATTERN_WIDTH, out, told);
+    page.line(b"tried", tried);
+    page.record_lines(answer, PATTERN_WIDTH);
     let end = pattern_end(answer, 0);
-    list_line(b"struck", answer, end + 1, field(answer, end), out, listed)
+    page.list_line(b"struck", answer, end + 1, field(answer, end));
 }
 
 // The text of an answer, with what the answer buffer holds.
-fn answer_text(refused: u64, tried: u64, answer: &[u8], out: &mut [u8]) -> usize
-    requires { (refused ≡ 0 → OrderHeld answer.now) × Room (told_text refused tried answer.now) 0 out.old }
-    ensures { Put (told_text refused tried answer.now) 0 out.old out.new result }
+fn answer_text(refused: u64, tried: u64, answer: &[u8], page: &mut Page)
+    requires held { refused ≡ 0 → OrderHeld answer.now }
+    requires room { Room (told_text refused tried answer.now) page.old }
+    ensures { Put (told_text refused tried answer.now) page.old page.new }
 {
     if refused == 0 {
-        order(tried, answer, out)
+        order(tried, answer, page);
     } else {
-        line(b"refused", refused, out, 0)
+        page.line(b"refused", refused);
     }
 }
 
@@ -42,5 +43,7 @@ pub fn order_text(case: &[u8], out: &mut [u8; 484]) -> usize
 {
     let mut answer = [0u8; 8192];
     let told = minimise_call(case, 1000000, 0, 0, &mut answer);
-    answer_text(told.refused, told.tried, &answer, out)
+    let mut page = Page::new(out);
+    answer_text(told.refused, told.tried, &answer, &mut page);
+    page.at
 }

@@ -10,7 +10,7 @@ use lib.ListN.{length, get_or, length-map}
 use Rattle.model.specs.Limits.{summary_width, pattern_width}
 use Rattle.model.specs.Summary.{SummaryRecord, no_summary_record}
 use Rattle.model.specs.Pattern.{PatternRecord, Pattern, no_pattern_record}
-use Rattle.model.specs.Bytes.{Case, AreBytes, section, summary_record_at, pattern_record_at, first_at, set_at, set_of, member_at, case_of, encode_case, written_at_front, is_whole_case}
+use Rattle.model.specs.Bytes.{Case, AreBytes, section, summary_record_at, pattern_record_at, first_at, set_at, member_at, case_of, encode_case, written_at_front, is_whole_case}
 use Rattle.model.specs.Moving.{moved_accepted}
 use Rattle.model.specs.Facts.{AcceptedCase}
 use Rattle.model.specs.Normal.{read_as, as_pattern, normal_case, normalise_refusal, normalised}
@@ -27,7 +27,7 @@ use Rattle.model.proofs.WriteBack.{encode-case}
 use Rattle.model.proofs.Demands.{normalise-answered}
 use Rattle.format.specs.Given.{pattern_at}
 use Rattle.format.proofs.SectionLaws.{section-record, section-below, set-member}
-use Rattle.normalising.specs.Trees.{TreeGiven, CaseGiven}
+use Rattle.normalising.specs.Trees.{CaseGiven}
 
 -- ---- the trees of an accepted case
 

@@ -5,16 +5,15 @@ use mathlib.Core.List.{List, [], ◌∷◌, ◌++◌, map, flat_map, append-nil,
 use native.Mathlib.Omega.{arith}
 use native.Mathlib.Numerals.{add-one}
 use lib.ListN.{length, get_or, take, drop, length-map, length-append, take-append-drop}
-use lib.Seq.{sets, sets-eq, length-sets, take-suc, take_all, length-take-le}
-use Rattle.model.specs.Pattern.{PatternRecord, Pattern}
+use lib.Seq.{sets, sets-eq, length-sets, take-suc, take_all}
+use Rattle.model.specs.Pattern.{Pattern}
 use Rattle.model.specs.Summary.{Summary}
 use Rattle.model.specs.Bytes.{Case, field_bytes, bytes_of, summary_fields, pattern_fields, section_fields, set_fields, case_fields, encode_case, written_at_front}
 use Rattle.model.specs.Facts.{SummaryFacts}
 use Rattle.model.specs.Normal.{Entry, table_of, normal_pattern, normal_summary, normal_case, read_back, as_pattern, as_summary}
-use Rattle.model.proofs.ListLaws.{get_or_map}
 use Rattle.model.proofs.Bytes.{length-bytes}
 use Rattle.model.proofs.Alike.{by-label-alike}
-use Rattle.format.proofs.WriteLaws.{flat_map-append, bytes-append, fields-run, one-run, sets-append}
+use Rattle.format.proofs.WriteLaws.{flat_map-append, fields-run, one-run}
 use Rattle.normalising.specs.Trees.{outline_fields, normal_fields}
 
 -- ---- the set

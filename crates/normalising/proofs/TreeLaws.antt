@@ -1,6 +1,6 @@
 -- A tree's rows: each node's entry, at a depth one more than its parent's; and a subtree's row that goes into its parent's, as the
 -- model's subtrees do. Assumes nothing.
-use Prim.Native.Nat.{ℕ, suc, ◌+◌, ◌-◌, ◌≤◌, ◌<◌}
+use Prim.Native.Nat.{ℕ, suc, ◌+◌, ◌≤◌, ◌<◌}
 use mathlib.Core.Path.{◌≡◌, sym, ap, ap₂, ◌∙◌}
 use mathlib.Core.List.{List, [], ◌∷◌, ◌++◌}
 use mathlib.Core.Bool.{true, false}
@@ -13,13 +13,13 @@ use lib.Seq.{get_or-set_same, get_or-set_other, get_or-take, get_or-drop, set-ap
 use Rattle.std.proofs.lemmas.List.{get_or_read}
 use borrow.Author.Tests.{eqb-true, eqb-false}
 use Rattle.model.specs.Pattern.{Pattern, IsPatternTree, pattern_parent, no_pattern_record}
-use Rattle.model.specs.Normal.{Entry, no_entry, depth_of, entry_at, entries, by_subtree, listed, preorder}
+use Rattle.model.specs.Normal.{Entry, no_entry, depth_of, entry_at, entries, by_subtree, listed}
 use Rattle.model.specs.Gathering.{gathered, place_in, joined}
 use Rattle.model.proofs.ListLaws.{true-or-false}
 use Rattle.model.proofs.Preorder.{depth-root, depth-child, depth_small}
 use Rattle.model.proofs.Gathering.{gathered-start, gathered-whole, gathered-other, gathered-own}
 use Rattle.model.proofs.Numbering.{gathered-length}
-use Rattle.normalising.specs.Trees.{entry_with, TreeGiven, Loaded}
+use Rattle.normalising.specs.Trees.{entry_with, Loaded}
 
 -- equal or not
 pub same-or-other : {C : Type 0} (a b : ℕ) → (a ≡ b → C) → ((a ≡ b → ⊥) → C) → C

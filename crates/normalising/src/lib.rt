@@ -34,11 +34,10 @@ fn write_set(set: &PatternSet, rows: &mut [Row], out: &mut [u8], at: usize) -> u
     ensures end { result ≡ at + length (set_fields (map normal_pattern set.now)) }
     ensures buffer { out.new ≡ sets out.old (2 * at) (bytes_of (set_fields (map normal_pattern set.now))) }
 {
-    let n = set.count();
-    put_field(out, at, n as u16);
+    put_field(out, at, set.count() as u16);
     let mut to = at + 1;
-    for i in 0..n {
-        to = write_tree(&set.member(i), rows, out, to);
+    for member in set.members() {
+        to = write_tree(&member, rows, out, to);
     }
     to
 }

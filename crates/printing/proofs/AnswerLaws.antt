@@ -23,16 +23,17 @@ use Rattle.deciding.specs.Outcome.{outcome_of}
 use Rattle.deciding.specs.declared.Answer.{Answer}
 use Rattle.deciding.specs.declared.Answer.TheVariants.{Refused, Contained, NotContained, Stopped}
 use Rattle.text.specs.Put.{Room, Put, Printed}
+use Rattle.text.specs.declared.page.Page.{Page}
 use Rattle.printing.specs.Shown.{ShownWhole, told_text, Tellable}
 use Rattle.text.proofs.PutLaws.{room-same, put_same, put-printed}
 
 -- ---- an answer by its variant
 
-pub told-room : {a x : Answer} (buffer : List ℕ) {out : List ℕ} → a ≡ x → Room (told_text a buffer) 0 out → Room (told_text x buffer) 0 out
-told-room buffer {out} e = subst (λ (y : Answer). Room (told_text y buffer) 0 out) e
+pub told-room : {a x : Answer} (buffer : List ℕ) {page : Page} → a ≡ x → Room (told_text a buffer) page → Room (told_text x buffer) page
+told-room buffer {page} e = subst (λ (y : Answer). Room (told_text y buffer) page) e
 
-pub told-put : {a x : Answer} (buffer : List ℕ) {before after : List ℕ} {stop : ℕ} → a ≡ x → Put (told_text x buffer) 0 before after stop → Put (told_text a buffer) 0 before after stop
-told-put buffer {before} {after} {stop} e = subst (λ (y : Answer). Put (told_text y buffer) 0 before after stop) (sym e)
+pub told-put : {a x : Answer} (buffer : List ℕ) {before after : Page} → a ≡ x → Put (told_text x buffer) before after → Put (told_text a buffer) before after
+told-put buffer {before} {after} e = subst (λ (y : Answer). Put (told_text y buffer) before after) (sym e)
 
 pub told-whole : {a : Answer} {n : ℕ} (buffer : List ℕ) → a ≡ NotContained n → Tellable a buffer → ShownWhole buffer
 told-whole buffer e = subst (λ (y : Answer). Tellable y buffer) e
@@ -78,10 +79,12 @@ module _ (b : List ℕ) {before after : List ℕ} (size : length before ≡ min_
   told-printed (Stopped n) a = sym (prints-stopped b size a refl)
 
   module _ (small : AreBytes b) (answer : Answer) (a : VerdictAnswered b max_limit program_caller 0 before (outcome_of 0 answer after)) where
-    pub told-fits : {out : List ℕ} → length out ≡ max_text → Room (told_text answer after) 0 out
-    told-fits l =
-        let s : length (told_text answer after) ≤ max_text = subst (λ (x : List ℕ). length x ≤ max_text) (sym (told-printed answer a)) (printed-small b small) in
-        record { fits = omega arith }
+    -- an empty page of an array of that size
+    module _ {page : Page} (front : page.at ≡ 0) (l : length page.out.now ≡ max_text) where
+      pub told-fits : Room (told_text answer after) page
+      told-fits =
+          let s : length (told_text answer after) ≤ max_text = subst (λ (x : List ℕ). length x ≤ max_text) (sym (told-printed answer a)) (printed-small b small) in
+          record { fits = omega arith }
 
-    pub text-printed : {out out' : List ℕ} {stop : ℕ} → length out ≡ max_text → Put (told_text answer after) 0 out out' stop → Printed (printed b) out out' stop
-    text-printed l p = put-printed (room-same (told-printed answer a) (told-fits l)) (put_same (told-printed answer a) p)
+      pub text-printed : {page' : Page} → Put (told_text answer after) page page' → Printed (printed b) page.out.now page'.out.now page'.at
+      text-printed p = put-printed front (room-same (told-printed answer a) told-fits) (put_same (told-printed answer a) p)

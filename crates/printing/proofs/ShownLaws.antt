@@ -10,6 +10,7 @@ use Rattle.model.specs.Limits.{document_width}
 use Rattle.model.specs.Bytes.{field, section_end, document_of, list_of, shown_section, shown_list, WholeSection}
 use Rattle.model.specs.Text.{shown_text}
 use Rattle.text.specs.Put.{Room, Put}
+use Rattle.text.specs.declared.page.Page.{Page}
 use Rattle.printing.specs.Shown.{ShownWhole, text_of}
 use Rattle.text.proofs.PutLaws.{room-same, put_same}
 
@@ -42,11 +43,11 @@ module _ (b : List ℕ) {end k : ℕ} (e : end ≡ section_end document_width b 
   same : (tried : ℕ) → text_of tried b ≡ shown_text tried (document_of (take (2 * end) b)) (list_of (take (2 * (end + 1) + 2 * k - 2 * (end + 1)) (drop (2 * (end + 1)) b)))
   same tried = ap₂ (λ (x y : List ℕ). shown_text tried (document_of x) (list_of y)) (sym section) (sym list)
 
-  pub text-room : (tried : ℕ) {out : List ℕ} → Room (text_of tried b) 0 out
-      → Room (shown_text tried (document_of (take (2 * end) b)) (list_of (take (2 * (end + 1) + 2 * k - 2 * (end + 1)) (drop (2 * (end + 1)) b)))) 0 out
+  pub text-room : (tried : ℕ) {page : Page} → Room (text_of tried b) page
+      → Room (shown_text tried (document_of (take (2 * end) b)) (list_of (take (2 * (end + 1) + 2 * k - 2 * (end + 1)) (drop (2 * (end + 1)) b)))) page
   text-room tried r = room-same (same tried) r
 
-  pub text-put : (tried : ℕ) {out out' : List ℕ} {stop : ℕ}
-      → Put (shown_text tried (document_of (take (2 * end) b)) (list_of (take (2 * (end + 1) + 2 * k - 2 * (end + 1)) (drop (2 * (end + 1)) b)))) 0 out out' stop
-      → Put (text_of tried b) 0 out out' stop
+  pub text-put : (tried : ℕ) {before after : Page}
+      → Put (shown_text tried (document_of (take (2 * end) b)) (list_of (take (2 * (end + 1) + 2 * k - 2 * (end + 1)) (drop (2 * (end + 1)) b)))) before after
+      → Put (text_of tried b) before after
   text-put tried p = put_same (sym (same tried)) p

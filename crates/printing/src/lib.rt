@@ -11,30 +11,32 @@ use deciding::{Answer, verdict_call};
 use format::field::field;
 use format::limits::DOCUMENT_WIDTH;
 use format::sections::section_end;
-use text::line::line;
+use text::page::Page;
 
 // The text of "not included", with the document and the result that an answer buffer shows.
-fn shown_text(tried: u64, answer: &[u8], out: &mut [u8]) -> usize
-    requires { ShownWhole answer.now × Room (text_of tried answer.now) 0 out.old }
-    ensures { Put (text_of tried answer.now) 0 out.old out.new result }
+fn shown_text(tried: u64, answer: &[u8], page: &mut Page)
+    requires whole { ShownWhole answer.now }
+    requires room { Room (text_of tried answer.now) page.old }
+    ensures { Put (text_of tried answer.now) page.old page.new }
 {
     let end = section_end(answer, 0, DOCUMENT_WIDTH);
     let from = 2 * (end + 1);
     let to = from + 2 * field(answer, end);
     let last = 2 * end;
-    lines::shown(tried, &answer[..last], &answer[from..to], out)
+    lines::shown(tried, &answer[..last], &answer[from..to], page);
 }
 
 // The text of an answer, with what the answer buffer shows.
-fn answer_text(told: Answer, answer: &[u8], out: &mut [u8]) -> usize
-    requires { Tellable told answer.now × Room (told_text told answer.now) 0 out.old }
-    ensures { Put (told_text told answer.now) 0 out.old out.new result }
+fn answer_text(told: Answer, answer: &[u8], page: &mut Page)
+    requires shown { Tellable told answer.now }
+    requires room { Room (told_text told answer.now) page.old }
+    ensures { Put (told_text told answer.now) page.old page.new }
 {
     match told {
-        Answer::Refused(number) => line(b"refused", number, out, 0),
-        Answer::Contained(tried) => lines::first_lines(b"included", tried, out, 0),
-        Answer::NotContained(tried) => shown_text(tried, answer, out),
-        Answer::Stopped(tried) => lines::first_lines(b"stopped", tried, out, 0),
+        Answer::Refused(number) => page.line(b"refused", number),
+        Answer::Contained(tried) => lines::first_lines(b"included", tried, page),
+        Answer::NotContained(tried) => shown_text(tried, answer, page),
+        Answer::Stopped(tried) => lines::first_lines(b"stopped", tried, page),
     }
 }
 
@@ -44,5 +46,7 @@ pub fn verdict_text(case: &[u8], out: &mut [u8; 26308]) -> usize
 {
     let mut answer = [0u8; 8192];
     let told = verdict_call(case, 1000000, 0, 0, &mut answer);
-    answer_text(told, &answer, out)
+    let mut page = Page::new(out);
+    answer_text(told, &answer, &mut page);
+    page.at
 }

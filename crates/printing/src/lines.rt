@@ -1,4 +1,4 @@
-// Document 01's lines, put into a lent slice from a byte on.
+// Document 01's lines, put on a page.
 
 ghost use Rattle.model.specs.Limits.{document_width};
 ghost use Rattle.model.specs.Bytes.{document_of, list_of, WholeSection};
@@ -6,24 +6,24 @@ ghost use Rattle.model.specs.Text.{first_lines, shown_text};
 ghost use Rattle.text.specs.Put.{Room, Put};
 
 use format::limits::DOCUMENT_WIDTH;
-use text::fields::{list_line, record_lines};
-use text::line::{line, words};
+use text::page::Page;
 
 // The first two lines: the verdict and tried.
-pub fn first_lines(text: &[u8], tried: u64, out: &mut [u8], at: usize) -> usize
-    requires { Room (first_lines text.now tried) at out.old }
-    ensures { Put (first_lines text.now tried) at out.old out.new result }
+pub fn first_lines(text: &[u8], tried: u64, page: &mut Page)
+    requires { Room (first_lines text.now tried) page.old }
+    ensures { Put (first_lines text.now tried) page.old page.new }
 {
-    let end = words(text, out, at);
-    line(b"tried", tried, out, end)
+    page.words(text);
+    page.line(b"tried", tried);
 }
 
 // The text of "not included": the first lines, the document's and the result's.
-pub fn shown(tried: u64, document: &[u8], list: &[u8], out: &mut [u8]) -> usize
-    requires { WholeSection document_width document.now 0 × Room (shown_text tried (document_of document.now) (list_of list.now)) 0 out.old }
-    ensures { Put (shown_text tried (document_of document.now) (list_of list.now)) 0 out.old out.new result }
+pub fn shown(tried: u64, document: &[u8], list: &[u8], page: &mut Page)
+    requires whole { WholeSection document_width document.now 0 }
+    requires room { Room (shown_text tried (document_of document.now) (list_of list.now)) page.old }
+    ensures { Put (shown_text tried (document_of document.now) (list_of list.now)) page.old page.new }
 {
-    let told = first_lines(b"not included", tried, out, 0);
-    let listed = record_lines(document, DOCUMENT_WIDTH, out, told);
-    list_line(b"answer", list, 0, list.len() / 2, out, listed)
+    first_lines(b"not included", tried, page);
+    page.record_lines(document, DOCUMENT_WIDTH);
+    page.list_line(b"answer", list, 0, list.len() / 2);
 }

@@ -1,10 +1,9 @@
--- What a call that asks questions in order leads to: each that holds leaves the decision to what is asked after it, and the first that
--- does not hold decides; the case questions, asked among others, do either as a whole. `search asking` goes through the questions of a call by
--- these laws, and `search required` through what a question requires of those before it. A refusal's number tells it. Assumes nothing.
+-- A refusal's number tells it, and `?` passes it on; a question that held, and what later questions require of those before them. What a call
+-- leads to that asks questions in order is found by computing `refusal` over them. Assumes nothing.
 use Prim.Native.Nat.{ℕ}
 use mathlib.Core.Path.{◌≡◌, refl, sym, ap, ◌∙◌}
 use mathlib.Core.Bool.{Bool, true, false}
-use mathlib.Core.List.{List, [], ◌∷◌, ◌++◌}
+use mathlib.Core.List.{List, [], ◌∷◌}
 use native.Mathlib.Omega.{arith}
 use lib.ListN.{get_or}
 use borrow.Author.Rules.{rules}
@@ -12,7 +11,7 @@ use Rattle.std.proofs.Common.{Result, Ok, Err, IsErrAnd, if◌then◌else◌}
 use Rattle.std.proofs.lemmas.Result.{err_from_is_err_and}
 use Rattle.model.specs.Bytes.{is_whole_case}
 use Rattle.model.specs.Questions.{case_whole, ask, Question, refusal, case_questions}
-use Rattle.model.proofs.Refusals.{AllYes, Numbered, accepted-all-yes, refusal-after, refusal-kept, refusal-yes, refusal-no}
+use Rattle.model.proofs.Refusals.{AllYes, Numbered, accepted-all-yes, refusal-yes}
 use Rattle.questions.specs.declared.refusal.Refusal.{Refusal}
 use Rattle.questions.specs.declared.refusal.Refusal.TheVariants.{Limit, Room, Bytes, Counts, SummaryRecords, Siblings, PatternRecords, Positions, Tally, Document, ResultList, PatternNumber, Embedding, SetCount, OldForm, Caller, Figure}
 use Rattle.questions.specs.Refusal.{number_of, asked}
@@ -66,26 +65,8 @@ pub held : {x : Unit {0}} (answer : Bool) (r : Refusal) → Ok x ≡ (if answer 
 held true r e = refl
 held false r e = cc
 
-pub not_held : (s : Refusal) (answer : Bool) (r : Refusal) → ◌≡◌ {A = Result (Unit {0}) Refusal} (Err s) (if answer then Ok tt else Err r) → (answer ≡ false) × (s ≡ r)
-not_held s true r e = cc
-not_held s false r e = (refl, cc)
-
-pub asked-no : {T : Type 0} (a : Result T Refusal) (s r : Refusal) (n : ℕ) (answer test : Bool) (rest : List Question) → ◌≡◌ {A = Result (Unit {0}) Refusal} (Err s) (if answer then Ok tt else Err r)
-    → answer ≡ test → n ≡ number_of r → IsErrAnd a (λ t. t ≡ s) → asked a ≡ refusal (ask n test ∷ rest)
-asked-no a s r n answer test rest h e c p =
-    let no = not_held s answer r h in
-    passed_on a s p ∙ ap number_of no.1 ∙ sym c ∙ sym (refusal-no (ask n test) rest (sym e ∙ no.0))
-
 pub asked-yes : {x : Unit {0}} (k n : ℕ) (r : Refusal) (answer test : Bool) (rest : List Question) → Ok x ≡ (if answer then Ok tt else Err r) → answer ≡ test → k ≡ refusal rest → k ≡ refusal (ask n test ∷ rest)
 asked-yes k n r answer test rest h e after = after ∙ sym (refusal-yes (ask n test) rest (sym e ∙ held answer r h))
-
--- the last one, whose answer is returned
-pub asked-last : (a : Result (Unit {0}) Refusal) (r : Refusal) (n : ℕ) (answer test : Bool) → a ≡ (if answer then Ok tt else Err r) → answer ≡ test → n ≡ number_of r → asked a ≡ refusal (ask n test ∷ [])
-unfolding refusal
-asked-last a r n true true h e c = ap asked h
-asked-last a r n false false h e c = ap asked h ∙ sym c
-asked-last a r n true false h e c = cc
-asked-last a r n false true h e c = cc
 
 -- ---- the case questions
 
@@ -95,13 +76,6 @@ case-numbered b = (omega arith, (omega arith, (omega arith, (omega arith, (omega
 
 all_yes : (b : List ℕ) → refusal (case_questions b) ≡ 0 → AllYes (case_questions b)
 all_yes b e = accepted-all-yes (case_questions b) (case-numbered b) e
-
-pub case-no : {T : Type 0} (a : Result T Refusal) (s : Refusal) (b : List ℕ) (rest : List Question) → number_of s ≡ refusal (case_questions b) → IsErrAnd a (λ t. t ≡ s)
-    → asked a ≡ refusal (case_questions b ++ rest)
-case-no a s b rest e p = passed_on a s p ∙ e ∙ sym (refusal-kept (case_questions b) rest (λ z. number-not_zero s (e ∙ z)))
-
-pub case-yes : (k : ℕ) (b : List ℕ) (rest : List Question) → 0 ≡ refusal (case_questions b) → k ≡ refusal rest → k ≡ refusal (case_questions b ++ rest)
-case-yes k b rest e after = after ∙ sym (refusal-after (case_questions b) rest (all_yes b (sym e)))
 
 -- ---- what later questions require of the bytes
 
@@ -115,9 +89,5 @@ test_held answer r test h e = sym e ∙ held answer r h
 pub accepted-whole : (b : List ℕ) → refusal (case_questions b) ≡ 0 → is_whole_case b ≡ true
 unfolding case_questions case_whole
 accepted-whole b e = (all_yes b e).0
-
-pub ruleset one_by_one = (rules, asked-no, asked-yes, asked-last)
-
-pub ruleset asking = (one_by_one, case-no, case-yes)
 
 pub ruleset required = (rules, whole_held, test_held, accepted-whole)

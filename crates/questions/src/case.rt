@@ -14,7 +14,7 @@ use format::sections::{first_at, pattern_end, section_end};
 use format::set::set_count;
 
 // The set whose count is field `on` ends where the bytes do. It may announce any number of sections, but each has a field at least, so
-// no more of them are passed than there are fields.
+// no more of them are passed than there are fields. Not by `PatternSet::members`: no section is known to be whole yet.
 fn set_ends(b: &[u8], on: usize) -> bool
     requires { 2 * (on + 1) ≤ length b.now }
     ensures { result ≡ eqb (length b.now / 2) (set_end b.now on) }

@@ -13,7 +13,8 @@ pub fn limit_in_range(limit: u64) -> bool
     between(1, MAX_LIMIT, limit)
 }
 
-// 2. Has the answer buffer 8,192 bytes or more?
+// 2. Has the answer buffer 8,192 bytes or more? This and the next are two functions, since each answers its own definition: one, given the
+// bound, would be the comparison alone.
 pub fn buffer_large_enough(bytes: usize) -> bool
     ensures { result ≡ buffer_large_enough bytes }
 {

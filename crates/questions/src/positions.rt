@@ -66,7 +66,7 @@ impl<'a> Model for Held<'a> {
 }
 
 impl<'a> Held<'a> {
-    // What the nodes hold, by one pass over them.
+    // What the nodes hold, by one pass over them. A `for`, not a fold: that the count has room is known of the nodes before q alone.
     pub fn by(pattern: &'a Pattern<'a>) -> Held<'a>
         ensures { result ≡ pattern.now }
     {

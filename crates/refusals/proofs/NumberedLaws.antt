@@ -8,7 +8,7 @@ use lib.Dec.{eqb}
 use lib.ListN.{length, get_or}
 use borrow.Author.Tests.{ne_eqb, eq-eqb, eqb-false}
 use Rattle.model.specs.Limits.{pattern_width}
-use Rattle.model.specs.Pattern.{Pattern, arity}
+use Rattle.model.specs.Pattern.{Pattern}
 use Rattle.model.specs.Bytes.{Case, first_at, set_at, member_at, set_of, case_of, WholeSection, is_whole_case}
 use Rattle.model.specs.Questions.{pattern_given, selected}
 use Rattle.model.proofs.Bytes.{whole-case}

@@ -27,7 +27,8 @@ pub fn is_child(s: &Summary, a: SummaryNode, v: SummaryNode) -> bool
     v.0 != 0 && s.parent(v).0 == a.0
 }
 
-// Summary node v is a descendant of a. The summary is a tree, so each parent that is read is a node.
+// Summary node v is a descendant of a. The summary is a tree, so each parent that is read is a node. The climb is no recursion: that would
+// take stack for each step.
 pub fn is_below(s: &Summary, a: SummaryNode, v: SummaryNode) -> bool
     requires summary_kept { SummaryKept s.now }
     requires v_in_bounds { v.0 < length s.now }
@@ -43,7 +44,7 @@ pub fn is_below(s: &Summary, a: SummaryNode, v: SummaryNode) -> bool
     false
 }
 
-// The edge, 0 child or 1 descendant, leads from a to v.
+// The edge, 0 child or 1 descendant as the record has it, leads from a to v.
 pub fn edge_kept(s: &Summary, edge: usize, a: SummaryNode, v: SummaryNode) -> bool
     requires summary_kept { SummaryKept s.now }
     requires v_in_bounds { v.0 < length s.now }

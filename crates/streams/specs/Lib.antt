@@ -1,2 +1,4 @@
+pub mod Read
 pub mod Sent
+pub mod Tells
 pub mod Trouble

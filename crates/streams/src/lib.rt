@@ -4,49 +4,38 @@
 
 #[cfg(test)]
 mod tests;
+pub mod program;
 mod trouble;
 
-ghost use Rattle.std.specs.Prelude.{◌≡◌, false, length, take, IfErr, IfSome, OnOk};
+ghost use Rattle.std.specs.Prelude.{◌≡◌, length, take, IfErr, IfOk, IfSome, OnOk};
 ghost use Rattle.std.specs.Counts.{IsPrefixLen};
 ghost use Rattle.std.specs.Io.KnownBytes.{Appends, Consumes};
-ghost use Rattle.streams.specs.Sent.{Sent};
+ghost use Rattle.text.specs.Told.{stream_of};
+ghost use Rattle.streams.specs.Read.{count_of};
+ghost use Rattle.streams.specs.Sent.{Sent, bytes_of};
 ghost use Rattle.streams.specs.declared.trouble.Trouble.TheVariants.{Unwritable};
 
 use std::io::{Read, Write};
-pub use trouble::Trouble;
+pub use trouble::{Cut, Trouble};
 
-// What reading gave: how many bytes stand at the front, and whether a read failed.
-#[derive(Clone, Copy)]
-pub struct Input {
-    pub count: usize,
-    pub failed: bool,
-}
-
-// Reads until the buffer is full, the input ends or a read fails, which is told from the input's end.
-pub fn read_all<R: Read>(reader: &mut R, buffer: &mut [u8]) -> Input
-    ensures front { IsPrefixLen result.count buffer.new }
+// Reads until the buffer is full, the input ends or a read fails, which is told from the input's end. The answer is how many bytes stand
+// at the front.
+pub fn read_all<R: Read>(reader: &mut R, buffer: &mut [u8]) -> Result<usize, Cut>
+    ensures front { IsPrefixLen (count_of result) buffer.new }
     ensures taken { Consumes (R.remaining reader.old) (R.remaining reader.new)
-        (take result.count buffer.new) }
-    ensures whole { result.failed ≡ false → IfSome (R.remaining reader.old)
-        (λ xs. take result.count buffer.new ≡ take (length buffer.new) xs) }
+        (take (count_of result) buffer.new) }
+    ensures whole { IfOk result (λ n. IfSome (R.remaining reader.old)
+        (λ xs. take n buffer.new ≡ take (length buffer.new) xs)) }
 {
     let mut done = 0;
     while done < buffer.len() {
         match reader.read(&mut buffer[done..]) {
             Ok(0) => break,
             Ok(more) => done += more,
-            Err(_) => {
-                return Input {
-                    count: done,
-                    failed: true,
-                };
-            }
+            Err(_) => return Err(Cut { count: done }),
         }
     }
-    Input {
-        count: done,
-        failed: false,
-    }
+    Ok(done)
 }
 
 // Writes all of the bytes.
@@ -54,26 +43,21 @@ pub fn write_all<W: Write>(bytes: &[u8], output: &mut W) -> Result<(), Trouble>
     ensures ok { OnOk result (Appends (W.contents output.old) (W.contents output.new) bytes.now) }
     ensures err { IfErr result (λ e. e ≡ Unwritable) }
 {
-    match output.write_all(bytes) {
-        Ok(()) => Ok(()),
-        Err(_) => Err(Trouble::Unwritable),
-    }
+    output.write_all(bytes).map_err(|_| Trouble::Unwritable)
 }
 
-// Writes all of the bytes to the stream of that number: 1 is standard output, any other standard error.
+// Writes all of the bytes to the stream that they are for: standard output has those that are told as Ok, standard error those as Err.
 pub fn write_to<W: Write, E: Write>(
-    stream: u64,
-    bytes: &[u8],
+    told: Result<&[u8], &[u8]>,
     output: &mut W,
     errors: &mut E,
 ) -> Result<(), Trouble>
-    ensures ok { OnOk result (Sent stream bytes.now
+    ensures ok { OnOk result (Sent (stream_of told.entry) (bytes_of told.entry)
         (W.contents output.old) (W.contents output.new) (E.contents errors.old) (E.contents errors.new)) }
     ensures err { IfErr result (λ e. e ≡ Unwritable) }
 {
-    if stream == 1 {
-        write_all(bytes, output)
-    } else {
-        write_all(bytes, errors)
+    match told {
+        Ok(bytes) => write_all(bytes, output),
+        Err(bytes) => write_all(bytes, errors),
     }
 }

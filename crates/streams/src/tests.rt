@@ -1,4 +1,4 @@
-use super::{Trouble, read_all, write_to};
+use super::{Cut, Trouble, read_all, write_to};
 use std::io;
 use std::io::{Read, Write};
 use std::test::Fail;
@@ -51,8 +51,8 @@ fn reads_to_the_end(rt: HostRuntime) {
     };
     let mut buffer = [0u8; 8];
     let input = read_all(&mut reader, &mut buffer);
-    assert!(rt; !input.failed);
-    assert_eq!(rt; &buffer[..input.count], b"abcde".as_slice());
+    assert_eq!(rt; input, Ok(5));
+    assert_eq!(rt; &buffer[..5], b"abcde".as_slice());
 }
 
 #[test]
@@ -63,8 +63,8 @@ fn reads_a_full_buffer(rt: HostRuntime) {
     };
     let mut buffer = [0u8; 3];
     let input = read_all(&mut reader, &mut buffer);
-    assert!(rt; !input.failed);
-    assert_eq!(rt; &buffer[..input.count], b"abc".as_slice());
+    assert_eq!(rt; input, Ok(3));
+    assert_eq!(rt; &buffer[..3], b"abc".as_slice());
     assert_eq!(rt; reader.bytes, b"de".as_slice());
 }
 
@@ -76,16 +76,16 @@ fn tells_a_failed_read(rt: HostRuntime) {
     };
     let mut buffer = [0u8; 8];
     let input = read_all(&mut reader, &mut buffer);
-    assert!(rt; input.failed);
-    assert_eq!(rt; &buffer[..input.count], b"abcde".as_slice());
+    assert_eq!(rt; input, Err(Cut { count: 5 }));
+    assert_eq!(rt; &buffer[..5], b"abcde".as_slice());
 }
 
 #[test]
 fn writes_to_one_stream(rt: HostRuntime) -> Result<(), Fail> {
     let mut output = Vec::new(rt.alloc());
     let mut errors = Vec::new(rt.alloc());
-    write_to(1, b"one", &mut output, &mut errors)?;
-    write_to(2, b"two", &mut output, &mut errors)?;
+    write_to(Ok(b"one"), &mut output, &mut errors)?;
+    write_to(Err(b"two"), &mut output, &mut errors)?;
     assert_eq!(rt; output.as_slice(), b"one".as_slice());
     assert_eq!(rt; errors.as_slice(), b"two".as_slice());
     Ok(())
@@ -95,11 +95,11 @@ fn writes_to_one_stream(rt: HostRuntime) -> Result<(), Fail> {
 fn tells_a_failed_write(rt: HostRuntime) {
     let mut output = Full { room: 2 };
     let mut errors = Full { room: 0 };
-    let short = write_to(1, b"one", &mut output, &mut errors);
+    let short = write_to(Ok(b"one"), &mut output, &mut errors);
     assert_eq!(rt; short, Err(Trouble::Unwritable));
-    let none = write_to(2, b"two", &mut output, &mut errors);
+    let none = write_to(Err(b"two"), &mut output, &mut errors);
     assert_eq!(rt; none, Err(Trouble::Unwritable));
-    let empty = write_to(2, b"", &mut output, &mut errors);
+    let empty = write_to(Err(b""), &mut output, &mut errors);
     assert_eq!(rt; empty, Ok(()));
 }
 

@@ -1,7 +1,8 @@
 // Why a program gives no answer.
 
-ghost use Rattle.std.specs.Prelude.{Some};
+ghost use Rattle.std.specs.Prelude.{◌≡◌, Some};
 ghost use Rattle.streams.specs.Trouble.{message};
+ghost use Rattle.streams.specs.declared.trouble.Trouble.TheVariants.{Unreadable};
 
 use std::error::Error;
 use std::fmt;
@@ -24,3 +25,17 @@ impl fmt::Display for Trouble {
 }
 
 impl Error for Trouble {}
+
+// A read failed when so many bytes had been read.
+#[derive(Clone, Copy, Debug, PartialEq, Eq)]
+pub struct Cut {
+    pub count: usize,
+}
+
+impl From<Cut> for Trouble {
+    ghost from_gives = { λ _ trouble. trouble ≡ Unreadable };
+
+    fn from(_cut: Cut) -> Trouble {
+        Trouble::Unreadable
+    }
+}

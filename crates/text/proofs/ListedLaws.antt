@@ -5,7 +5,6 @@ use mathlib.Core.List.{List, [], ◌∷◌, ◌++◌, map, flat_map, append-nil,
 use native.Mathlib.Omega.{arith}
 use native.Mathlib.Nat.{add-zero, zero-add, add-suc, mul-suc, mul-le-mul_left}
 use lib.ListN.{length, get_or, length-append}
-use lib.Seq.{paste-zero}
 use Rattle.model.specs.Lists.{up_from}
 use Rattle.model.specs.Bytes.{field, fields_at, section, WholeSection}
 use Rattle.model.specs.Text.{ascii, number, numbers, line}
@@ -14,18 +13,15 @@ use Rattle.format.proofs.RangeLaws.{up_from-last}
 use Rattle.format.proofs.SectionLaws.{section-length, section-record, section-below}
 use Rattle.format.proofs.WriteLaws.{flat_map-append}
 use Rattle.text.specs.Put.{Room, Put}
+use Rattle.text.specs.declared.page.Page.{Page}
 use Rattle.text.specs.Records.{record_line, record_lines}
-use Rattle.text.proofs.PutLaws.{Parts, put-length, room-rest, put_then}
+use Rattle.text.proofs.PutLaws.{Parts, put-none, room-rest, put_then}
 use Rattle.text.proofs.LineLaws.{more}
 
-put-none : (at : ℕ) (a : List ℕ) → Put [] at a a at
-put-none at a = record { ends = sym (add-zero at); buffer = paste-zero a at [] }
-
--- the first i of n texts stand from byte `at` on, up to `stop`
-pub record ListedUpTo (f : ℕ → List ℕ) (n at : ℕ) (out₀ out : List ℕ) (stop i : ℕ) : Type 0 where
+-- the first i of n texts stand behind what stood on a page
+pub record ListedUpTo (f : ℕ → List ℕ) (n : ℕ) (before page : Page) (i : ℕ) : Type 0 where
   pub turns : i ≤ n
-  pub long : length out ≡ length out₀
-  pub listed : Put (flat_map f (up_from 0 i)) at out₀ out stop
+  pub listed : Put (flat_map f (up_from 0 i)) before page
 
 flat-last : (f : ℕ → List ℕ) (i : ℕ) → flat_map f (up_from 0 (i + 1)) ≡ flat_map f (up_from 0 i) ++ f i
 unfolding flat_map
@@ -43,38 +39,33 @@ flat-grows f (suc d) i =
     let k = ap (λ (m : ℕ). length (flat_map f (up_from 0 m))) (let q : i + suc d ≡ i + 1 + d = omega arith in q) in
     omega arith
 
-module _ {f : ℕ → List ℕ} {n at : ℕ} {out₀ : List ℕ} where
-  pub listed_start : ListedUpTo f n at out₀ out₀ at 0
+module _ {f : ℕ → List ℕ} {n : ℕ} {before : Page} where
+  pub listed_start : ListedUpTo f n before before 0
   unfolding up_from flat_map
-  listed_start = record { turns = omega arith; long = refl; listed = put-none at out₀ }
+  listed_start = record { turns = omega arith; listed = put-none before }
 
-  module _ {out : List ℕ} {stop i : ℕ} (v : ListedUpTo f n at out₀ out stop i) where
-    module _ (h : i < n) (room : Room (flat_map f (up_from 0 n)) at out₀) where
+  module _ {page : Page} {i : ℕ} (v : ListedUpTo f n before page i) where
+    module _ (h : i < n) (room : Room (flat_map f (up_from 0 n)) before) where
       next : Parts (flat_map f (up_from 0 (i + 1))) (flat_map f (up_from 0 i)) (f i)
       next = record { parts = flat-last f i }
 
-      next-room : Room (flat_map f (up_from 0 (i + 1))) at out₀
+      next-room : Room (flat_map f (up_from 0 (i + 1))) before
       next-room =
           let r = room.fits in
           let g = flat-grows f (n - (i + 1)) (i + 1) in
           let k = ap (λ (m : ℕ). length (flat_map f (up_from 0 m))) (let q : i + 1 + (n - (i + 1)) ≡ n = omega arith in q) in
           record { fits = omega arith }
 
-      pub listed-room : Room (f i) stop out
+      pub listed-room : Room (f i) page
       listed-room = room-rest next next-room v.listed
 
-      pub listed-step : {out' : List ℕ} {stop' : ℕ} → Put (f i) stop out out' stop' → ListedUpTo f n at out₀ out' stop' (i + 1)
-      listed-step p =
-          record {
-            turns = omega arith;
-            long = put-length p listed-room ∙ v.long;
-            listed = put_then next next-room v.listed p;
-          }
+      pub listed-step : {after : Page} → Put (f i) page after → ListedUpTo f n before after (i + 1)
+      listed-step p = record { turns = omega arith; listed = put_then next next-room v.listed p }
 
-    pub listed-end : n ≤ i → Put (flat_map f (up_from 0 n)) at out₀ out stop
+    pub listed-end : n ≤ i → Put (flat_map f (up_from 0 n)) before page
     listed-end h =
         let l = v.turns in
-        subst (λ (k : ℕ). Put (flat_map f (up_from 0 k)) at out₀ out stop) (let e : i ≡ n = omega arith in e) v.listed
+        subst (λ (k : ℕ). Put (flat_map f (up_from 0 k)) before page) (let e : i ≡ n = omega arith in e) v.listed
 
 -- ---- fields
 

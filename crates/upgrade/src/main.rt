@@ -1,31 +1,20 @@
 // The program `upgrade`: an old case from standard input, the same case with a set of one on standard output; or a refusal on standard
-// error. What it writes, and to which stream, is `filing::upgrade_told`; here is reading and writing alone. A failed read or write is told
-// on standard error: the exit status stays 0.
+// error. What it writes, and to which stream, is `filing::upgrade_told`, and `streams::program::file` reads and writes. A failed read or
+// write is told on standard error: the exit status stays 0.
 #![tactic(auto)]
 
-ghost use Rattle.std.specs.Prelude.{◌≡◌, take, Err, IfErr, IfSome, OnOk};
+ghost use Rattle.std.specs.Prelude.{◌≡◌, take, Err, IfSome, OnOk};
 ghost use Rattle.std.specs.Io.KnownBytes.{Keeps};
 ghost use Rattle.streams.specs.Sent.{Sent};
-ghost use Rattle.streams.specs.declared.trouble.Trouble.TheVariants.{Unreadable, Unwritable};
+ghost use Rattle.streams.specs.declared.trouble.Trouble.TheVariants.{Unreadable};
 ghost use Rattle.model.specs.Text.{upgrade_told};
 
 use filing::upgrade_told;
 use std::io::{Read, Write};
-use streams::{Trouble, read_all, write_to};
+use streams::Trouble;
+use streams::program::file;
 
-// Writes what is told of a case to the stream that it is told for.
-fn tell<W: Write, E: Write>(case: &[u8], output: &mut W, errors: &mut E) -> Result<(), Trouble>
-    ensures ok { let told = upgrade_told case.now in OnOk result (Sent told.stream told.bytes
-        (W.contents output.old) (W.contents output.new) (E.contents errors.old) (E.contents errors.new)) }
-    ensures err { IfErr result (λ e. e ≡ Unwritable) }
-{
-    let mut text = [0u8; 8192];
-    let told = upgrade_told(case, &mut text);
-    let end = told.count;
-    write_to(told.stream, &text[..end], output, errors)
-}
-
-// Reads a case and writes what is told of it. One byte more than a case may have is read, so that a longer one is refused and not cut.
+// Reads a case and writes what is told of it to the stream that it is told for.
 fn run<R: Read, W: Write, E: Write>(
     input: &mut R,
     output: &mut W,
@@ -37,12 +26,7 @@ fn run<R: Read, W: Write, E: Write>(
     ensures unread { result ≡ Err Unreadable →
         Keeps (W.contents output.old) (W.contents output.new) × Keeps (E.contents errors.old) (E.contents errors.new) }
 {
-    let mut case = [0u8; 65537];
-    let read = read_all(input, &mut case);
-    if read.failed {
-        return Err(Trouble::Unreadable);
-    }
-    tell(&case[..read.count], output, errors)
+    file(upgrade_told, [0u8; 8192], input, output, errors)
 }
 
 fn main(rt: HostRuntime) {

@@ -1,39 +1,24 @@
-// The verdict program: a case from standard input, its text on standard output. What it prints is `printing::verdict_text`; here is
-// reading and writing alone. A failed read or write is told on standard error: the exit status stays 0.
+// The verdict program: a case from standard input, its text on standard output. What it prints is `printing::verdict_text`, and
+// `streams::program::print` reads and writes. A failed read or write is told on standard error: the exit status stays 0.
 #![tactic(auto)]
 
-ghost use Rattle.std.specs.Prelude.{◌≡◌, take, Err, IfErr, IfSome, OnOk};
+ghost use Rattle.std.specs.Prelude.{◌≡◌, take, Err, IfSome, OnOk};
 ghost use Rattle.std.specs.Io.KnownBytes.{Appends, Keeps};
-ghost use Rattle.streams.specs.declared.trouble.Trouble.TheVariants.{Unreadable, Unwritable};
+ghost use Rattle.streams.specs.declared.trouble.Trouble.TheVariants.{Unreadable};
 ghost use Rattle.model.specs.Text.{printed};
 
 use printing::verdict_text;
 use std::io::{Read, Write};
-use streams::{Trouble, read_all, write_all};
+use streams::Trouble;
+use streams::program::print;
 
-// Writes the text of a case.
-fn tell<W: Write>(case: &[u8], output: &mut W) -> Result<(), Trouble>
-    ensures ok { OnOk result
-        (Appends (W.contents output.old) (W.contents output.new) (printed case.now)) }
-    ensures err { IfErr result (λ e. e ≡ Unwritable) }
-{
-    let mut text = [0u8; 26308];
-    let end = verdict_text(case, &mut text);
-    write_all(&text[..end], output)
-}
-
-// Reads a case and writes its text. One byte more than a case may have is read, so that a longer one is refused and not cut.
+// Reads a case and writes its text.
 fn run<R: Read, W: Write>(input: &mut R, output: &mut W) -> Result<(), Trouble>
     ensures told { OnOk result (IfSome (R.remaining input.old)
         (λ xs. Appends (W.contents output.old) (W.contents output.new) (printed (take 65537 xs)))) }
     ensures unread { result ≡ Err Unreadable → Keeps (W.contents output.old) (W.contents output.new) }
 {
-    let mut case = [0u8; 65537];
-    let read = read_all(input, &mut case);
-    if read.failed {
-        return Err(Trouble::Unreadable);
-    }
-    tell(&case[..read.count], output)
+    print(verdict_text, [0u8; 26308], input, output)
 }
 
 fn main(rt: HostRuntime) {

@@ -1,10 +1,7 @@
--- `filing::downgrade_told` meets its contract: what is told of the call's answer is what the program writes. Assumes nothing.
+-- What is told of the call's answer is what the program writes. Assumes nothing.
 use borrow.Author.Rules.{rules}
-use Rattle.filing.proofs.FiledLaws.{downgrade-short, downgrade-filed}
+use Rattle.filing.proofs.FiledLaws.{downgrade-filed}
 use Rattle.filing.proofs.downgrade_told.Goals as goal
 
-pub tell-requires : goal.tell-requires
-tell-requires c = (downgrade-short _ (search rules) c.downgrade_call-moved.ensures, search rules)
-
 pub returns : goal.returns
-returns c = downgrade-filed _ (search rules) c.downgrade_call-moved.ensures c.tell.ensures
+returns c = downgrade-filed _ (search rules) c.downgrade_call.result c.downgrade_call.ensures c.tell.ensures

@@ -1,10 +1,7 @@
--- `filing::normalise_told` meets its contract: what is told of the call's answer is what the program writes. Assumes nothing.
+-- What is told of the call's answer is what the program writes. Assumes nothing.
 use borrow.Author.Rules.{rules}
-use Rattle.filing.proofs.FiledLaws.{normalise-short, normalise-filed}
+use Rattle.filing.proofs.FiledLaws.{normalise-filed}
 use Rattle.filing.proofs.normalise_told.Goals as goal
 
-pub tell-requires : goal.tell-requires
-tell-requires c = (normalise-short _ (search rules) c.normalise_call-moved.ensures, search rules)
-
 pub returns : goal.returns
-returns c = normalise-filed _ (search rules) c.normalise_call-moved.ensures c.tell.ensures
+returns c = normalise-filed _ (search rules) c.normalise_call.result c.normalise_call.ensures c.tell.ensures

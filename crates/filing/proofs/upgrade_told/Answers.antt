@@ -1,10 +1,7 @@
--- `filing::upgrade_told` meets its contract: what is told of the call's answer is what the program writes. Assumes nothing.
+-- What is told of the call's answer is what the program writes. Assumes nothing.
 use borrow.Author.Rules.{rules}
-use Rattle.filing.proofs.FiledLaws.{upgrade-short, upgrade-filed}
+use Rattle.filing.proofs.FiledLaws.{upgrade-filed}
 use Rattle.filing.proofs.upgrade_told.Goals as goal
 
-pub tell-requires : goal.tell-requires
-tell-requires c = (upgrade-short _ (search rules) c.upgrade_call-moved.ensures, search rules)
-
 pub returns : goal.returns
-returns c = upgrade-filed _ (search rules) c.upgrade_call-moved.ensures c.tell.ensures
+returns c = upgrade-filed _ (search rules) c.upgrade_call.result c.upgrade_call.ensures c.tell.ensures

@@ -1,4 +1,4 @@
--- `listing::answer_text` meets its contract: each arm is the case of the definition. Assumes nothing.
+-- Each arm is the case of the definition. Assumes nothing.
 use mathlib.Core.Path.{sym}
 use Rattle.model.specs.Text.{refused_text}
 use Rattle.text.proofs.PutLaws.{room-same, put_same}
@@ -7,12 +7,12 @@ use Rattle.listing.proofs.answer_text.Goals as goal
 
 pub order-requires : goal.order-requires
 order-requires c =
-    (c.requires.0 c.if-refused-eq0.true, room-same (told-order _ _ _ c.if-refused-eq0.true) c.requires.1)
+    record { held = c.requires.held c.if-refused-eq0.true; room = room-same (told-order _ _ _ c.if-refused-eq0.true) c.requires.room }
 
 pub line-requires : goal.line-requires
 unfolding refused_text
 line-requires c =
-    room-same (told-refusal _ _ _ c.if-refused-eq0.false) c.requires.1
+    room-same (told-refusal _ _ _ c.if-refused-eq0.false) c.requires.room
 
 pub returns-then-refused-eq0 : goal.returns-then-refused-eq0
 returns-then-refused-eq0 c =

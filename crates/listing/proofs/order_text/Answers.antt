@@ -1,4 +1,4 @@
--- `listing::order_text` meets its contract: the call's answer and what its buffer holds are what is printed. Assumes nothing.
+-- The call's answer and what its buffer holds are what is printed. Assumes nothing.
 use mathlib.Core.Path.{refl}
 use native.Mathlib.Omega.{arith}
 use borrow.Author.Rules.{rules}
@@ -8,14 +8,13 @@ use Rattle.listing.proofs.order_text.Goals as goal
 
 pub answer_text-requires : goal.answer_text-requires
 answer_text-requires c =
-    let small : AreBytes c.args.case.now =
-    (λ i. omega (arith, c.type_inv.case i)) in (
-      order-held _ small refl (search rules) c.minimise_call-told.ensures,
-      told-fits _ small refl (search rules) c.minimise_call-told.ensures (search rules),
-    )
+    let small : AreBytes c.args.case.now = (λ i. omega (arith, c.type_inv.case i)) in record {
+      held = order-held _ small refl (search rules) c.minimise_call-told.ensures;
+      room = told-fits _ small refl (search rules) c.minimise_call-told.ensures (search rules) (search rules);
+    }
 
 pub returns : goal.returns
 returns c =
-    let small : AreBytes c.args.case.now =
-    (λ i. omega (arith, c.type_inv.case i)) in
-    text-printed _ small refl (search rules) c.minimise_call-told.ensures (search rules) c.answer_text.ensures
+    let small : AreBytes c.args.case.now = (λ i. omega (arith, c.type_inv.case i)) in
+    rw (← c.new-page.ensures.bytes)
+    (text-printed _ small refl (search rules) c.minimise_call-told.ensures (search rules) (search rules) c.answer_text.ensures)

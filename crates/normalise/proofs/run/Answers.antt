@@ -1,12 +1,11 @@
-use Rattle.std.proofs.Common.{arith}
+-- What is told of the case is what is written. Assumes nothing.
+use Rattle.std.proofs.Common.{rules}
 use Rattle.model.specs.Text.{normalise_told}
-use Rattle.streams.specs.Sent.{Sent}
-use Rattle.streams.proofs.ReadLaws.{OnOk-read}
+use Rattle.streams.proofs.ReadLaws.{filed-inside}
 use Rattle.normalise.proofs.run.Goals as goal
 
+pub file-requires-clause-inside : goal.file-requires-clause-inside
+file-requires-clause-inside g c = λ case out out' r h. search (rules, filed-inside)
+
 pub returns-clause-told : goal.returns-clause-told
-returns-clause-told g c =
-    OnOk-read c.tell.result
-    (λ bytes. Sent (normalise_told bytes).stream (normalise_told bytes).bytes (g.W.Write.contents c.args.output.now) (g.W.Write.contents c.tell.new.output)
-    (g.E.Write.contents c.args.errors.now) (g.E.Write.contents c.tell.new.errors))
-    (g.R.Read.remaining c.args.input.now) _ _ 65537 (omega arith) (c.read_all-read.ensures.whole c.if-read.false) c.tell.ensures.ok
+returns-clause-told g c = c.file.ensures.told normalise_told (λ case out out' r h. search rules)

@@ -1,5 +1,4 @@
--- `laying::laid::records_of` meets its contract: after i turns the first i records stand at the front. The measure is what is left of
--- count. Assumes nothing.
+-- `laying::laid::records_of` meets its contract: after i turns the first i records stand at the front. Assumes nothing.
 use mathlib.Core.Path.{◌∙◌}
 use borrow.Author.Rules.{rules}
 use Rattle.format.proofs.FrontLoops.{filled-start, filled-step, filled-end}
@@ -10,7 +9,7 @@ pub loop-i-init : goal.loop-i-init
 loop-i-init c = filled-start (search rules)
 
 pub loop-i-preserved : goal.loop-i-preserved
-loop-i-preserved c = filled-step c.loop-i.invariant c.loop-i-test.true (let n = length-blank in search rules) c.record_at-node.ensures
+loop-i-preserved c = filled-step c.loop-i.invariant c.loop-i-test.true (let n = length-blank in search rules) c.record_at.ensures
 
 pub returns : goal.returns
 returns c =

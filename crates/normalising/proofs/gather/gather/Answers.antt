@@ -3,7 +3,7 @@ use Prim.Native.Nat.{suc, ◌-◌, ◌<◌}
 use mathlib.Core.Path.{◌≡◌, sym, ap, ap₂, ◌∙◌, subst}
 use mathlib.Core.List.{List, ◌++◌}
 use native.Mathlib.Omega.{arith}
-use lib.ListN.{length, set, take, drop}
+use lib.ListN.{length, set}
 use Rattle.model.specs.Normal.{Entry}
 use Rattle.model.specs.Gathering.{joined}
 use Rattle.normalising.proofs.TreeLaws.{Gathering, gathering-start, set-front, front_row, back_row, below, insertable, gathering-step, gathering-end}

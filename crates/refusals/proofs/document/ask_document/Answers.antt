@@ -1,6 +1,5 @@
 -- `refusals::document::ask_document` meets its contract: each question is asked where those before it held. Assumes nothing.
-use Rattle.std.proofs.Common.{rules, arith, refl, ℕ}
-use Rattle.std.proofs.lemmas.Grind.{common_steps}
+use Rattle.std.proofs.Common.{rules}
 use Rattle.model.specs.Questions.{refusal}
 use Rattle.questions.proofs.RefusalLaws.{required}
 use Rattle.refusals.proofs.DocumentLaws.{kept_whole}

@@ -1,5 +1,5 @@
 -- `refusals::document::document_kept` meets its contract: the bytes, and the records. Assumes nothing.
-use Rattle.std.proofs.Common.{rules, arith, refl, ℕ}
+use Rattle.std.proofs.Common.{rules, arith}
 use Rattle.std.proofs.lemmas.Grind.{common_steps}
 use Rattle.format.proofs.GivenLaws.{whole-document}
 use Rattle.refusals.proofs.DocumentLaws.{by_parts}

@@ -1,5 +1,5 @@
 -- `refusals::document::document_record_kept` meets its contract: the two rules are the definition's. Assumes nothing.
-use Rattle.std.proofs.Common.{rules, arith, refl, ℕ}
+use Rattle.std.proofs.Common.{arith}
 use Rattle.std.proofs.lemmas.Grind.{common_steps}
 use Rattle.model.specs.Questions.{document_record_kept}
 use Rattle.refusals.proofs.document.document_record_kept.Goals as goal

@@ -1,5 +1,5 @@
 -- `refusals::document::document_whole` meets its contract: the length is compared with the definition's end. Assumes nothing.
-use Rattle.std.proofs.Common.{rules, arith, refl, ℕ}
+use Rattle.std.proofs.Common.{arith}
 use Rattle.std.proofs.lemmas.Grind.{common_steps}
 use Rattle.model.specs.Bytes.{is_whole_document}
 use Rattle.refusals.proofs.DocumentLaws.{no-count}

@@ -1,6 +1,5 @@
 -- `refusals::document::figures_in_range` meets its contract: each record's figure is tested. Assumes nothing.
-use Rattle.std.proofs.Common.{rules, arith, refl, ℕ}
-use Rattle.std.proofs.lemmas.Grind.{common_steps}
+use Rattle.std.proofs.Common.{rules, refl, ℕ}
 use Rattle.model.specs.Tree.{figure_of}
 use Rattle.model.specs.Questions.{figure_in_range, document_figures}
 use Rattle.format.proofs.ChainLaws.{all_range}

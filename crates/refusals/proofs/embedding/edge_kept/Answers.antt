@@ -1,5 +1,5 @@
 -- `refusals::embedding::edge_kept` meets its contract: the edge says which of the two tests is the definition's. Assumes nothing.
-use Rattle.std.proofs.Common.{rules, arith, refl, ℕ}
+use Rattle.std.proofs.Common.{arith}
 use Rattle.std.proofs.lemmas.Grind.{common_steps}
 use Rattle.model.specs.Embeddings.{edge_test}
 use Rattle.refusals.proofs.embedding.edge_kept.Goals as goal

@@ -1,5 +1,5 @@
 -- `refusals::embedding::is_child` meets its contract: the tests are the definition's, and the node is one of the summary's. Assumes nothing.
-use Rattle.std.proofs.Common.{rules, arith, refl, ℕ}
+use Rattle.std.proofs.Common.{arith}
 use Rattle.std.proofs.lemmas.Grind.{common_steps}
 use Rattle.model.specs.Embeddings.{child_test}
 use Rattle.refusals.proofs.EmbeddingLaws.{summary-inside}

@@ -1,5 +1,5 @@
 -- `refusals::embedding::is_embedding_list` meets its contract: the count is tested first, and then each image. Assumes nothing.
-use Rattle.std.proofs.Common.{rules, arith, length, ap, ◌∙◌}
+use Rattle.std.proofs.Common.{arith, length, ap, ◌∙◌}
 use Rattle.model.specs.Pattern.{Pattern}
 use Rattle.std.proofs.lemmas.Grind.{common_steps}
 use Rattle.refusals.proofs.EmbeddingLaws.{images_given, embedding_asked, kept_by_images}

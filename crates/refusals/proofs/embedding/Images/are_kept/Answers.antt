@@ -1,6 +1,5 @@
 -- `refusals::embedding::Images::are_kept` meets its contract: each node is tested. Assumes nothing.
-use Rattle.std.proofs.Common.{rules, arith, refl, ℕ}
-use Rattle.std.proofs.lemmas.Grind.{common_steps}
+use Rattle.std.proofs.Common.{rules, refl}
 use Rattle.model.specs.Bytes.{list_of}
 use Rattle.refusals.specs.Images.{image_kept}
 use Rattle.format.proofs.ChainLaws.{all_range}

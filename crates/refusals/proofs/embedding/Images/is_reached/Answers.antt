@@ -1,7 +1,5 @@
 -- `refusals::embedding::Images::is_reached` meets its contract: the root's image is the root, and a parent's number is smaller, so its image is
 -- in the list. Assumes nothing.
-use Rattle.std.proofs.Common.{rules, arith, refl, ℕ}
-use Rattle.std.proofs.lemmas.Grind.{common_steps}
 use Rattle.refusals.proofs.EmbeddingLaws.{reached-root, reached-other}
 use Rattle.refusals.proofs.embedding.Images.is_reached.Goals as goal
 

@@ -1,5 +1,0 @@
-use Rattle.text.proofs.put.+digits.Given as goal
-
--- a tenth of a number is less than the number
-abbrev pub decreases-digits : goal.decreases-digits
-decreases-digits l = l.n
