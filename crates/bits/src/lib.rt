@@ -118,14 +118,14 @@ pub fn count64(m: u64) -> usize
 }
 
 // The least member, or 64 where there is none.
-pub fn first64(m: u64) -> usize
+fn first64(m: u64) -> usize
     ensures { result ≡ count_trailing_zeros 64 m }
 {
     index(u64::trailing_zeros(m))
 }
 
 // The set without i, which is in it.
-pub fn without64(m: u64, i: usize) -> u64
+fn without64(m: u64, i: usize) -> u64
     requires { (i < 64) × (2 ^ i ≤ m) }
     ensures { result ≡ m - 2 ^ i }
 {
@@ -160,59 +160,4 @@ impl Iterator for Members {
         self.0 = rest;
         Some(i)
     }
-}
-
-// What follows goes when nothing calls it any more.
-pub fn has16(m: u16, i: usize) -> bool
-    requires { i < 16 }
-    ensures { result ≡ has m i }
-{
-    m.has(i)
-}
-
-pub fn has64(m: u64, i: usize) -> bool
-    requires { i < 64 }
-    ensures { result ≡ has m i }
-{
-    m.has(i)
-}
-
-pub fn insert16(m: u16, i: usize) -> u16
-    requires { i < 16 }
-    ensures { result ≡ bit_or m (2 ^ i) }
-{
-    m.insert(i)
-}
-
-pub fn insert64(m: u64, i: usize) -> u64
-    requires { i < 64 }
-    ensures { result ≡ bit_or m (2 ^ i) }
-{
-    m.insert(i)
-}
-
-pub fn insert_if16(m: u16, i: usize, t: bool) -> u16
-    requires { i < 16 }
-    ensures { result ≡ insert_if t m i }
-{
-    m.insert_if(i, t)
-}
-
-pub fn insert_if64(m: u64, i: usize, t: bool) -> u64
-    requires { i < 64 }
-    ensures { result ≡ insert_if t m i }
-{
-    m.insert_if(i, t)
-}
-
-pub fn subset16(a: u16, b: u16) -> bool
-    ensures { result ≡ eqb (bit_and a b) a }
-{
-    a.is_subset(b)
-}
-
-pub fn subset64(a: u64, b: u64) -> bool
-    ensures { result ≡ eqb (bit_and a b) a }
-{
-    a.is_subset(b)
 }

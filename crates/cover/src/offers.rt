@@ -4,7 +4,7 @@ ghost use Rattle.std.specs.Prelude.{◌≡◌, ℕ, ◌<◌, get_or};
 ghost use Rattle.std.specs.Int.Bits.{bit_and, bit_or};
 ghost use Rattle.cover.specs.Cover.{inside_by, each_by, shared_below};
 
-use bits::{count64, subset16};
+use bits::{Mask, count64};
 
 pub type Offer = [u16; 8];
 
@@ -12,7 +12,7 @@ pub type Offer = [u16; 8];
 pub fn inside(a: &Offer, b: &Offer) -> bool
     ensures { result ≡ inside_by a.now b.now }
 {
-    a.iter().zip(b).all(|(x, y)| subset16(*x, *y))
+    a.iter().zip(b).all(|(x, y)| x.is_subset(*y))
 }
 
 // What an operation makes of the masks of a and b, member by member.

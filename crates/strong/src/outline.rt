@@ -4,7 +4,7 @@ ghost use Rattle.std.specs.Prelude.{◌≡◌, ◌<◌, get_or};
 ghost use Rattle.model.specs.Strong.{strong_table};
 ghost use Rattle.format.specs.Given.{SummaryKept};
 
-use crate::{Strong, strong_table};
+use crate::{Strong, strong_of, strong_table};
 use format::nodes::SummaryNode;
 use format::summary::Summary;
 use std::marker::Model;
@@ -50,6 +50,6 @@ impl<'a> Outline<'a> {
         requires { s.0 < 64 }
         ensures { result ≡ get_or (strong_table self.now) s.0 0 }
     {
-        self.strong[s.0]
+        strong_of(&self.strong, s)
     }
 }
