@@ -5,24 +5,23 @@ use Prim.Native.Nat.{ℕ, ◌≤◌}
 use mathlib.Core.Path.{◌≡◌, refl, sym, ap, ap₂, ◌∙◌, subst}
 use mathlib.Core.List.{List, []}
 use native.Mathlib.Omega.{arith}
-use lib.ListN.{length, take}
+use lib.ListN.{length, take, get_or}
 use Rattle.model.specs.Limits.{max_pattern, max_position}
 use Rattle.model.specs.Summary.{Summary}
 use Rattle.model.specs.Pattern.{Pattern, arity, SummaryEmbedding}
 use Rattle.model.specs.Embeddings.{image_in}
-use Rattle.model.specs.Facts.{CaseFacts, AcceptedCase}
+use Rattle.model.specs.Facts.{CaseFacts}
 use Rattle.model.specs.Verdict.{Verdict, included, not_included, stopped}
-use Rattle.model.specs.Bytes.{Case, case_of, first_at, set_at, set_of, written_at_front}
+use Rattle.model.specs.Bytes.{Case, written_at_front}
+use Rattle.model.proofs.ListLaws.{mem-at}
 use Rattle.model.specs.Calls.{shown}
 use Rattle.model.proofs.Bytes.{front-none, front-written}
 use Rattle.model.proofs.Decision.{placed}
 use Rattle.model.proofs.Verdict.{verdict-shown}
-use Rattle.format.specs.Given.{summary_in, pattern_at, PatternGiven, SetGiven}
-use Rattle.format.proofs.GivenLaws.{given-summary, given-first, given-set}
-use Rattle.questions.proofs.SectionLaws.{first-pattern}
+use Rattle.format.specs.Given.{SummaryKept}
 use Rattle.canonical.specs.Given.{embedding_in}
 use Rattle.canonical.specs.Shown.{shown_document, Showable}
-use Rattle.containment.specs.Answer.{answer_of, shown_of, case_by, verdict_of, CaseGiven}
+use Rattle.containment.specs.Answer.{answer_of, shown_of, verdict_of, CaseKept}
 use Rattle.containment.specs.declared.Containment.{Containment}
 use Rattle.containment.specs.declared.Containment.TheVariants.{NotContained}
 use Rattle.deciding.specs.Told.{Told}
@@ -53,27 +52,25 @@ shown-not S P n es = refl
 
 -- ---- an accepted case
 
-module _ {b : List ℕ} (A : AcceptedCase b) {first set : ℕ} (e : first ≡ first_at b) (f : set ≡ set_at b) where
-  same_case : case_by b b first set ≡ case_of b
-  unfolding case_of
-  same_case = λ i. record { summary = (case_of b).summary; first = sym (first-pattern b first e) i; members = ap (set_of b) f i }
+module _ {c : Case} (F : CaseFacts c) where
+  pub summary-kept : SummaryKept c.summary
+  summary-kept = record { tree = F.summary.tree; few = F.summary_size }
 
-  pub case-given : CaseGiven b b first set
-  case-given =
+  pub case-kept : CaseKept c.summary c.first c.members
+  case-kept =
       record {
-        summary = given-summary A;
-        first = subst (λ (at : ℕ). PatternGiven b at) (sym e) (given-first A);
-        members = subst (λ (on : ℕ). SetGiven b on) (sym f) (given-set A);
-        facts = subst (λ (c : Case). CaseFacts c) (sym same_case) A.facts;
+        summary = summary-kept;
+        first = record { tree = F.first.tree; few = F.first_size };
+        members = record {
+          few = F.few_members;
+          members = λ i h. let m = F.members (get_or c.members i []) (mem-at c.members i [] h) in record { tree = m.pattern.tree; few = m.size };
+        };
+        facts = F;
       }
-
-  -- what is told of it by the fields where its patterns stand
-  pub told-case : {limit : ℕ} {before after : List ℕ} {r : Containment} → Told (case_by b b first set) limit before after r → Told (case_of b) limit before after r
-  told-case {limit} {before} {after} {r} t = subst (λ (c : Case). Told c limit before after r) same_case t
 
   module _ (limit : ℕ) where
     abbrev v : Verdict
-    v = verdict_of (case_by b b first set) limit
+    v = verdict_of c limit
 
     abbrev es : List ℕ
     es = shown_of v
@@ -82,38 +79,36 @@ module _ {b : List ℕ} (A : AcceptedCase b) {first set : ℕ} (e : first ≡ fi
       is-not : v ≡ not_included t es
       is-not = not-included v (sym a ∙ n)
 
-      embedded : (length es ≡ length (pattern_at b first)) × SummaryEmbedding (summary_in b) (pattern_at b first) (image_in es)
-      embedded = placed case-given.facts.summary case-given.facts.first (verdict-shown (summary_in b) (pattern_at b first) (set_of b set) limit t es is-not).0
+      embedded : (length es ≡ length c.first) × SummaryEmbedding c.summary c.first (image_in es)
+      embedded = placed F.summary F.first (verdict-shown c.summary c.first c.members limit t es is-not).0
 
       -- the images are the embedding
-      shown-images : embedding_in b first images ≡ es
+      shown-images : embedding_in c.first images ≡ es
       shown-images = ap₂ (λ (k : ℕ) (xs : List ℕ). take k xs) (sym embedded.0) i ∙ front-written es images₀
 
-      pub showable : {k : ℕ} → k ≡ arity (pattern_at b first) → max_pattern ≤ length images → Showable b first images k
+      pub showable : {k : ℕ} → k ≡ arity c.first → max_pattern ≤ length images → Showable c.summary c.first images k
       showable {k} p h =
-          let few : arity (pattern_at b first) ≤ max_position = case-given.facts.arity_bound in
+          let few : arity c.first ≤ max_position = F.arity_bound in
           record {
             embedded =
                 record {
-                  summary = case-given.summary;
-                  pattern = case-given.first;
-                  enough = let l : length (pattern_at b first) ≤ max_pattern = case-given.first.few in omega arith;
-                  embedding = subst (λ (xs : List ℕ). SummaryEmbedding (summary_in b) (pattern_at b first) (image_in xs)) (sym shown-images) embedded.1;
+                  summary = summary-kept;
+                  pattern = case-kept.first;
+                  enough = let l : length c.first ≤ max_pattern = F.first_size in omega arith;
+                  embedding = subst (λ (xs : List ℕ). SummaryEmbedding c.summary c.first (image_in xs)) (sym shown-images) embedded.1;
                 };
-            facts = case-given.facts.first;
+            facts = F.first;
             positions = p;
             few = omega arith;
           }
 
       -- and what is shown of it is the verdict's
-      pub told-shown : {before after : List ℕ} → after ≡ written_at_front (shown_document (summary_in b) (pattern_at b first) (embedding_in b first images)) before
-          → Told (case_of b) limit before after (NotContained t)
+      pub told-shown : {before after : List ℕ} → after ≡ written_at_front (shown_document c.summary c.first (embedding_in c.first images)) before → Told c limit before after (NotContained t)
       told-shown {before} w =
-          told-case
-          (record {
+          record {
             verdict = sym n ∙ a;
             buffer =
-                w ∙ ap (λ (xs : List ℕ). written_at_front (shown_document (summary_in b) (pattern_at b first) xs) before) shown-images
-                ∙ sym (ap (λ (x : Verdict). written_at_front (shown (summary_in b) (pattern_at b first) x) before) is-not
-                ∙ ap (λ (x : List ℕ). written_at_front x before) (shown-not (summary_in b) (pattern_at b first) t es));
-          })
+                w ∙ ap (λ (xs : List ℕ). written_at_front (shown_document c.summary c.first xs) before) shown-images
+                ∙ sym (ap (λ (x : Verdict). written_at_front (shown c.summary c.first x) before) is-not
+                ∙ ap (λ (x : List ℕ). written_at_front x before) (shown-not c.summary c.first t es));
+          }

@@ -3,8 +3,7 @@
 
 ghost use Rattle.std.specs.Prelude.{◌≤◌, length};
 ghost use Rattle.model.specs.Limits.{max_limit, min_buffer};
-ghost use Rattle.model.specs.Bytes.{case_of};
-ghost use Rattle.model.specs.Facts.{AcceptedCase};
+ghost use Rattle.model.specs.Facts.{CaseFacts};
 ghost use Rattle.model.specs.Demands.{VerdictAnswered};
 ghost use Rattle.deciding.specs.Told.{Told};
 ghost use Rattle.deciding.specs.Outcome.{outcome_of};
@@ -12,35 +11,28 @@ ghost use Rattle.deciding.specs.Outcome.{outcome_of};
 use canonical::show;
 use containment::Containment;
 use containment::verdict::verdict;
-use format::sections::{first_at, set_at};
-use judging::rows::{STRONG_ROW, summary_rows};
+use format::case::Case;
+use judging::rows::SummaryRows;
 use questions::numbers::Account;
 use questions::pattern::arity;
 use questions::refusal::Refusal;
 use refusals::ask_verdict;
+use strong::outline::Outline;
 
 // The verdict on an accepted case, whose summary's rows are gathered once, for judging and for what is shown. What "not included" shows
 // goes to the front of the answer buffer.
-fn accepted(case: &[u8], limit: u64, answer: &mut [u8]) -> Containment
-    requires { AcceptedCase case.now × (min_buffer ≤ length answer.old) × (limit ≤ max_limit) }
-    ensures { Told (case_of case.now) limit answer.old answer.new result }
+fn accepted(case: &Case, limit: u64, answer: &mut [u8]) -> Containment
+    requires { CaseFacts case.now × (min_buffer ≤ length answer.old) × (limit ≤ max_limit) }
+    ensures { Told case.now limit answer.old answer.new result }
 {
-    let first = first_at(case);
-    let set = set_at(case);
-    let rows = summary_rows(case);
+    let rows = SummaryRows::new(Outline::new(case.summary()));
+    let first = case.first();
     let mut images = [0u16; 16];
-    let r = verdict(case, &rows, case, first, set, &mut images, limit);
+    let r = verdict(&rows, &first, &case.set(), &mut images, limit);
     let Containment::NotContained(rank) = r else {
         return r;
     };
-    show(
-        case,
-        &rows[STRONG_ROW],
-        first,
-        &images,
-        arity(case, first),
-        answer,
-    );
+    show(rows.outline(), &first, &images, arity(&first), answer);
     Containment::NotContained(rank)
 }
 
@@ -55,5 +47,5 @@ pub fn verdict_call(
     ensures { VerdictAnswered case.now limit account.caller account.tally answer.old (outcome_of account.tally result answer.new) }
 {
     ask_verdict(case, limit, account, answer.len())?;
-    Ok(accepted(case, limit, answer))
+    Ok(accepted(&Case::new(case), limit, answer))
 }

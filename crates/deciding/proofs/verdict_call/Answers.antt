@@ -4,6 +4,7 @@ use Rattle.std.proofs.Common.{sym, arith}
 use Rattle.std.proofs.lemmas.Result.{err_from_is_err_and}
 use Rattle.model.proofs.CallFacts.{accepted-verdict}
 use Rattle.model.specs.Bytes.{AreBytes}
+use Rattle.refusals.proofs.AcceptedLaws.{accepted-whole}
 use Rattle.deciding.proofs.CallLaws.{answered-refused, answered-accepted}
 use Rattle.deciding.proofs.verdict_call.Goals as goal
 
@@ -13,10 +14,13 @@ returns-in_err-ask_verdict c =
     let p = err_from_is_err_and c.from_residual.result c.from_residual.ensures.1 in
     rw (p.1, p.2) (answered-refused _ small _ _ _ _ c.in_err-ask_verdict.field-0.0 c.in_err-ask_verdict.ensures)
 
+pub new-requires : goal.new-requires
+new-requires c = accepted-whole (accepted-verdict _ _ _ _ _ (sym c.in_ok-ask_verdict.ensures)).case
+
 pub accepted-requires : goal.accepted-requires
-accepted-requires c = let f = accepted-verdict _ _ _ _ _ (sym c.in_ok-ask_verdict.ensures) in (f.case, f.buffer, f.limit_high)
+accepted-requires c = let f = accepted-verdict _ _ _ _ _ (sym c.in_ok-ask_verdict.ensures) in rw c.new.ensures (f.case.facts, f.buffer, f.limit_high)
 
 pub returns : goal.returns
 returns c =
     let small : AreBytes c.args.case.now = (λ i. omega (arith, c.type_inv.case i)) in
-    answered-accepted _ small _ _ _ _ (sym c.in_ok-ask_verdict.ensures) c.accepted.ensures
+    answered-accepted _ small _ _ _ _ (sym c.in_ok-ask_verdict.ensures) (rw c.new.ensures at c.accepted.ensures)
