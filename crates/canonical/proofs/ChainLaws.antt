@@ -1,6 +1,6 @@
 -- A chain climbed from its lower end fills a mask whose members in ascending order are the chain, top first, since a parent has a
 -- smaller number than its child; and the members are appended one by one. Assumes nothing.
-use Prim.Native.Nat.{ℕ, suc, ◌+◌, ◌-◌, ◌^◌, ◌≤◌, ◌<◌}
+use Prim.Native.Nat.{ℕ, suc, ◌+◌, ◌^◌, ◌≤◌, ◌<◌}
 use mathlib.Core.Path.{◌≡◌, refl, sym, ap, ap₂, ◌∙◌, subst}
 use mathlib.Core.Bool.{Bool, false, ◌||◌}
 use mathlib.Core.Logic.{◌⊎◌, inl, inr}

@@ -8,7 +8,7 @@ use native.Mathlib.Omega.{arith}
 use native.Mathlib.Numerals.{add-one}
 use lib.ListN.{length, get_or, drop, set, replicate, drop_of_length-le}
 use lib.Seq.{drop-cons, get_or-take}
-use Rattle.model.specs.Limits.{max_pattern, max_canonical}
+use Rattle.model.specs.Limits.{max_canonical}
 use Rattle.model.specs.Summary.{Summary, as_document}
 use Rattle.model.specs.Pattern.{Pattern, PatternRecord, no_pattern_record, pattern_parent, descends}
 use Rattle.model.specs.Embeddings.{image_in}
@@ -17,7 +17,6 @@ use Rattle.model.specs.Canonical.{Spot, root_spot, chain, append_chain, Layout, 
 use Rattle.model.proofs.ListLaws.{length-snoc}
 use Rattle.model.proofs.TreeLaws.{edge-below}
 use Rattle.model.proofs.ChainPhase.{drop-one}
-use Rattle.model.proofs.Bytes.{front_length}
 use Rattle.format.proofs.FrontLaws.{front-get_or, front-set}
 use Rattle.canonical.specs.Draft.{Tables, Drafted}
 use Rattle.canonical.specs.Given.{embedding_in, Embedded, Hanging, Hung}
@@ -57,10 +56,6 @@ laying-start S P es {count = count} c =
       own_inside = λ p l. subst (λ (k : ℕ). image_in (0 ∷ []) k < count) (let z : 0 ≡ p = omega arith in z) c.some;
       rest = ap (lay_nodes es S root_layout) (drop-one P);
     }
-
--- the own nodes' table keeps its length
-pub laying-own : {S : Summary} {P : Pattern} {es : List ℕ} {base now : Tables} {own : List ℕ} {q count : ℕ} → Laying S P es base now own q count → q ≤ max_pattern → length own ≡ max_pattern
-laying-own l h = ap (λ (x : List ℕ). length x) l.own_front ∙ front_length l.layout.own (replicate 16 0) (let n = l.own_length in omega arith)
 
 -- all pattern nodes are laid out
 pub laying-end : {S : Summary} {P : Pattern} {es : List ℕ} {base now : Tables} {own : List ℕ} {q count : ℕ}

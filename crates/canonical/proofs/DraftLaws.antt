@@ -345,10 +345,6 @@ front-one : (b : List ℕ) (x : ℕ) → 0 < length b → set b 0 x ≡ written_
 unfolding written_at_front
 front-one b x h = front-set [] b x h
 
--- two drafts over one base
-pub drafted-same : {S : Summary} {spots later : List Spot} {base now then : Tables} {count n : ℕ} → Drafted S spots base now count → Drafted S later base then n → SameLengths then now
-drafted-same c d = let a = drafted-lengths c in let b = drafted-lengths d in omega arith
-
 pub summary-some : {S : Summary} → SummaryKept S → 0 < length S
 summary-some {S} g = subst (λ (n : ℕ). 0 < n) (length-as_document S) g.tree.inhabited
 

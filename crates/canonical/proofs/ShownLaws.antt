@@ -6,14 +6,14 @@ use mathlib.Core.List.{List, map}
 use native.Mathlib.Omega.{arith}
 use lib.ListN.{length, get_or, take, replicate, length-map}
 use lib.Seq.{ext_get_or}
-use Rattle.model.specs.Limits.{max_pattern, max_canonical}
+use Rattle.model.specs.Limits.{max_canonical}
 use Rattle.model.specs.Summary.{Summary}
 use Rattle.model.specs.Pattern.{Pattern, node_at, return_nodes}
 use Rattle.model.specs.Embeddings.{image_in}
 use Rattle.model.specs.Canonical.{canonical, own_nodes, own_result}
 use Rattle.model.specs.Bytes.{encode_document, encode_counted, written_at_front}
 use Rattle.model.proofs.ListLaws.{length-map-up_from}
-use Rattle.model.proofs.Bytes.{front_length, front-written}
+use Rattle.model.proofs.Bytes.{front-written}
 use Rattle.model.proofs.Canonical.{length-canonical, canonical-built}
 use Rattle.model.proofs.ReturnNodes.{length-return_nodes, return-at}
 use Rattle.format.proofs.FrontLaws.{front-get_or}
@@ -35,10 +35,6 @@ module _ {S : Summary} {P : Pattern} {images : List ℕ} {k : ℕ} (h : Showable
   module _ {bytes₀ bytes on₀ on : List ℕ} {r : LaidOut} (w : WrittenOut S P es bytes₀ bytes on₀ on r) where
     own-size : length (own_nodes S P es) ≡ length P
     own-size = let e = h.embedded in (canonical-built S P es e.summary.tree e.pattern.tree e.embedding).own_length
-
-    pub own-length : length r.own ≡ max_pattern
-    own-length =
-        ap (λ (xs : List ℕ). length xs) w.own ∙ front_length (own_nodes S P es) (replicate 16 0) (let n = own-size in let f = h.embedded.pattern.few in omega arith)
 
     own-node : (i : ℕ) → i < k → image_in r.own (node_at P (i + 1)) ≡ image_in (own_nodes S P es) (node_at P (i + 1))
     own-node i p =

@@ -29,6 +29,7 @@ fn climb(summary: &Summary, a: SummaryNode, b: SummaryNode) -> u64
     requires { SummaryKept summary.now × AtOrBelow (as_document summary.now) a.0 b.0 }
     ensures { members result ≡ chain summary.now a.0 b.0 }
 {
+    // No range: it climbs from parent to parent.
     let mut x = b;
     let mut nodes = 0u64;
     while x.0 != a.0 {

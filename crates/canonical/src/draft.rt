@@ -53,16 +53,14 @@ impl<'a> Draft<'a> {
         ensures row { tables self.new
             ≡ appended summary.now (tables self.old) self.old.count v.0 s.0 }
     {
-        let above = v.0;
-        let place = s.0;
         let count = self.count;
-        put_field(self.bytes, 1 + DOCUMENT_WIDTH * count, above as u16);
+        put_field(self.bytes, 1 + DOCUMENT_WIDTH * count, v.0 as u16);
         put_field(self.bytes, 2 + DOCUMENT_WIDTH * count, summary.label(s));
         put_field(self.bytes, 3 + DOCUMENT_WIDTH * count, 0);
-        self.on[count] = place as u16;
-        self.kids[above] = self.kids[above].insert(place);
+        self.on[count] = s.0 as u16;
+        self.kids[v.0] = self.kids[v.0].insert(s.0);
         self.kids[count] = 0;
-        self.count = count + 1;
+        self.count += 1;
     }
 
     // How many nodes there are.
@@ -85,7 +83,6 @@ impl<'a> Draft<'a> {
         requires { (v.0 < length (tables self.now).kids) × (s.0 < 64) }
         ensures { result ≡ has (get_or (tables self.now).kids v.0 0) s.0 }
     {
-        let above = v.0;
-        self.kids[above].has(s.0)
+        self.kids[v.0].has(s.0)
     }
 }

@@ -76,8 +76,7 @@ pub fn show(outline: &Outline, pattern: &Pattern, images: &[u16], k: usize, answ
 {
     let mut on = [0u16; 1024];
     let laid = lay_out(outline, pattern, images, answer, &mut on);
-    let own = laid.own;
-    let result = own_result(pattern, &own, k);
+    let result = own_result(pattern, &laid.own, k);
     let end = 2 + 6 * laid.count;
     write_counted(&result, k, &mut answer[end..]);
 }

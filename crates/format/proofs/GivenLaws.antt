@@ -12,33 +12,8 @@ use Rattle.model.specs.Bytes.{first_at, set_at, member_at, set_of, section_end, 
 use Rattle.model.specs.Facts.{MemberFacts, DocumentFacts, AcceptedCase}
 use Rattle.model.proofs.ListLaws.{mem-at}
 use Rattle.model.proofs.TreeLaws.{length-as_document}
-use Rattle.format.specs.Given.{summary_in, pattern_at, SummaryGiven, PatternGiven, SetGiven, DocumentGiven, TreeGiven}
-use Rattle.format.proofs.BareLaws.{bare-length, bare-tree}
-use Rattle.format.proofs.SectionLaws.{set_below, set-member, tree-document, tree-summary}
-
--- ---- a tree that may be either
-
-pub summary-as-tree : {b : List ℕ} → SummaryGiven b → TreeGiven summary_width b max_summary
-summary-as-tree {b} G =
-    let same = tree-summary b in
-    record {
-      narrow = omega arith;
-      three = omega arith;
-      whole = G.whole;
-      tree = subst (λ (T : Document). IsTree T) (sym same) G.tree;
-      few = subst (λ (T : Document). length T ≤ max_summary) (sym same) (let l = length-as_document (summary_in b) in let f = G.few in omega arith);
-    }
-
-pub document-as-tree : {w : List ℕ} → DocumentGiven w → TreeGiven document_width w max_document
-document-as-tree {w} G =
-    let same = tree-document w in
-    record {
-      narrow = omega arith;
-      three = omega arith;
-      whole = G.whole;
-      tree = subst (λ (T : Document). IsTree T) (sym same) (bare-tree (document_of w) G.tree);
-      few = subst (λ (T : Document). length T ≤ max_document) (sym same) (let l = bare-length (document_of w) in let f = G.few in omega arith);
-    }
+use Rattle.format.specs.Given.{summary_in, pattern_at, SummaryGiven, PatternGiven, SetGiven, DocumentGiven}
+use Rattle.format.proofs.SectionLaws.{set_below, set-member}
 
 -- ---- accepted bytes
 

@@ -5,7 +5,6 @@ pub mod SectionLaws
 pub mod ListLaws
 pub mod MemberLaws
 pub mod ChainLaws
-pub mod BareLaws
 pub mod GivenLaws
 pub mod PositionLaws
 pub mod WriteLaws

@@ -15,7 +15,7 @@ use Rattle.model.specs.Pattern.{PatternRecord, no_pattern_record}
 use Rattle.model.specs.Bytes.{field, section, records_at, summary_record_at, pattern_record_at, document_record_at, section_end, member_at, set_of, case_of, document_of, WholeSection, WholeSet}
 use Rattle.model.proofs.ListLaws.{length-map-up_from}
 use Rattle.model.proofs.Bytes.{member-next}
-use Rattle.format.specs.Given.{summary_in, pattern_at, without_figure, bare, bare_record_at, tree_of, third_in}
+use Rattle.format.specs.Given.{summary_in, pattern_at}
 use Rattle.format.proofs.RangeLaws.{get_or-map-below}
 
 -- a record of a whole section ends inside
@@ -72,22 +72,10 @@ pub summary-count : (b : List ℕ) → length (summary_in b) ≡ field b 0
 unfolding case_of
 summary-count b = section-length summary_record_at summary_width b 0
 
-pub summary-below : (b : List ℕ) (i : ℕ) → i < length (summary_in b) → i < field b 0
-summary-below b i h = subst (λ (n : ℕ). i < n) (summary-count b) h
-
-pub summary-field : (b : List ℕ) (get : SummaryRecord → ℕ) (i j : ℕ) → ((a : ℕ) → get (summary_record_at b a) ≡ field b (a + j)) → i < length (summary_in b)
-    → field b (1 + summary_width * i + j) ≡ get (get_or (summary_in b) i no_summary_record)
-unfolding case_of
-summary-field b get i j e h = section-field summary_record_at summary_width b 0 no_summary_record get i j e h
-
 -- it is a section's table
 pub summary-section : (b : List ℕ) {S : List SummaryRecord} → summary_in b ≡ S → section summary_record_at summary_width b 0 ≡ S
 unfolding case_of
 summary-section b e = e
-
--- its records read as a document's
-pub summary-record : (b : List ℕ) (i : ℕ) → get_or (as_document (summary_in b)) i no_document_record ≡ without_strong (get_or (summary_in b) i no_summary_record)
-summary-record b i = get_or-map without_strong (summary_in b) i no_summary_record
 
 -- ---- a pattern
 
@@ -96,10 +84,6 @@ pattern-count b at = section-length pattern_record_at pattern_width b at
 
 pub pattern-below : (b : List ℕ) (at i : ℕ) → i < length (pattern_at b at) → i < field b at
 pattern-below b at i h = section-below pattern_record_at pattern_width b at i h
-
-pub pattern-field : (b : List ℕ) (at : ℕ) (get : PatternRecord → ℕ) (i j : ℕ) → ((a : ℕ) → get (pattern_record_at b a) ≡ field b (a + j)) → i < length (pattern_at b at)
-    → field b (at + 1 + pattern_width * i + j) ≡ get (get_or (pattern_at b at) i no_pattern_record)
-pattern-field b at get i j e h = section-field pattern_record_at pattern_width b at no_pattern_record get i j e h
 
 -- ---- a set of patterns
 
@@ -121,31 +105,9 @@ member-step b on k e h = h ∙ ap (section_end pattern_width b) e ∙ sym (membe
 pub member-section : (b : List ℕ) (on k : ℕ) {at : ℕ} → WholeSet b on → k < length (set_of b on) → at ≡ member_at b on k → WholeSection pattern_width b at
 member-section b on k w h e = subst (WholeSection pattern_width b) (sym e) (w.sections k (set_below b on k h))
 
--- ---- a tree
+-- ---- a document
 
-pub tree-count : (width : ℕ) (t : List ℕ) → length (tree_of width t) ≡ field t 0
-unfolding tree_of
-tree-count width t = section-length bare_record_at width t 0
-
-pub tree-below : (width : ℕ) (t : List ℕ) (i : ℕ) → i < length (tree_of width t) → i < field t 0
-tree-below width t i h = subst (λ (n : ℕ). i < n) (tree-count width t) h
-
-pub tree-field : (width : ℕ) (t : List ℕ) (get : DocumentRecord → ℕ) (i j : ℕ) → ((a : ℕ) → get (bare_record_at t a) ≡ field t (a + j)) → i < length (tree_of width t)
-    → field t (1 + width * i + j) ≡ get (get_or (tree_of width t) i no_document_record)
-unfolding tree_of
-tree-field width t get i j e h = section-field bare_record_at width t 0 no_document_record get i j e h
-
--- a bare document is the tree of its records
-pub tree-document : (w : List ℕ) → tree_of document_width w ≡ bare (document_of w)
-unfolding tree_of document_of section records_at
-tree-document w = sym (map-map without_figure (λ i. document_record_at w (0 + 1 + document_width * i)) (up_from 0 (field w 0)))
-
--- and a summary read as one is that of its own
-pub tree-summary : (b : List ℕ) → tree_of summary_width b ≡ as_document (summary_in b)
-unfolding tree_of case_of section records_at
-tree-summary b = sym (map-map without_strong (λ i. summary_record_at b (0 + 1 + summary_width * i)) (up_from 0 (field b 0)))
-
--- a document is a section's table
+-- it is a section's table
 pub document-section : (w : List ℕ) {W : List DocumentRecord} → document_of w ≡ W → section document_record_at document_width w 0 ≡ W
 unfolding document_of
 document-section w e = e
@@ -153,15 +115,3 @@ document-section w e = e
 pub document-count : (w : List ℕ) → length (document_of w) ≡ field w 0
 unfolding document_of
 document-count w = section-length document_record_at document_width w 0
-
-pub document-below : (w : List ℕ) (i : ℕ) → i < length (document_of w) → i < field w 0
-document-below w i h = subst (λ (n : ℕ). i < n) (document-count w) h
-
-pub document-field : (w : List ℕ) (get : DocumentRecord → ℕ) (i j : ℕ) → ((a : ℕ) → get (document_record_at w a) ≡ field w (a + j)) → i < length (document_of w)
-    → field w (1 + document_width * i + j) ≡ get (get_or (document_of w) i no_document_record)
-unfolding document_of
-document-field w get i j e h = section-field document_record_at document_width w 0 no_document_record get i j e h
-
--- a document's figures stand in the third fields
-pub document-third : (w : List ℕ) (v : ℕ) → v < length (document_of w) → third_in document_width w v ≡ figure_of (document_of w) v
-document-third w v h = document-field w (λ r. r.figure) v 2 (λ a. refl) h

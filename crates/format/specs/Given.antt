@@ -14,25 +14,6 @@ summary_in b = (case_of b).summary
 abbrev pub pattern_at : List ℕ → ℕ → Pattern
 pattern_at b at = section pattern_record_at pattern_width b at
 
--- a node without its figure
-abbrev pub without_figure : DocumentRecord → DocumentRecord
-without_figure r = record { parent = r.parent; label = r.label; figure = 0 }
-
--- a document whose figures are left aside
-abbrev pub bare : Document → Document
-bare W = map without_figure W
-
-abbrev pub bare_record_at : List ℕ → ℕ → DocumentRecord
-bare_record_at b at = record { parent = field b at; label = field b (at + 1); figure = 0 }
-
--- a tree whose records have that width, the first two fields parent and label: a bare document, or a summary read as one
-unfoldable pub tree_of : ℕ → List ℕ → Document
-tree_of width t = section bare_record_at width t 0
-
--- what stands in the third field of its node v: a document's figure
-abbrev pub third_in : ℕ → List ℕ → ℕ → ℕ
-third_in width t v = field t (0 + 1 + width * v + 2)
-
 -- the section is whole and its table a tree of few enough nodes
 pub record SummaryGiven (b : List ℕ) : Type 0 where
   pub whole : WholeSection summary_width b 0
@@ -54,14 +35,6 @@ pub record DocumentGiven (w : List ℕ) : Type 0 where
   pub whole : WholeSection document_width w 0
   pub tree : IsTree (document_of w)
   pub few : length (document_of w) ≤ max_document
-
--- of a tree that may be either, with at most `most` nodes
-pub record TreeGiven (width : ℕ) (t : List ℕ) (most : ℕ) : Type 0 where
-  pub narrow : width ≤ pattern_width
-  pub three : 3 ≤ width
-  pub whole : WholeSection width t 0
-  pub tree : IsTree (tree_of width t)
-  pub few : length (tree_of width t) ≤ most
 
 -- of a summary, a pattern, a document: a tree of few enough nodes
 pub record SummaryKept (S : Summary) : Type 0 where

@@ -69,35 +69,3 @@ impl<'a> Document<'a> {
         record_field(self.bytes, 0, DOCUMENT_WIDTH, v.0, 2) as u16
     }
 }
-
-// What follows goes when nothing calls it any more.
-pub fn document_count(w: &[u8]) -> usize
-    requires { WholeSection document_width w.now 0 }
-    ensures { (result ≡ length (document_of w.now)) × (result < 65536) }
-{
-    Document::new(w).count()
-}
-
-pub fn document_parent(w: &[u8], v: DocumentNode) -> DocumentNode
-    requires whole_section { WholeSection document_width w.now 0 }
-    requires v_in_bounds { v.0 < length (document_of w.now) }
-    ensures { result.0 ≡ parent_of (document_of w.now) v.0 }
-{
-    Document::new(w).parent(v)
-}
-
-pub fn document_label(w: &[u8], v: DocumentNode) -> u16
-    requires whole_section { WholeSection document_width w.now 0 }
-    requires v_in_bounds { v.0 < length (document_of w.now) }
-    ensures { result ≡ label_of (document_of w.now) v.0 }
-{
-    Document::new(w).label(v)
-}
-
-pub fn document_figure(w: &[u8], v: DocumentNode) -> u16
-    requires whole_section { WholeSection document_width w.now 0 }
-    requires v_in_bounds { v.0 < length (document_of w.now) }
-    ensures { result ≡ figure_of (document_of w.now) v.0 }
-{
-    Document::new(w).figure(v)
-}

@@ -72,7 +72,7 @@ pub fn member_at(b: &[u8], on: usize, i: usize) -> usize
     at
 }
 
-// What follows goes when nothing calls it any more.
+// The count of a set of which no member need be whole.
 pub fn set_count(b: &[u8], on: usize) -> usize
     requires { 2 * (on + 1) ≤ length b.now }
     ensures { (result ≡ length (set_of b.now on)) × (result < 65536) }

@@ -71,35 +71,3 @@ impl<'a> Summary<'a> {
         record_field(self.bytes, 0, SUMMARY_WIDTH, s.0, 2)
     }
 }
-
-// What follows goes when nothing calls it any more.
-pub fn summary_count(case: &[u8]) -> usize
-    requires { WholeSection summary_width case.now 0 }
-    ensures { (result ≡ length (summary_in case.now)) × (result < 65536) }
-{
-    Summary::new(case).count()
-}
-
-pub fn summary_parent(case: &[u8], s: SummaryNode) -> SummaryNode
-    requires whole_section { WholeSection summary_width case.now 0 }
-    requires s_in_bounds { s.0 < length (summary_in case.now) }
-    ensures { result.0 ≡ summary_parent (summary_in case.now) s.0 }
-{
-    Summary::new(case).parent(s)
-}
-
-pub fn summary_label(case: &[u8], s: SummaryNode) -> u16
-    requires whole_section { WholeSection summary_width case.now 0 }
-    requires s_in_bounds { s.0 < length (summary_in case.now) }
-    ensures { result ≡ summary_label (summary_in case.now) s.0 }
-{
-    Summary::new(case).label(s)
-}
-
-pub fn summary_strong(case: &[u8], s: SummaryNode) -> usize
-    requires whole_section { WholeSection summary_width case.now 0 }
-    requires s_in_bounds { s.0 < length (summary_in case.now) }
-    ensures { result ≡ (get_or (summary_in case.now) s.0 no_summary_record).strong }
-{
-    Summary::new(case).strong(s)
-}

@@ -6,4 +6,5 @@ pub mod masks;
 pub mod member;
 pub mod rows;
 pub mod sets;
+mod table;
 pub mod ways;

@@ -4,14 +4,13 @@ use mathlib.Core.Path.{◌≡◌, sym, ap, ◌∙◌, subst}
 use mathlib.Core.List.{List}
 use native.Mathlib.Omega.{arith}
 use lib.ListN.{length, take}
-use Rattle.model.specs.Limits.{max_pattern, max_canonical, min_buffer, document_width}
+use Rattle.model.specs.Limits.{max_pattern}
 use Rattle.model.specs.Summary.{Summary, summary_label}
 use Rattle.model.specs.Pattern.{Pattern, SummaryEmbedding}
 use Rattle.model.specs.Embeddings.{image_in}
 use Rattle.model.specs.Facts.{FewFigures}
-use Rattle.model.specs.Bytes.{case_of, list_of, document_of, written_at_front, WholeSection, AreBytes}
+use Rattle.model.specs.Bytes.{case_of, list_of, written_at_front, AreBytes}
 use Rattle.model.specs.Questions.{selected}
-use Rattle.model.specs.Calls.{laid_records}
 use Rattle.model.proofs.Bytes.{front_length, front-written}
 use Rattle.model.proofs.CallFacts.{LayoutFacts}
 use Rattle.model.proofs.CaseFacts.{selected-facts, selected-figures}
@@ -19,12 +18,7 @@ use Rattle.model.proofs.Embeddings.{embeddings-sound}
 use Rattle.model.proofs.ReadBack.{label_small}
 use Rattle.format.specs.Given.{SummaryKept, PatternKept}
 use Rattle.format.proofs.ListLaws.{list_count}
-use Rattle.canonical.specs.Given.{embedding_in, Embedded, WrittenOut}
-use Rattle.canonical.specs.declared.LaidOut.{LaidOut}
-use Rattle.canonical.proofs.ReadBackLaws.{back-document, back_whole, back_count}
-use Rattle.canonical.proofs.LayoutLaws.{spots-few}
-use Rattle.laying.specs.Records.{laid_in}
-use Rattle.laying.proofs.RecordLaws.{records-laid}
+use Rattle.canonical.specs.Given.{embedding_in, Embedded}
 
 -- the pattern is the model's, and the images are the list
 module _ {b : List ℕ} {s : ℕ} {l : List ℕ} {k : ℕ} (f : LayoutFacts b s l k) where

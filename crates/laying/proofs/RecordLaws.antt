@@ -1,7 +1,7 @@
 -- The layout by value: the records that are read off a document are the model's, a refusal lays out none, and what is laid out for a
 -- table of 1,024 records is what is laid out for any larger one, since its size is asked only to be large enough. Assumes nothing.
 use Prim.Native.Nat.{ℕ, ◌≤◌, ◌<◌}
-use mathlib.Core.Path.{◌≡◌, sym, ap, ap₂, ◌∙◌, subst}
+use mathlib.Core.Path.{◌≡◌, sym, ap, ◌∙◌, subst}
 use mathlib.Core.Bool.{Bool, true, false}
 use mathlib.Core.List.{List, [], ◌∷◌, ◌++◌, map, map-map, map-id}
 use native.Mathlib.Omega.{arith}
@@ -33,8 +33,6 @@ use Rattle.questions.specs.declared.refusal.Refusal.{Refusal}
 use Rattle.questions.specs.Refusal.{number_of, asked}
 use Rattle.questions.proofs.RefusalLaws.{number-not_zero}
 use Rattle.refusals.proofs.AcceptedLaws.{selected-size}
-use Rattle.format.specs.declared.nodes.DocumentNode.{DocumentNode}
-use Rattle.format.specs.declared.nodes.SummaryNode.{SummaryNode}
 use Rattle.laying.specs.declared.laid.NodeRecord.{NodeRecord}
 use Rattle.laying.specs.Records.{node_record, record_of, laid_at, laid_in, blank_nodes, at_front, laid_nodes, laid_for, laid, outcome_for, LaidBy}
 use Rattle.laying.specs.Array.{records_in, IsFilled}
@@ -44,10 +42,6 @@ use Rattle.laying.specs.Array.{records_in, IsFilled}
 -- what a number past the last record reads as
 abbrev no_record : LaidRecord
 no_record = record { parent = 0; summary_node = 0; label = 0; figure = 0 }
-
-pub record-made : {p : DocumentNode} {a : SummaryNode} {l f : ℕ} (w : Document) (on : List ℕ) (i : ℕ) → p.0 ≡ parent_of w i → a.0 ≡ get_or on i 0 → l ≡ label_of w i
-    → f ≡ figure_of w i → ◌≡◌ {A = NodeRecord} (record { parent = p; at = a; label = l; figure = f }) (node_record (laid_at w on i))
-record-made w on i p a l f = λ k. record { parent = record { 0 = p k }; at = record { 0 = a k }; label = l k; figure = f k }
 
 pub length-blank : length blank_nodes ≡ min_table
 unfolding blank_nodes

@@ -32,7 +32,7 @@ pub struct NodeRecord {
     pub figure: u16,
 }
 
-// What is laid out: the nodes' records, at the front of an array.
+// What is laid out: the nodes' records, at the front of an array, since memory is fixed.
 #[derive(Drop)]
 pub struct Laid {
     count: usize,
@@ -125,7 +125,11 @@ fn accepted_layout(case: &[u8], number: u64, list: &[u8]) -> Laid
     let given = Case::new(case);
     let mut images = [0u16; 16];
     read_list(list, &mut images);
-    layout_of(&Outline::new(given.summary()), &numbered(&given, number), &images)
+    layout_of(
+        &Outline::new(given.summary()),
+        &numbered(&given, number),
+        &images,
+    )
 }
 
 // Lay out a canonical document for a lent table of that many records: any bytes and any numbers may be given.

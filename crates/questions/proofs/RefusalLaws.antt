@@ -3,7 +3,7 @@
 use Prim.Native.Nat.{ℕ}
 use mathlib.Core.Path.{◌≡◌, refl, sym, ap, ◌∙◌}
 use mathlib.Core.Bool.{Bool, true, false}
-use mathlib.Core.List.{List, [], ◌∷◌}
+use mathlib.Core.List.{List, [], ◌∷◌, ◌++◌}
 use native.Mathlib.Omega.{arith}
 use lib.ListN.{get_or}
 use borrow.Author.Rules.{rules}
@@ -11,7 +11,7 @@ use Rattle.std.proofs.Common.{Result, Ok, Err, IsErrAnd, if◌then◌else◌}
 use Rattle.std.proofs.lemmas.Result.{err_from_is_err_and}
 use Rattle.model.specs.Bytes.{is_whole_case}
 use Rattle.model.specs.Questions.{case_whole, ask, Question, refusal, case_questions}
-use Rattle.model.proofs.Refusals.{AllYes, Numbered, accepted-all-yes, refusal-yes}
+use Rattle.model.proofs.Refusals.{AllYes, Numbered, accepted-all-yes, refusal-after, refusal-kept, refusal-yes}
 use Rattle.questions.specs.declared.refusal.Refusal.{Refusal}
 use Rattle.questions.specs.declared.refusal.Refusal.TheVariants.{Limit, Room, Bytes, Counts, SummaryRecords, Siblings, PatternRecords, Positions, Tally, Document, ResultList, PatternNumber, Embedding, SetCount, OldForm, Caller, Figure}
 use Rattle.questions.specs.Refusal.{number_of, asked}
@@ -68,6 +68,14 @@ held false r e = cc
 pub asked-yes : {x : Unit {0}} (k n : ℕ) (r : Refusal) (answer test : Bool) (rest : List Question) → Ok x ≡ (if answer then Ok tt else Err r) → answer ≡ test → k ≡ refusal rest → k ≡ refusal (ask n test ∷ rest)
 asked-yes k n r answer test rest h e after = after ∙ sym (refusal-yes (ask n test) rest (sym e ∙ held answer r h))
 
+-- the last one, whose answer is returned
+pub asked-last : (a : Result (Unit {0}) Refusal) (r : Refusal) (n : ℕ) (answer test : Bool) → a ≡ (if answer then Ok tt else Err r) → answer ≡ test → n ≡ number_of r → asked a ≡ refusal (ask n test ∷ [])
+unfolding refusal
+asked-last a r n true true h e c = ap asked h
+asked-last a r n false false h e c = ap asked h ∙ sym c
+asked-last a r n true false h e c = cc
+asked-last a r n false true h e c = cc
+
 -- ---- the case questions
 
 pub case-numbered : (b : List ℕ) → Numbered (case_questions b)
@@ -76,6 +84,13 @@ case-numbered b = (omega arith, (omega arith, (omega arith, (omega arith, (omega
 
 all_yes : (b : List ℕ) → refusal (case_questions b) ≡ 0 → AllYes (case_questions b)
 all_yes b e = accepted-all-yes (case_questions b) (case-numbered b) e
+
+pub case-no : {T : Type 0} (a : Result T Refusal) (s : Refusal) (b : List ℕ) (rest : List Question) → number_of s ≡ refusal (case_questions b) → IsErrAnd a (λ t. t ≡ s)
+    → asked a ≡ refusal (case_questions b ++ rest)
+case-no a s b rest e p = passed_on a s p ∙ e ∙ sym (refusal-kept (case_questions b) rest (λ z. number-not_zero s (e ∙ z)))
+
+pub case-yes : (k : ℕ) (b : List ℕ) (rest : List Question) → 0 ≡ refusal (case_questions b) → k ≡ refusal rest → k ≡ refusal (case_questions b ++ rest)
+case-yes k b rest e after = after ∙ sym (refusal-after (case_questions b) rest (all_yes b (sym e)))
 
 -- ---- what later questions require of the bytes
 

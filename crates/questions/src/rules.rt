@@ -11,7 +11,7 @@ use format::limits::MAX_FIGURE;
 pub fn between(low: u64, high: u64, n: u64) -> bool
     ensures { result ≡ is_between low high n }
 {
-    low <= n && n <= high
+    (low..=high).contains(&n)
 }
 
 // The rule for parents: the root's is 0, any other is below its record's own number.

@@ -1,3 +1,2 @@
 pub mod Images
-pub mod Numbered
 pub mod Records

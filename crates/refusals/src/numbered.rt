@@ -1,14 +1,10 @@
 // The question on the number that gives a pattern, and on a position of that pattern: 12; and the pattern itself.
 
 ghost use Rattle.std.specs.Prelude.{◌≡◌, true};
-ghost use Rattle.model.specs.Bytes.{case_of, is_whole_case};
 ghost use Rattle.model.specs.Questions.{pattern_given, position_given, selected};
-ghost use Rattle.refusals.specs.Numbered.{numbered_at};
 
 use format::case::Case;
 use format::pattern::Pattern;
-use format::sections::{first_at, set_at};
-use format::set::member_at;
 use questions::pattern::arity;
 use questions::rules::between;
 
@@ -35,16 +31,4 @@ pub fn position_given(case: &Case, number: u64, position: u64) -> bool
     ensures { result ≡ position_given case.now number position }
 {
     pattern_given(case, number) && between(1, arity(&numbered(case, number)) as u64, position)
-}
-
-// What follows goes when nothing calls it any more.
-pub fn numbered_at(b: &[u8], number: u64) -> usize
-    requires b_value { is_whole_case b.now ≡ true }
-    requires number_value { pattern_given (case_of b.now) number ≡ true }
-    ensures { result ≡ numbered_at b.now number }
-{
-    if number == 1 {
-        return first_at(b);
-    }
-    member_at(b, set_at(b), (number - 2) as usize)
 }

@@ -1,8 +1,6 @@
 -- `canonical::lay_out` meets its contract: the chains, then filling up, give the definition's nodes, whose bound of 1,009 is what the
 -- room rests on; with its count and its figures the section is the document's. Assumes nothing.
-use mathlib.Core.Path.{◌≡◌, sym, ap, ◌∙◌, subst}
-use mathlib.Core.List.{List}
-use Prim.Native.Nat.{ℕ}
+use mathlib.Core.Path.{◌≡◌}
 use native.Mathlib.Omega.{arith}
 use lib.Seq.{sets}
 use borrow.Author.Rules.{rules}

@@ -1,9 +1,8 @@
 -- `canonical::fill::fill` meets its contract. The loop's invariant: the nodes below v are visited, and the visits to come reach the
 -- definition's end, where the draft is not too long. The measure is what is left of the most nodes. Assumes nothing.
-use mathlib.Core.Path.{refl, ◌∙◌}
 use native.Mathlib.Omega.{arith}
 use Rattle.canonical.proofs.TableLaws.{still}
-use Rattle.canonical.proofs.FillLaws.{filling-start, filling-visitable, filling-next, filling-end}
+use Rattle.canonical.proofs.FillLaws.{filling-visitable, filling-next, filling-end}
 use Rattle.canonical.proofs.fill.fill.Goals as goal
 
 pub fill_node-requires : goal.fill_node-requires

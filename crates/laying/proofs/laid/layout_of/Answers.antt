@@ -1,7 +1,7 @@
 -- `laying::laid::layout_of` meets its contract: what is laid out reads back as the model's nodes. Assumes nothing.
-use mathlib.Core.Path.{◌≡◌, sym, ap, ◌∙◌}
+use mathlib.Core.Path.{sym, ap, ◌∙◌}
 use native.Mathlib.Omega.{arith}
-use lib.ListN.{length, replicate}
+use lib.ListN.{length}
 use Rattle.canonical.proofs.LayoutLaws.{spots-few}
 use Rattle.canonical.proofs.ReadBackLaws.{back_whole, back_count, back-document}
 use Rattle.laying.specs.Records.{laid_in}

@@ -3,26 +3,11 @@
 use Rattle.questions.proofs.MemberLaws.{walked}
 use Rattle.questions.proofs.case.set_ends.Goals as goal
 
-pub set_count-n-requires : goal.set_count-n-requires
-set_count-n-requires c = search walked
-
-pub overflow_add-at : goal.overflow_add-at
-overflow_add-at c = search walked
-
 pub loop-init : goal.loop-init
 loop-init c = search walked
 
 pub returns-then-fields-at : goal.returns-then-fields-at
 returns-then-fields-at c = search walked
-
-pub pattern_end-at-requires : goal.pattern_end-at-requires
-pattern_end-at-requires c = search walked
-
-pub overflow_step : goal.overflow_step
-overflow_step c = search walked
-
-pub loop-smaller : goal.loop-smaller
-loop-smaller c = search walked
 
 pub loop-preserved : goal.loop-preserved
 loop-preserved c = search walked

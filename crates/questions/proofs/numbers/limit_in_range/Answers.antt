@@ -3,10 +3,6 @@ use borrow.Author.Rules.{rules}
 use Rattle.model.specs.Questions.{limit_in_range}
 use Rattle.questions.proofs.numbers.limit_in_range.Goals as goal
 
-pub between-requires : goal.between-requires
-unfolding limit_in_range
-between-requires c = search rules
-
 pub returns : goal.returns
 unfolding limit_in_range
 returns c = search rules
