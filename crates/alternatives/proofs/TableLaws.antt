@@ -1,11 +1,11 @@
 -- The table of alternatives as it is stored: a cell stands for sets in use, and what is written to one leaves the others. Assumes nothing.
-use Prim.Native.Nat.{ℕ, ◌+◌, ◌-◌, ◌≤◌, ◌<◌}
+use Prim.Native.Nat.{ℕ, ◌+◌, ◌≤◌, ◌<◌}
 use mathlib.Core.Path.{◌≡◌, refl, sym, ap, ◌∙◌, subst}
 use mathlib.Core.Bool.{Bool, true, false}
 use mathlib.Core.List.{List, [], ◌++◌}
 use native.Mathlib.Omega.{arith}
 use lib.Dec.{ltb, eqb}
-use lib.ListN.{length, get_or, set, take, drop, replicate, get_or-replicate, get_or-eq_default, get_or-append, length-replicate, length-drop, length-append, length-take}
+use lib.ListN.{length, get_or, set, take, drop, replicate, get_or-replicate, get_or-eq_default, get_or-append, length-replicate, length-drop, length-append}
 use lib.Seq.{length-take-le, get_or-take, get_or-drop, get_or-append_right, get_or-set_same, get_or-set_other, ext_get_or}
 use lib.Pointwise.{pointwise, pointwise_decides, bytes_decides}
 use borrow.Author.Tests.{ltb-true, ltb-false}

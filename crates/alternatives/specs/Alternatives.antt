@@ -1,7 +1,7 @@
 -- Skipping sees alternatives: of a part of the first pattern whose places are open, a short list of sets over all members' nodes, one of
 -- which is offered wherever the part is placed. `ts` is what is known of the members, `m` of the first pattern. What is promised of a
 -- list is that it covers; which sets are merged where it is full is said nowhere.
-use Rattle.std.specs.Prelude.{ℕ, ◌+◌, ◌-◌, ◌≤◌, ◌<◌, ◌≡◌, Bool, true, false, not, ◌⊎◌, eqb, length, get_or, take}
+use Rattle.std.specs.Prelude.{ℕ, ◌-◌, ◌<◌, ◌≡◌, Bool, true, false, not, ◌⊎◌, eqb, length, get_or, take}
 use mathlib.Core.List.{List, [], Memᴰ}
 use Rattle.std.specs.Int.Bits.{bit_and}
 use Rattle.model.specs.Lists.{has}

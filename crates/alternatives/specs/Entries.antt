@@ -1,5 +1,5 @@
 -- What a table of alternatives has of one cell.
-use Rattle.std.specs.Prelude.{ℕ, ◌+◌, ◌<◌, ◌≡◌, Bool, List, length, get_or, take, drop}
+use Rattle.std.specs.Prelude.{ℕ, ◌<◌, ◌≡◌, Bool, List, length, get_or, take, drop}
 use Rattle.cover.specs.Cover.{Covers}
 use Rattle.judging.specs.Blocks.{cell}
 use Rattle.alternatives.specs.declared.table.Table.{Table}

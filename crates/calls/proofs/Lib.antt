@@ -1,3 +1,4 @@
 pub mod AnswerLaws
 pub mod PathLaws
 pub mod NodesLaws
+pub mod KeptLaws

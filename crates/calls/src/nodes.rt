@@ -3,11 +3,13 @@
 ghost use Rattle.model.specs.Demands.{NodesAnswered};
 ghost use Rattle.calls.specs.Answers.{nodes_of};
 
+use format::case::Case;
+use format::document::Document;
 use format::write::write_counted;
 use matching::outcomes::nodes_at;
 use questions::refusal::Refusal;
 use refusals::ask_nodes;
-use refusals::numbered::numbered_at;
+use refusals::numbered::numbered;
 
 // The nodes at a position in any result, written ascending after their count to the front of the answer buffer, and how many there are.
 // Questions 2 to 8, 10, 17, 12.
@@ -21,9 +23,14 @@ pub fn nodes_call(
     ensures { NodesAnswered case.now number document.now position answer.old (nodes_of result answer.new) }
 {
     ask_nodes(case, number, document, position, answer.len())?;
-    let at = numbered_at(case, number);
+    let pattern = numbered(&Case::new(case), number);
     let mut nodes = [0u16; 1024];
-    let count = nodes_at(case, at, document, position as usize, &mut nodes);
+    let count = nodes_at(
+        &pattern,
+        &Document::new(document),
+        position as usize,
+        &mut nodes,
+    );
     write_counted(&nodes, count, answer);
     Ok(count)
 }

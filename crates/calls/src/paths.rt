@@ -3,10 +3,11 @@
 ghost use Rattle.model.specs.Demands.{PathsAnswered};
 ghost use Rattle.calls.specs.Answers.{paths_of};
 
+use format::case::Case;
 use matching::outcomes::{path_counts, path_masks};
 use questions::refusal::Refusal;
 use refusals::ask_paths;
-use refusals::numbered::numbered_at;
+use refusals::numbered::numbered;
 
 // The paths of sixteen pattern nodes, bit i for summary node i, and how many each has. Entries past the last node are 0.
 #[derive(Clone, Copy)]
@@ -20,7 +21,8 @@ pub fn paths_call(case: &[u8], number: u64) -> Result<Paths, Refusal>
     ensures { PathsAnswered case.now number (paths_of result) }
 {
     ask_paths(case, number)?;
-    let masks = path_masks(case, case, numbered_at(case, number));
+    let case = Case::new(case);
+    let masks = path_masks(&case.summary(), &numbered(&case, number));
     let counts = path_counts(&masks);
     Ok(Paths { masks, counts })
 }

@@ -1,6 +1,6 @@
 -- Laws of sets over all members' nodes, and of lists of them: a set is inside another member by member, and a set may leave a list where
 -- one inside it is kept. Assumes nothing.
-use Prim.Native.Nat.{ℕ, zero, suc, ◌+◌, ◌-◌, ◌*◌, ◌≤◌, ◌<◌}
+use Prim.Native.Nat.{ℕ, suc, ◌+◌, ◌-◌, ◌*◌, ◌≤◌, ◌<◌}
 use mathlib.Core.Path.{◌≡◌, refl, sym, ap, ◌∙◌, subst}
 use mathlib.Core.Bool.{Bool, true, false, ◌&&◌, ◌||◌, false≢true}
 use mathlib.Core.List.{List, [], ◌∷◌, ◌++◌}
@@ -13,11 +13,10 @@ use lib.Count.{ones}
 use lib.Dec.{eqb, ltb}
 use lib.ListN.{length, get_or, set, take, length-set, length-append, get_or-append, get_or-eq_default}
 use lib.Seq.{get_or-set_same, get_or-set_other, get_or-take, get_or-append_seam, length-take-le, take-set-lt, take-take, ext_get_or}
-use borrow.Author.Count.{below_more}
 use borrow.Author.Tests.{ltb-true, ltb-false, eqb-true, eqb-false}
 use Rattle.std.specs.List.{list_all, list_any, zip}
 use Rattle.model.specs.Lists.{has, all_of, up_from}
-use Rattle.model.proofs.ListLaws.{and_left, and_right, or_cases, not-both, all-below, below_all, length-map-up_from, get_or-map-up_from}
+use Rattle.model.proofs.ListLaws.{and_left, and_right, or_cases, all-below, length-map-up_from, get_or-map-up_from}
 use Rattle.bits.proofs.MaskLaws.{has-none, has-or, has-and, subset-members}
 use Rattle.cover.specs.Cover.{Inside, Within, Among, Covers, without_set, inside_at, inside_by, each_by, shared_below}
 

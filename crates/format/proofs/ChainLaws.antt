@@ -1,6 +1,6 @@
 -- Chains whose closure changes nothing and answers as a test does: `(a..b).all(|x| ..)` and `members.all(|p| ..)` answer what the test says
 -- of all together, and `(0..n).filter(|i| ..).count()` how many pass it. Assumes nothing.
-use Prim.Native.Nat.{ℕ, zero, suc, ◌+◌, ◌-◌, ◌≤◌, ◌<◌}
+use Prim.Native.Nat.{ℕ, zero, suc, ◌+◌, ◌-◌, ◌<◌}
 use mathlib.Core.Path.{◌≡◌, refl, sym, ap, ◌∙◌}
 use mathlib.Core.Bool.{Bool, true, false, cond}
 use mathlib.Core.List.{List, [], ◌∷◌}

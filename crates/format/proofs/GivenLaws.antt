@@ -1,18 +1,16 @@
 -- What the questions establish of an accepted call's bytes gives what the readers of its tables ask for. Assumes nothing.
-use Prim.Native.Nat.{ℕ, ◌*◌, ◌≤◌, ◌<◌}
-use mathlib.Core.Path.{◌≡◌, sym, subst}
+use Prim.Native.Nat.{ℕ, ◌*◌, ◌<◌}
+use mathlib.Core.Path.{◌≡◌, subst}
 use mathlib.Core.Bool.{true}
 use mathlib.Core.List.{List, []}
 use native.Mathlib.Omega.{arith}
 use lib.ListN.{length, get_or}
 use borrow.Author.Tests.{eqb-true}
-use Rattle.model.specs.Limits.{max_summary, max_document, summary_width, document_width}
-use Rattle.model.specs.Tree.{Document, IsTree}
-use Rattle.model.specs.Bytes.{first_at, set_at, member_at, set_of, section_end, case_of, document_of, WholeSection, is_whole_document}
+use Rattle.model.specs.Limits.{document_width}
+use Rattle.model.specs.Bytes.{first_at, set_at, member_at, set_of, section_end, case_of, WholeSection, is_whole_document}
 use Rattle.model.specs.Facts.{MemberFacts, DocumentFacts, AcceptedCase}
 use Rattle.model.proofs.ListLaws.{mem-at}
-use Rattle.model.proofs.TreeLaws.{length-as_document}
-use Rattle.format.specs.Given.{summary_in, pattern_at, SummaryGiven, PatternGiven, SetGiven, DocumentGiven}
+use Rattle.format.specs.Given.{pattern_at, SummaryGiven, PatternGiven, SetGiven, DocumentGiven}
 use Rattle.format.proofs.SectionLaws.{set_below, set-member}
 
 -- ---- accepted bytes

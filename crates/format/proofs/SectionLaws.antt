@@ -1,17 +1,15 @@
 -- Sections by their fields: how many records a section has, where each field of a record stands, and that it stands inside; the
 -- tables of a case and of a document, a set of patterns, and a tree that may be either, as sections. Assumes nothing.
 use Prim.Native.Nat.{ℕ, suc, ◌+◌, ◌*◌, ◌≤◌, ◌<◌}
-use mathlib.Core.Path.{◌≡◌, refl, sym, ap, ◌∙◌, subst}
-use mathlib.Core.List.{List, [], map-map}
+use mathlib.Core.Path.{◌≡◌, sym, ap, ◌∙◌, subst}
+use mathlib.Core.List.{List, []}
 use native.Mathlib.Omega.{arith}
 use native.Mathlib.Nat.{mul-suc, mul-le-mul_left, add-zero}
 use native.Mathlib.Numerals.{add-one}
-use lib.ListN.{length, get_or, get_or-map}
-use Rattle.model.specs.Lists.{up_from}
+use lib.ListN.{length, get_or}
 use Rattle.model.specs.Limits.{summary_width, pattern_width, document_width}
-use Rattle.model.specs.Tree.{DocumentRecord, no_document_record, figure_of}
-use Rattle.model.specs.Summary.{SummaryRecord, no_summary_record, without_strong, as_document}
-use Rattle.model.specs.Pattern.{PatternRecord, no_pattern_record}
+use Rattle.model.specs.Tree.{DocumentRecord}
+use Rattle.model.specs.Summary.{SummaryRecord}
 use Rattle.model.specs.Bytes.{field, section, records_at, summary_record_at, pattern_record_at, document_record_at, section_end, member_at, set_of, case_of, document_of, WholeSection, WholeSet}
 use Rattle.model.proofs.ListLaws.{length-map-up_from}
 use Rattle.model.proofs.Bytes.{member-next}

@@ -1,10 +1,10 @@
 -- Given data stay bytes: the tables that stand in them, and what a function that reads one asks of its bytes.
-use Rattle.std.specs.Prelude.{ℕ, ◌+◌, ◌*◌, ◌≤◌, ◌<◌, List, [], map, length, get_or}
+use Rattle.std.specs.Prelude.{ℕ, ◌≤◌, ◌<◌, List, [], length, get_or}
 use Rattle.model.specs.Limits.{max_summary, max_pattern, max_members, max_document, summary_width, pattern_width, document_width}
-use Rattle.model.specs.Tree.{DocumentRecord, Document, IsTree}
+use Rattle.model.specs.Tree.{Document, IsTree}
 use Rattle.model.specs.Summary.{Summary, as_document}
 use Rattle.model.specs.Pattern.{Pattern, IsPatternTree}
-use Rattle.model.specs.Bytes.{field, pattern_record_at, section, member_at, set_of, case_of, document_of, WholeSection, WholeSet}
+use Rattle.model.specs.Bytes.{pattern_record_at, section, member_at, set_of, case_of, document_of, WholeSection, WholeSet}
 
 -- the summary of a case (document 01: outline)
 abbrev pub summary_in : List ℕ → Summary

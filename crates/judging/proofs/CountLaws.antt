@@ -1,11 +1,10 @@
 -- Counts are cut at a cap of 32 bits: each stays at or below it, so two of them multiply in 64 bits; and what a run that skips a count
 -- of embeddings comes to. Assumes nothing.
-use Prim.Native.Nat.{ℕ, suc, ◌+◌, ◌-◌, ◌*◌, ◌^◌, ◌≤◌, ◌<◌, min}
+use Prim.Native.Nat.{ℕ, suc, ◌+◌, ◌-◌, ◌*◌, ◌≤◌, ◌<◌, min}
 use mathlib.Core.Path.{◌≡◌, refl, sym, ap, ◌∙◌, subst}
 use mathlib.Core.Bool.{Bool, true, false}
 use mathlib.Core.List.{List, [], ◌∷◌}
-use native.Mathlib.Omega.{arith}
-use native.Mathlib.Nat.{mul-le-mul, min-le_left}
+use native.Mathlib.Nat.{min-le_left}
 use lib.Dec.{eqb, ltb}
 use lib.ListN.{length, get_or, set}
 use lib.Seq.{set_out, get_or-set_same, get_or-set_other}
@@ -21,14 +20,6 @@ use Rattle.judging.specs.Stepping.{Candidates}
 use Rattle.judging.specs.Skipping.{loop, join_at, plus_up_to, times_up_to, child_turn, child_loop, times_by, own_ways, below_ways, left_turn}
 
 -- ---- counts stay below the cap
-
--- one of the counts multiplied
-pub count_fits : {m : Masks} {acc e c y : ℕ} → Capped m → acc ≤ cap_in m → c < 16 → y < 64 → e ≡ get_or m.counts (cell c y) 0 → acc * e < 2 ^ 64
-count_fits {m} {acc} {e} {c} {y} R h s l p =
-    let k : get_or m.counts (cell c y) 0 ≤ cap_in m = R.bounded (cell c y) (omega arith) in
-    let u : cap_in m < 4_294_967_296 = R.small in
-    let v : acc * e ≤ 4_294_967_295 * 4_294_967_295 = mul-le-mul {n₂ = 4_294_967_295} {m₂ = 4_294_967_295} (omega arith) (omega arith) in
-    omega arith
 
 -- a turn over a node's children, and over the nodes left
 pub child-capped : (K : ℕ) (P : Pattern) (t : List ℕ) (c y acc d : ℕ) {r : ℕ} → r ≡ child_turn (times_up_to K) P t c y acc d → acc ≤ K → r ≤ K

@@ -22,12 +22,6 @@ pub record HangInv (T : Sets) (a h₀ x₀ h x : ℕ) : Type 0 where
   pub climbs : (whole : ℕ) → Climbing T a whole x₀ h₀ → Climbing T a whole x h
 
 module _ {T : Sets} {a : ℕ} (R : Rooted 64 T.up) where
-  pub hang-start : {b h x : ℕ} → b < 64 → x ≡ T.up b → HangInv T a h x h x
-  hang-start {b} {h} {x} l q = let k : T.up b ≤ b = rooted-le R b l in record { inside = omega arith; climbs = λ whole c. c }
-
-  pub hang-less : {h₀ x₀ h x y : ℕ} → HangInv T a h₀ x₀ h x → a < x → y ≡ T.up x → y < x
-  hang-less {h₀} {x₀} {h} {x} {y} v l q = let k : T.up x < x = R.earlier x (omega arith) v.inside in omega arith
-
   pub hang-step : {h₀ x₀ h x i y : ℕ} → HangInv T a h₀ x₀ h x → a < x → i ≡ node_by T x nobody h → y ≡ T.up x → HangInv T a h₀ x₀ i y
   hang-step {h₀} {x₀} {h} {x} {i} {y} v l p q =
       let k : T.up x < x = R.earlier x (omega arith) v.inside in

@@ -25,9 +25,5 @@ module _ {P : Pattern} {images : List ℕ} (R : Placed P images) where
   pub image-lt : {c b : ℕ} → c < length images → b ≡ get_or images c 0 → b < 64
   image-lt {c} h e = subst (λ (x : ℕ). x < 64) (sym e) (R.inside c (subst (λ (n : ℕ). c < n) R.placed h))
 
--- one member with the images
-pub judge-stands : {t : Member} {P : Pattern} {images : List ℕ} → Judgeable t P images → Placed P images
-judge-stands R = record { pattern = R.base.pattern; placed = R.placed; inside = R.inside }
-
 pub judge-member : {ts : List Member} {P : Pattern} {images : List ℕ} → Steppable ts P images → (i : ℕ) → i < length ts → Judgeable (get_or ts i no_member) P images
 judge-member R i h = record { base = R.base.each i h; placed = R.stands.placed; inside = R.stands.inside }

@@ -9,3 +9,5 @@ pub mod StrikeLaws
 pub mod OrderLaws
 pub mod AcceptedLaws
 pub mod CallLaws
+pub mod CaseLaws
+pub mod PresentLaws

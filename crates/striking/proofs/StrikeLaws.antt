@@ -24,7 +24,6 @@ use Rattle.model.proofs.Verdict.{verdict-tried}
 use Rattle.model.proofs.Removing.{length_removed, length_without, not_root_lem, without-carries}
 use Rattle.model.proofs.Rounds.{total-append, RoundFacts, round-facts, each-limited}
 use Rattle.model.proofs.Striking.{leaf-may, facts-without}
-use Rattle.format.specs.Given.{summary_in, pattern_at}
 use Rattle.striking.specs.Present.{Strikable}
 use Rattle.striking.specs.Rounds.{leaf_of, round_of}
 use Rattle.striking.specs.Strikes.{StruckBy}
@@ -114,52 +113,53 @@ module _ (S : Summary) (L : ℕ) where
           a.tried ∙ ap (λ (x : Struck). n + total x.tried) ended,
         )
 
--- ---- a pattern stored alone
-
-stored-held : (Q : Pattern) → length Q ≤ max_pattern → ((i : ℕ) → i < length Q → RecordFits (get_or Q i no_pattern_record)) → {b : List ℕ} → b ≡ sets (replicate 162 0) 0 (encode_pattern Q)
-    → Holds b 0 (section_fields pattern_fields Q)
-unfolding encode_pattern
-stored-held Q few fit {b} e =
-    let l : length (section_fields pattern_fields Q) ≡ 1 + 5 * length Q = length-section pattern_record_at pattern_fields pattern_width pattern-readable Q in
-    subst (λ (x : List ℕ). Holds x 0 (section_fields pattern_fields Q)) (sym e) (fields-stored (replicate 162 0) 0 (section_fields pattern_fields Q) (section-fits Q few fit) (omega arith))
-
 -- ---- the turns
 
 -- before turn k, of the pattern P₀ at first: the present pattern, its nodes' names and the numbers struck
-pub record Striking (case : List ℕ) (L : ℕ) (P₀ : Pattern) (present names struck : List ℕ) (tried k : ℕ) : Type 0 where
-  pub ahead : Ahead (summary_in case) L (strike_all (summary_in case) L P₀) (pattern_at present 0) names struck tried
-  pub named : length names ≡ length (pattern_at present 0)
+pub record Striking (S : Summary) (L : ℕ) (P₀ P : Pattern) (names struck : List ℕ) (tried k : ℕ) : Type 0 where
+  pub ahead : Ahead S L (strike_all S L P₀) P names struck tried
+  pub named : length names ≡ length P
   pub count : length struck ≡ k
-  pub stands : Strikable case present L
-  pub turns : length (pattern_at present 0) + k ≡ length P₀
+  pub stands : Strikable S P L
+  pub turns : length P + k ≡ length P₀
   pub few : length P₀ ≤ max_pattern
-  pub size : length present ≡ 162
   pub bound : tried ≤ k * most_tried
 
-pub striking-start : {case present names struck : List ℕ} {L : ℕ} → Strikable case present L → length present ≡ 162 → names ≡ up_from 0 (length (pattern_at present 0)) → struck ≡ []
-    → Striking case L (pattern_at present 0) present names struck 0 0
-striking-start {case} {present} {names} {struck} {L} s size e z =
+pub striking-start : {S : Summary} {L : ℕ} {P : Pattern} {names struck : List ℕ} → Strikable S P L → names ≡ up_from 0 (length P) → struck ≡ [] → Striking S L P P names struck 0 0
+striking-start {S} {L} {P} {names} {struck} s e z =
     record {
       ahead =
-          subst (λ (xs : List ℕ). Ahead (summary_in case) L (strike_all (summary_in case) L (pattern_at present 0)) (pattern_at present 0) names xs 0) (sym z)
-          (subst (λ (own : List ℕ). Ahead (summary_in case) L (strike_all (summary_in case) L (pattern_at present 0)) (pattern_at present 0) own [] 0) (sym e)
-          (ahead-start (summary_in case) L (pattern_at present 0)));
-      named = ap length e ∙ length-up_from 0 (length (pattern_at present 0));
+          subst (λ (xs : List ℕ). Ahead S L (strike_all S L P) P names xs 0) (sym z)
+          (subst (λ (own : List ℕ). Ahead S L (strike_all S L P) P own [] 0) (sym e) (ahead-start S L P));
+      named = ap length e ∙ length-up_from 0 (length P);
       count = ap length z;
       stands = s;
       turns = omega arith;
       few = s.pattern.few;
-      size = size;
       bound = omega arith;
     }
 
-module _ {case : List ℕ} {L : ℕ} {P₀ : Pattern} {present names struck : List ℕ} {tried k : ℕ} (v : Striking case L P₀ present names struck tried k) where
-  abbrev S : Summary
-  S = summary_in case
+-- what an accepted case has stays without a leaf
+pub still-strikable : {S : Summary} {P : Pattern} {L : ℕ} → Strikable S P L → (q : ℕ) → q < length P → may_go P q ≡ true → Strikable S (without P q) L
+still-strikable {S} {P} {L} s q inside may =
+    let facts : PatternFacts (without P q) = facts-without s.outline L s.facts s.pattern.few inside may in
+    let arities : arity (without P q) ≡ arity P = (without-carries P q inside may).arities in
+    let shorter = length_without P q inside in
+    let few = s.pattern.few in
+    let some = s.some_arity in
+    let bound = s.arity_bound in
+    record {
+      summary = s.summary;
+      outline = s.outline;
+      pattern = record { tree = facts.tree; few = omega arith };
+      facts = facts;
+      some_arity = omega arith;
+      arity_bound = omega arith;
+      figures = low-without P q inside s.figures;
+      limited = s.limited;
+    }
 
-  abbrev P : Pattern
-  P = pattern_at present 0
-
+module _ {S : Summary} {L : ℕ} {P₀ P : Pattern} {names struck : List ℕ} {tried k : ℕ} (v : Striking S L P₀ P names struck tried k) where
   -- the root is there at every turn, so fewer turns than nodes are made, and there is a place for one more number
   pub turns-left : (k < length P₀) × (length struck < 16)
   turns-left = let i = v.stands.facts.tree.inhabited in let t = v.turns in let f = v.few in let c = v.count in (omega arith, omega arith)
@@ -168,90 +168,39 @@ module _ {case : List ℕ} {L : ℕ} {P₀ : Pattern} {present names struck : Li
     pub tried-bound : x.tried ≤ most_tried
     tried-bound = subst (λ (n : ℕ). n ≤ most_tried) (ap (λ (y : Rounded). y.tried) (sym e)) (round-bound S L P v.stands.limited v.stands.pattern.few)
 
-    pub striking-end : x.leaf ≡ None → StruckBy (strike_all S L P₀) present (record { struck = struck; tried = tried + x.tried })
+    pub striking-end : x.leaf ≡ None → StruckBy (strike_all S L P₀) P (record { struck = struck; tried = tried + x.tried })
     striking-end z =
         let a = ahead-end S L v.ahead v.stands.facts.tree.inhabited (leaf-none S L P (ap (λ (y : Rounded). y.leaf) (sym e) ∙ z)) in
-        record {
-          stands = v.stands.pattern;
-          pattern = sym a.0;
-          struck = sym a.1;
-          tried = ap (λ (y : Rounded). tried + y.tried) e ∙ sym a.2;
-          size = v.size;
-        }
+        record { pattern = sym a.0; struck = sym a.1; tried = ap (λ (y : Rounded). tried + y.tried) e ∙ sym a.2 }
 
     module _ {q : ℕ} (f : x.leaf ≡ Some q) where
       hit : (r S L P).struck ≡ some q
       hit = leaf-some S L P (ap (λ (y : Rounded). y.leaf) (sym e) ∙ f)
 
-      pub leaf-inside : q < length P
-      leaf-inside = (struck-may S L P q hit).0
-
-      may : may_go P q ≡ true
-      may = (struck-may S L P q hit).1
+      pub leaf-goes : (q < length P) × (may_go P q ≡ true)
+      leaf-goes = struck-may S L P q hit
 
       pub named-inside : q < length names
-      named-inside = let n = v.named in let l = leaf-inside in omega arith
+      named-inside = let n = v.named in let l = leaf-goes.0 in omega arith
 
-      shorter : suc (length (without P q)) ≡ length P
-      shorter = length_without P q leaf-inside
+      ahead_after : Ahead S L (strike_all S L P₀) (without P q) (removed q names) (struck ++ get_or names q 0 ∷ []) (tried + x.tried)
+      ahead_after =
+          subst (λ (y : Rounded). Ahead S L (strike_all S L P₀) (without P q) (removed q names) (struck ++ get_or names q 0 ∷ []) (tried + y.tried)) (sym e) (ahead_step S L v.ahead hit)
 
-      few-left : length (without P q) < max_pattern
-      few-left = let s = shorter in let n = v.stands.pattern.few in omega arith
-
-      module _ {present' : List ℕ} (w : present' ≡ sets (replicate 162 0) 0 (encode_pattern (without P q))) where
-        abbrev Q : Pattern
-        Q = without P q
-
-        fit : (i : ℕ) → i < length Q → RecordFits (get_or Q i no_pattern_record)
-        fit = without-fits P q leaf-inside v.stands.fits
-
-        few : length Q ≤ max_pattern
-        few = let n = few-left in omega arith
-
-        there : Holds present' 0 (section_fields pattern_fields Q)
-        there = stored-held Q few fit w
-
-        same : pattern_at present' 0 ≡ Q
-        same = pattern-held present' 0 Q there
-
-        long : length present' ≡ 162
-        long = ap length w ∙ length-sets (replicate 162 0) 0 (encode_pattern Q)
-
-        stands_after : Strikable case present' L
-        stands_after =
-            let s = v.stands in
-            let facts : PatternFacts Q = facts-without s.outline L s.facts s.pattern.few leaf-inside may in
-            let arities : arity (pattern_at present' 0) ≡ arity P = ap arity same ∙ (without-carries P q leaf-inside may).arities in
-            record {
-              summary = s.summary;
-              outline = s.outline;
-              pattern = pattern-given present' 0 Q there facts.tree few (let n = few in let l = long in omega arith);
-              facts = subst PatternFacts (sym same) facts;
-              some_arity = let a = s.some_arity in omega arith;
-              arity_bound = let a = s.arity_bound in omega arith;
-              figures = subst FewFigures (sym same) (low-without P q leaf-inside s.figures);
-              fits = subst (λ (X : Pattern). (i : ℕ) → i < length X → RecordFits (get_or X i no_pattern_record)) (sym same) fit;
-              limited = s.limited;
-            }
-
-        ahead_after : Ahead S L (strike_all S L P₀) (pattern_at present' 0) (removed q names) (struck ++ get_or names q 0 ∷ []) (tried + x.tried)
-        ahead_after =
-            subst (λ (X : Pattern). Ahead S L (strike_all S L P₀) X (removed q names) (struck ++ get_or names q 0 ∷ []) (tried + x.tried)) (sym same)
-            (subst (λ (y : Rounded). Ahead S L (strike_all S L P₀) Q (removed q names) (struck ++ get_or names q 0 ∷ []) (tried + y.tried)) (sym e) (ahead_step S L v.ahead hit))
-
-        pub striking-step : {names' struck' : List ℕ} {number : ℕ} → number ≡ get_or names q 0 → names' ≡ removed q names → struck' ≡ struck ++ number ∷ []
-            → Striking case L P₀ present' names' struck' (tried + x.tried) (k + 1)
-        striking-step {names'} {struck'} {number} d m u =
-            let put : struck' ≡ struck ++ get_or names q 0 ∷ [] = u ∙ ap (λ (n : ℕ). struck ++ n ∷ []) d in
-            record {
-              ahead =
-                  subst (λ (ns : List ℕ). Ahead S L (strike_all S L P₀) (pattern_at present' 0) ns struck' (tried + x.tried)) (sym m)
-                  (subst (λ (xs : List ℕ). Ahead S L (strike_all S L P₀) (pattern_at present' 0) (removed q names) xs (tried + x.tried)) (sym put) ahead_after);
-              named = let a = ap length m in let b = length_removed q names named-inside in let l = ap length same in let s = shorter in let n = v.named in omega arith;
-              count = let a = ap length u in let l = length-append struck (number ∷ []) in let c = v.count in omega arith;
-              stands = stands_after;
-              turns = let l = ap length same in let s = shorter in let t = v.turns in omega arith;
-              few = v.few;
-              size = long;
-              bound = let b = tried-bound in let c = v.bound in omega arith;
-            }
+      pub striking-step : {present : Pattern} {names' struck' : List ℕ} {number : ℕ} → present ≡ without P q → number ≡ get_or names q 0 → names' ≡ removed q names → struck' ≡ struck ++ number ∷ []
+          → Striking S L P₀ present names' struck' (tried + x.tried) (k + 1)
+      striking-step {present} {names'} {struck'} {number} w d m u =
+          let put : struck' ≡ struck ++ get_or names q 0 ∷ [] = u ∙ ap (λ (n : ℕ). struck ++ n ∷ []) d in
+          let shorter : suc (length (without P q)) ≡ length P = length_without P q leaf-goes.0 in
+          subst (λ (Q : Pattern). Striking S L P₀ Q names' struck' (tried + x.tried) (k + 1)) (sym w)
+          (record {
+            ahead =
+                subst (λ (ns : List ℕ). Ahead S L (strike_all S L P₀) (without P q) ns struck' (tried + x.tried)) (sym m)
+                (subst (λ (xs : List ℕ). Ahead S L (strike_all S L P₀) (without P q) (removed q names) xs (tried + x.tried)) (sym put) ahead_after);
+            named = let a = ap length m in let b = length_removed q names named-inside in let s = shorter in let n = v.named in omega arith;
+            count = let a = ap length u in let l = length-append struck (number ∷ []) in let c = v.count in omega arith;
+            stands = still-strikable v.stands q leaf-goes.0 leaf-goes.1;
+            turns = let s = shorter in let t = v.turns in omega arith;
+            few = v.few;
+            bound = let b = tried-bound in let c = v.bound in omega arith;
+          })

@@ -1,24 +1,23 @@
--- The present pattern: what it keeps while leaves are struck, and the set of one that it is, as bytes.
-use Rattle.std.specs.Prelude.{ℕ, ◌≤◌, ◌<◌, ◌≡◌, List, [], ◌∷◌, length, get_or}
+-- The present pattern: in bytes of its own, and what it keeps while leaves are struck.
+use Rattle.std.specs.Prelude.{ℕ, ◌≤◌, ◌<◌, List, length, get_or}
 use Rattle.model.specs.Limits.{max_limit, max_position}
+use Rattle.model.specs.Summary.{Summary}
 use Rattle.model.specs.Pattern.{Pattern, no_pattern_record, arity}
-use Rattle.model.specs.Bytes.{field, set_fields}
 use Rattle.model.specs.Facts.{SummaryFacts, PatternFacts, FewFigures, RecordFits}
-use Rattle.format.specs.Given.{summary_in, pattern_at, SummaryGiven, PatternGiven}
+use Rattle.format.specs.Given.{pattern_at, PatternGiven, SummaryKept, PatternKept}
 
--- the pattern at field 0 keeps what an accepted case has of its first, beside the case's summary
-pub record Strikable (case present : List ℕ) (limit : ℕ) : Type 0 where
-  pub summary : SummaryGiven case
-  pub outline : SummaryFacts (summary_in case)
-  pub pattern : PatternGiven present 0
-  pub facts : PatternFacts (pattern_at present 0)
-  pub some_arity : 1 ≤ arity (pattern_at present 0)
-  pub arity_bound : arity (pattern_at present 0) ≤ max_position
-  pub figures : FewFigures (pattern_at present 0)
-  pub fits : (i : ℕ) → i < length (pattern_at present 0) → RecordFits (get_or (pattern_at present 0) i no_pattern_record)
+-- it stands at their front, and its numbers fit fields
+pub record StandsAlone (b : List ℕ) : Type 0 where
+  pub given : PatternGiven b 0
+  pub fits : (i : ℕ) → i < length (pattern_at b 0) → RecordFits (get_or (pattern_at b 0) i no_pattern_record)
+
+-- it keeps what an accepted case has of its first, beside the case's summary, and the limit is one
+pub record Strikable (S : Summary) (P : Pattern) (limit : ℕ) : Type 0 where
+  pub summary : SummaryKept S
+  pub outline : SummaryFacts S
+  pub pattern : PatternKept P
+  pub facts : PatternFacts P
+  pub some_arity : 1 ≤ arity P
+  pub arity_bound : arity P ≤ max_position
+  pub figures : FewFigures P
   pub limited : limit ≤ max_limit
-
--- the set of one that is P stands at the front: its count in field 0, then P's section
-pub record SetStands (P : Pattern) (b : List ℕ) : Type 0 where
-  pub size : length b ≡ 320
-  pub holds : (i : ℕ) → i < length (set_fields (P ∷ [])) → field b i ≡ get_or (set_fields (P ∷ [])) i 0

@@ -3,6 +3,7 @@
 #![tactic(auto)]
 
 mod numbers;
+mod present;
 mod round;
 mod shorten;
 mod strike;
@@ -12,19 +13,17 @@ ghost use Rattle.model.specs.Limits.{max_limit, min_buffer};
 ghost use Rattle.model.specs.Bytes.{case_of, encode_pattern, encode_counted, written_at_front};
 ghost use Rattle.model.specs.Facts.{AcceptedCase};
 ghost use Rattle.model.specs.Demands.{MinimiseAnswered};
-ghost use Rattle.format.specs.Given.{pattern_at, PatternGiven};
 ghost use Rattle.striking.specs.Outcome.{outcome_of, Told};
 
-use format::limits::PATTERN_WIDTH;
-use format::pattern::pattern_count;
-use format::sections::first_at;
-use format::write::{copy_fields, write_counted};
-use judging::rows::summary_rows;
+use format::summary::Summary;
+use format::write::write_counted;
+use judging::rows::SummaryRows;
+use present::Present;
 use questions::numbers::Account;
 use questions::refusal::Refusal;
 use refusals::ask_minimise;
-use shorten::Section;
 use strike::strike;
+use strong::outline::Outline;
 
 // What striking comes to: how many leaves were struck, and the sum of tried over all verdicts made.
 #[derive(Clone, Copy)]
@@ -33,27 +32,13 @@ pub struct Minimised {
     pub tried: u64,
 }
 
-// The first pattern of a case, by itself.
-fn first_section(case: &[u8]) -> Section
-    requires { AcceptedCase case.now }
-    ensures { PatternGiven result 0 × (pattern_at result 0 ≡ (case_of case.now).first) }
-{
-    let first = first_at(case);
-    let mut present = [0u8; 162];
-    let n = 1 + PATTERN_WIDTH * pattern_count(case, first);
-    copy_fields(case, first, n, &mut present, 0);
-    present
-}
-
-// The section that stands in present, then the count of the struck numbers and these, to the front of the answer buffer.
-fn write_order(present: &[u8], struck: &[u16], answer: &mut [u8])
-    requires { PatternGiven present.now 0 × (length struck.now ≤ 16) × (min_buffer ≤ length answer.old) }
+// The section of the present pattern, then the count of the struck numbers and these, to the front of the answer buffer.
+fn write_order(present: &Present, struck: &[u16], answer: &mut [u8])
+    requires { (length struck.now ≤ 16) × (min_buffer ≤ length answer.old) }
     ensures { answer.new
-        ≡ written_at_front (encode_pattern (pattern_at present.now 0) ++ encode_counted struck.now) answer.old }
+        ≡ written_at_front (encode_pattern present.now ++ encode_counted struck.now) answer.old }
 {
-    let n = 1 + PATTERN_WIDTH * pattern_count(present, 0);
-    copy_fields(present, 0, n, answer, 0);
-    let end = 2 * n;
+    let end = present.write(answer);
     write_counted(struck, struck.len(), &mut answer[end..]);
 }
 
@@ -62,9 +47,9 @@ fn accepted(case: &[u8], limit: u64, answer: &mut [u8]) -> Minimised
     requires { AcceptedCase case.now × (min_buffer ≤ length answer.old) × (limit ≤ max_limit) }
     ensures { Told (case_of case.now) limit answer.old answer.new result }
 {
-    let rows = summary_rows(case);
-    let mut present = first_section(case);
-    let r = strike(case, &rows, &mut present, limit);
+    let rows = SummaryRows::new(Outline::new(Summary::new(case)));
+    let mut present = Present::first(case);
+    let r = strike(&rows, &mut present, limit);
     let struck = r.struck.as_slice();
     write_order(&present, struck, answer);
     Minimised {

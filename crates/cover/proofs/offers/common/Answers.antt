@@ -1,5 +1,5 @@
 -- `cover::offers::common` meets its contract: each mask is made by the operation. Assumes nothing.
-use Rattle.std.proofs.Common.{rules, ◌≡◌, ℕ, ◌<◌, get_or}
+use Rattle.std.proofs.Common.{rules}
 use Rattle.std.specs.Int.Bits.{bit_and}
 use Rattle.cover.proofs.CoverLaws.{made-all}
 use Rattle.cover.proofs.offers.common.Goals as goal

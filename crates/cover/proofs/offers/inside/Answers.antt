@@ -1,5 +1,5 @@
 -- `cover::offers::inside` meets its contract: the test of all pairs is the test at all members. Assumes nothing.
-use Rattle.std.proofs.Common.{rules, tests, sym, ◌∙◌}
+use Rattle.std.proofs.Common.{rules, tests, ◌∙◌}
 use Rattle.std.proofs.lemmas.Iterator.{YieldsList-from_slice, YieldsList-from_zip}
 use Rattle.std.proofs.lemmas.Iterator.Search.{all_from_yields_List}
 use Rattle.cover.proofs.CoverLaws.{pair_inside, pairs-inside}

@@ -1,5 +1,5 @@
 -- `cover::offers::shared` meets its contract: after so many pairs the nodes of the members before are counted. Assumes nothing.
-use Rattle.std.proofs.Common.{rules, arith, ◌≡◌, ◌≤◌, ◌+◌, length, sym, ap, ap₂, ◌∙◌, subst}
+use Rattle.std.proofs.Common.{rules, arith, ◌≤◌, ap, ap₂, ◌∙◌}
 use Rattle.std.proofs.lemmas.List.{length_push}
 use Rattle.std.proofs.lemmas.Slice.Zip.{zip_turn, zip_end}
 use lib.Bits.{bit_and}

@@ -1,10 +1,8 @@
 -- `format::write::copy_fields` meets its contract: the bytes that are copied are those of the fields. Assumes nothing.
-use mathlib.Core.Path.{ap, ◌∙◌, subst}
+use mathlib.Core.Path.{ap, ◌∙◌}
 use native.Mathlib.Omega.{arith}
-use mathlib.Core.List.{List}
-use Prim.Native.Nat.{ℕ, ◌*◌, ◌-◌}
+use Prim.Native.Nat.{ℕ, ◌*◌}
 use lib.ListN.{take, drop}
-use lib.Seq.{sets}
 use borrow.Rule.Slice.PartMut.{put_mid}
 use Rattle.model.proofs.Bytes.{length-bytes}
 use Rattle.model.specs.Bytes.{bytes_of, fields_at}

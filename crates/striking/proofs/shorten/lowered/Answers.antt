@@ -5,5 +5,5 @@ use Rattle.striking.proofs.shorten.lowered.Goals as goal
 pub returns-then-q-i : goal.returns-then-q-i
 returns-then-q-i c = lowered-above _ _ c.if-q-i.true
 
-pub returns : goal.returns
-returns c = lowered-below _ _ c.if-q-i.false
+pub returns-else-q-i : goal.returns-else-q-i
+returns-else-q-i c = lowered-below _ _ c.if-q-i.false

@@ -1,12 +1,13 @@
--- `striking::shorten::may_go` meets its contract: each way out has decided the tests that the definition joins. Assumes nothing.
-use Rattle.striking.proofs.NumberLaws.{may-root, may-positioned, may-rest}
+-- `striking::shorten::may_go` meets its contract: the definition joins the same tests. Assumes nothing.
+use Rattle.std.proofs.Common.{arith}
+use Rattle.std.proofs.lemmas.Grind.{common_steps}
+use Rattle.model.specs.Striking.{may_go}
 use Rattle.striking.proofs.shorten.may_go.Goals as goal
 
-pub returns-then-q-eq0 : goal.returns-then-q-eq0
-returns-then-q-eq0 c = may-root _ _ c.if-q-eq0.true
+pub returns-then-position-eq0 : goal.returns-then-position-eq0
+unfolding may_go
+returns-then-position-eq0 c = grind (arith, common_steps)
 
-pub returns-then-pattern_position-ne0 : goal.returns-then-pattern_position-ne0
-returns-then-pattern_position-ne0 c = may-positioned _ _ c.pattern_position.ensures.0 c.if-pattern_position-ne0.true
-
-pub returns : goal.returns
-returns c = may-rest _ _ c.if-q-eq0.false c.pattern_position.ensures.0 c.if-pattern_position-ne0.false c.childless.ensures
+pub returns-else-position-eq0 : goal.returns-else-position-eq0
+unfolding may_go
+returns-else-position-eq0 c = grind (arith, common_steps)

@@ -5,5 +5,5 @@ use Rattle.striking.proofs.shorten.raised.Goals as goal
 pub returns-then-i-q : goal.returns-then-i-q
 returns-then-i-q c = raised_below _ _ c.if-i-q.true
 
-pub returns : goal.returns
-returns c = raised-above _ _ c.if-i-q.false
+pub returns-else-i-q : goal.returns-else-i-q
+returns-else-i-q c = raised-above _ _ c.if-i-q.false

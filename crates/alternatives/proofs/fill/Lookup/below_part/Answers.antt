@@ -1,7 +1,7 @@
 -- `alternatives::fill::Lookup::below_part` meets its contract: it is added, or the node has no path there, or its edge does not reach so far. Assumes nothing.
 use Rattle.std.proofs.Common.{arith, ap₂, sym, ◌∙◌}
 use lib.Bits.{bit_and}
-use Rattle.alternatives.proofs.FillLaws.{below-covered, below_none, near_none, judged-few}
+use Rattle.alternatives.proofs.FillLaws.{below-covered, below_none, judged-few}
 use Rattle.alternatives.proofs.fill.Lookup.below_part.Goals as goal
 
 pub returns-then-descendants-part-ne0-clause-covered : goal.returns-then-descendants-part-ne0-clause-covered

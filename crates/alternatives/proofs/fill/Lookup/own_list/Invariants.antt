@@ -1,4 +1,3 @@
-use Prim.Native.Nat.{◌<◌}
 use lib.ListN.{length}
 use Rattle.alternatives.proofs.FillLaws.{Owning}
 use Rattle.alternatives.proofs.fill.Lookup.own_list.Given as goal

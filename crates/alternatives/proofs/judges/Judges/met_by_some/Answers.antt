@@ -2,7 +2,6 @@
 use Rattle.std.proofs.Common.{arith, rules, tests, ◌∙◌}
 use Rattle.std.proofs.lemmas.Iterator.{YieldsList-from_slice, YieldsList-from_zip}
 use Rattle.std.proofs.lemmas.Iterator.Search.{any_from_yields_List}
-use Rattle.alternatives.specs.Alternatives.{met_by_some}
 use Rattle.alternatives.proofs.JoinLaws.{pair_met, pairs-met}
 use Rattle.alternatives.proofs.judges.Judges.met_by_some.Goals as goal
 

@@ -1,7 +1,7 @@
 -- `alternatives::table::Table::entry` meets its contract: the cell's sets are lent. Assumes nothing.
 use Rattle.std.proofs.Common.{ℕ, ◌≡◌, ◌+◌, ◌-◌, take, drop, get_or, arith, ap, ap₂, ◌∙◌}
 use Rattle.alternatives.specs.Filled.{no_cell}
-use Rattle.alternatives.specs.Entries.{start_in, many_in, entry_in}
+use Rattle.alternatives.specs.Entries.{many_in, entry_in}
 use Rattle.alternatives.proofs.table.Table.entry.Goals as goal
 
 pub returns : goal.returns

@@ -1,6 +1,6 @@
 -- `cover::lists::Offers::add` meets its contract: a is left out where a set inside it is there, put at the end where there is room, and merged
 -- where there is none. Assumes nothing.
-use Rattle.std.proofs.Common.{inr, ⊎_elim, ap, subst, sym}
+use Rattle.std.proofs.Common.{inr, ⊎_elim, subst, sym}
 use Rattle.cover.specs.Cover.{Covers}
 use Rattle.cover.proofs.CoverLaws.{covers-push}
 use Rattle.cover.proofs.lists.Offers.add.Goals as goal

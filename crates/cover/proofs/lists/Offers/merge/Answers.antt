@@ -1,6 +1,6 @@
 -- `cover::lists::Offers::merge` meets its contract: what takes the place of the nearest set is inside that set, inside a, and inside each set
 -- that is dropped. Assumes nothing.
-use Rattle.std.proofs.Common.{arith, ◌<◌, [], length, get_or, sym, ap, ◌∙◌, subst}
+use Rattle.std.proofs.Common.{arith, ◌<◌, length, sym, ap, subst}
 use lib.Seq.{length-take-le}
 use Rattle.cover.specs.Cover.{Within, Covers}
 use Rattle.cover.proofs.CoverLaws.{common-within, merged, front-at}

@@ -1,5 +1,5 @@
 -- `cover::lists::Offers::swap_remove` meets its contract: it is so of the rows in use. Assumes nothing.
-use Rattle.std.proofs.Common.{arith, ◌≤◌, ◌<◌, length, take, sym, ap, ◌∙◌}
+use Rattle.std.proofs.Common.{arith, ◌≤◌, ◌<◌, length, ap, ◌∙◌}
 use lib.Seq.{length-take-le}
 use Rattle.cover.specs.Cover.{without_set}
 use Rattle.cover.proofs.CoverLaws.{without_front}

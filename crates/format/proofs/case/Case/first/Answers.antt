@@ -2,7 +2,7 @@
 use mathlib.Core.Path.{sym, ap, subst, ◌∙◌}
 use native.Mathlib.Omega.{arith}
 use Rattle.model.specs.Limits.{pattern_width}
-use Rattle.model.specs.Bytes.{Case, case_of, set_of, WholeSection, WholeSet}
+use Rattle.model.specs.Bytes.{Case, case_of, WholeSection}
 use Rattle.model.proofs.Bytes.{whole-case}
 use Rattle.format.specs.Given.{pattern_at}
 use Rattle.format.proofs.case.Case.first.Goals as goal

@@ -1,10 +1,7 @@
 -- `format::case::Case::set` meets its contract: a whole case has the set. Assumes nothing.
 use mathlib.Core.Path.{sym, ap, subst, ◌∙◌}
-use native.Mathlib.Omega.{arith}
-use Rattle.model.specs.Limits.{pattern_width}
-use Rattle.model.specs.Bytes.{Case, case_of, set_of, WholeSection, WholeSet}
+use Rattle.model.specs.Bytes.{Case, case_of, set_of, WholeSet}
 use Rattle.model.proofs.Bytes.{whole-case}
-use Rattle.format.specs.Given.{pattern_at}
 use Rattle.format.proofs.case.Case.set.Goals as goal
 
 pub new-requires : goal.new-requires

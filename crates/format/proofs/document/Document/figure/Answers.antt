@@ -1,10 +1,10 @@
 -- `format::document::Document::figure` meets its contract: the field read is the record's third. Assumes nothing.
-use mathlib.Core.Path.{refl, sym, ap, ◌∙◌}
+use mathlib.Core.Path.{refl, ◌∙◌}
 use native.Mathlib.Omega.{arith}
 use Rattle.model.specs.Limits.{document_width}
 use Rattle.model.specs.Tree.{DocumentRecord, no_document_record}
 use Rattle.model.specs.Bytes.{document_record_at}
-use Rattle.format.proofs.SectionLaws.{viewed-below, viewed-field, first_field, document-section}
+use Rattle.format.proofs.SectionLaws.{viewed-below, viewed-field, document-section}
 use Rattle.format.proofs.document.Document.figure.Goals as goal
 
 pub record_field-requires : goal.record_field-requires

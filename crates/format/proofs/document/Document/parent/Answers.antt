@@ -1,5 +1,5 @@
 -- `format::document::Document::parent` meets its contract: the field read is the record's first. Assumes nothing.
-use mathlib.Core.Path.{refl, sym, ap, ◌∙◌}
+use mathlib.Core.Path.{◌∙◌}
 use native.Mathlib.Omega.{arith}
 use Rattle.model.specs.Limits.{document_width}
 use Rattle.model.specs.Tree.{DocumentRecord, no_document_record}

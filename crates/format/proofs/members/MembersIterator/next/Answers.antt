@@ -1,7 +1,7 @@
 -- `format::members::Members` yields the set's members: the first of those that are left, and leaves the others. Assumes nothing.
 use mathlib.Core.Path.{sym, ap, ◌∙◌}
 use native.Mathlib.Omega.{arith}
-use Rattle.std.proofs.Common.{◌∷◌, length, List}
+use Rattle.std.proofs.Common.{length, List}
 use Rattle.model.specs.Pattern.{Pattern}
 use Rattle.format.proofs.MemberLaws.{none_left, next_left, passed_more}
 use Rattle.format.proofs.members.MembersIterator.next.Goals as goal

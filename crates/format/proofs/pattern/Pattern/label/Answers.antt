@@ -4,7 +4,7 @@ use native.Mathlib.Omega.{arith}
 use Rattle.model.specs.Limits.{pattern_width}
 use Rattle.model.specs.Pattern.{PatternRecord, no_pattern_record}
 use Rattle.model.specs.Bytes.{pattern_record_at}
-use Rattle.format.proofs.SectionLaws.{viewed-below, viewed-field, first_field}
+use Rattle.format.proofs.SectionLaws.{viewed-below, viewed-field}
 use Rattle.format.proofs.pattern.Pattern.label.Goals as goal
 
 pub record_field-requires : goal.record_field-requires

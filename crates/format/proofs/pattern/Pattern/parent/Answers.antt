@@ -1,5 +1,5 @@
 -- `format::pattern::Pattern::parent` meets its contract: the field read is the record's first. Assumes nothing.
-use mathlib.Core.Path.{refl, ◌∙◌}
+use mathlib.Core.Path.{◌∙◌}
 use native.Mathlib.Omega.{arith}
 use Rattle.model.specs.Limits.{pattern_width}
 use Rattle.model.specs.Pattern.{PatternRecord, no_pattern_record}

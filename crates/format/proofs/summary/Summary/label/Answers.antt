@@ -7,7 +7,7 @@ use Rattle.model.specs.Summary.{without_strong}
 use Rattle.model.specs.Tree.{DocumentRecord}
 use lib.ListN.{get_or-map}
 use Rattle.model.specs.Bytes.{summary_record_at}
-use Rattle.format.proofs.SectionLaws.{viewed-below, viewed-field, first_field, summary-section}
+use Rattle.format.proofs.SectionLaws.{viewed-below, viewed-field, summary-section}
 use Rattle.format.proofs.summary.Summary.label.Goals as goal
 
 pub record_field-requires : goal.record_field-requires

@@ -1,5 +1,5 @@
 -- `format::summary::Summary::parent` meets its contract: the field read is the record's first. Assumes nothing.
-use mathlib.Core.Path.{refl, sym, ap, ◌∙◌}
+use mathlib.Core.Path.{sym, ap, ◌∙◌}
 use native.Mathlib.Omega.{arith}
 use Rattle.model.specs.Limits.{summary_width}
 use Rattle.model.specs.Summary.{SummaryRecord, no_summary_record}

@@ -1,10 +1,10 @@
 -- `format::summary::Summary::strong` meets its contract: the field read is the record's third. Assumes nothing.
-use mathlib.Core.Path.{refl, sym, ap, ◌∙◌}
+use mathlib.Core.Path.{refl, ◌∙◌}
 use native.Mathlib.Omega.{arith}
 use Rattle.model.specs.Limits.{summary_width}
 use Rattle.model.specs.Summary.{SummaryRecord, no_summary_record}
 use Rattle.model.specs.Bytes.{summary_record_at}
-use Rattle.format.proofs.SectionLaws.{viewed-below, viewed-field, first_field, summary-section}
+use Rattle.format.proofs.SectionLaws.{viewed-below, viewed-field, summary-section}
 use Rattle.format.proofs.summary.Summary.strong.Goals as goal
 
 pub record_field-requires : goal.record_field-requires
