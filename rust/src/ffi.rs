@@ -4,8 +4,8 @@
 //! Why the calls below are sound: the exported functions are proved for any bytes, any numbers and
 //! slices of any length, the empty one included. They read what is lent and write within the buffer,
 //! table or tallies that are lent by `&mut`, keep no pointer and have no state of their own. What nothing
-//! proves is that these declarations are those of `crates/cadwezin/src/lib.rt`; so every call is
-//! compared with the reference by `tests/differential`.
+//! proves is that these declarations are those of `crates/cadwezin_c/src/`; so every call is compared
+//! with the reference by `tests/differential`.
 
 use crate::{NodeRecord, Tallies};
 
