@@ -2,20 +2,18 @@
 -- printed by its count. Assumes nothing.
 use Prim.Native.Nat.{ℕ, ◌+◌, ◌*◌, ◌≤◌}
 use mathlib.Core.Path.{◌≡◌, sym, ap, ap₂, ◌∙◌}
-use mathlib.Core.Logic.{◌≢◌}
 use mathlib.Core.List.{List, [], ◌∷◌, ◌++◌}
 use native.Mathlib.Omega.{arith}
 use lib.ListN.{length}
 use Rattle.model.specs.Limits.{pattern_width}
 use Rattle.model.specs.Pattern.{no_pattern_record}
 use Rattle.model.specs.Bytes.{field, fields_at, pattern_record_at, pattern_fields, section, section_end, counted_at, WholeSection}
-use Rattle.model.specs.Text.{ascii, line, pattern_line, pattern_lines, order_text, refused_text}
+use Rattle.model.specs.Text.{ascii, line, pattern_line, pattern_lines, order_text}
 use Rattle.model.proofs.WriteBack.{pattern-rewritable}
-use Rattle.model.proofs.Calls.{chosen-accepted, chosen-refused}
 use Rattle.text.specs.Records.{record_lines}
 use Rattle.text.proofs.PutLaws.{Parts}
 use Rattle.text.proofs.ListedLaws.{table-lines}
-use Rattle.listing.specs.Order.{OrderHeld, text_of, told_text}
+use Rattle.listing.specs.Order.{OrderHeld, text_of}
 
 pattern-lines : (b : List ℕ) → pattern_lines (section pattern_record_at pattern_width b 0) ≡ record_lines pattern_width b
 unfolding pattern_lines pattern_line
@@ -40,12 +38,3 @@ module _ (b : List ℕ) {end n : ℕ} (e : end ≡ section_end pattern_width b 0
       let i = h.inside in
       let c : n ≡ field b (section_end pattern_width b 0) = k ∙ ap (field b) e in
       omega arith
-
--- the text of an answer, by its refusal
-pub told-order : (refused tried : ℕ) (b : List ℕ) → refused ≡ 0 → told_text refused tried b ≡ text_of tried b
-unfolding told_text
-told-order refused tried b e = chosen-accepted refused (text_of tried b) (refused_text refused) e
-
-pub told-refusal : (refused tried : ℕ) (b : List ℕ) → refused ≢ 0 → told_text refused tried b ≡ refused_text refused
-unfolding told_text
-told-refusal refused tried b f = chosen-refused refused (text_of tried b) (refused_text refused) f

@@ -5,9 +5,10 @@ use mathlib.Core.Path.{◌≡◌, refl, sym, ap, ◌∙◌, subst}
 use mathlib.Core.List.{List}
 use native.Mathlib.Omega.{arith}
 use lib.ListN.{length}
+use Rattle.std.specs.Prelude.{Result, Ok, Err}
 use Rattle.model.specs.Limits.{max_limit, min_buffer, document_width, max_position, max_text}
 use Rattle.model.specs.Tree.{Document}
-use Rattle.model.specs.Pattern.{Result}
+use Rattle.model.specs.Pattern.{Result as PatternResult}
 use Rattle.model.specs.Bytes.{case_of, shown_section, WholeSection, AreBytes}
 use Rattle.model.specs.Questions.{fits_refusal, verdict_refusal}
 use Rattle.model.specs.Calls.{TestAnswer, yes_answer, fits_call}
@@ -20,23 +21,13 @@ use Rattle.model.proofs.ReadBack.{result_count}
 use Rattle.model.proofs.Printed.{accepted-kind, prints-included, prints-stopped, prints-shown, prints-refused, printed-small}
 use Rattle.format.proofs.GivenLaws.{whole-document}
 use Rattle.deciding.specs.Outcome.{outcome_of}
-use Rattle.deciding.specs.declared.Answer.{Answer}
-use Rattle.deciding.specs.declared.Answer.TheVariants.{Refused, Contained, NotContained, Stopped}
+use Rattle.questions.specs.declared.refusal.Refusal.{Refusal}
+use Rattle.containment.specs.declared.Containment.{Containment}
+use Rattle.containment.specs.declared.Containment.TheVariants.{Contained, NotContained, Stopped}
 use Rattle.text.specs.Put.{Room, Put, Printed}
 use Rattle.text.specs.declared.page.Page.{Page}
 use Rattle.printing.specs.Shown.{ShownWhole, told_text, Tellable}
 use Rattle.text.proofs.PutLaws.{room-same, put_same, put-printed}
-
--- ---- an answer by its variant
-
-pub told-room : {a x : Answer} (buffer : List ℕ) {page : Page} → a ≡ x → Room (told_text a buffer) page → Room (told_text x buffer) page
-told-room buffer {page} e = subst (λ (y : Answer). Room (told_text y buffer) page) e
-
-pub told-put : {a x : Answer} (buffer : List ℕ) {before after : Page} → a ≡ x → Put (told_text x buffer) before after → Put (told_text a buffer) before after
-told-put buffer {before} {after} e = subst (λ (y : Answer). Put (told_text y buffer) before after) (sym e)
-
-pub told-whole : {a : Answer} {n : ℕ} (buffer : List ℕ) → a ≡ NotContained n → Tellable a buffer → ShownWhole buffer
-told-whole buffer e = subst (λ (y : Answer). Tellable y buffer) e
 
 -- ---- what is shown is there
 
@@ -47,11 +38,11 @@ section-whole b w e =
     (λ f. absurd (f (sym (ap (λ (a : TestAnswer). a.refused) (fits_refused b w f)) ∙ ap (λ (a : TestAnswer). a.refused) e)))
 
 -- a result of the first pattern has few nodes
-result-few : (b : List ℕ) → CaseFacts (case_of b) → {W : Document} {r : List ℕ} → Result (case_of b).first W r → length r ≤ max_position
+result-few : (b : List ℕ) → CaseFacts (case_of b) → {W : Document} {r : List ℕ} → PatternResult (case_of b).first W r → length r ≤ max_position
 result-few b f k = let e = result_count k in let a = f.arity_bound in omega arith
 
 module _ (b : List ℕ) {before after : List ℕ} (size : length before ≡ min_buffer) (long : length after ≡ min_buffer) where
-  shown-whole : {tried : ℕ} → VerdictAnswered b max_limit program_caller 0 before (outcome_of 0 (NotContained tried) after) → ShownWhole after
+  shown-whole : {tried : ℕ} → VerdictAnswered b max_limit program_caller 0 before (outcome_of 0 (Ok (NotContained tried)) after) → ShownWhole after
   shown-whole a =
       let d = a.demand3 accepted in
       let s = d.shown refl in
@@ -65,20 +56,20 @@ module _ (b : List ℕ) {before after : List ℕ} (size : length before ≡ min_
       accepted : verdict_refusal b max_limit program_caller 0 (length before) ≡ 0
       accepted = accepted-kind b size a refl (omega arith)
 
-  pub tellable : (answer : Answer) → VerdictAnswered b max_limit program_caller 0 before (outcome_of 0 answer after) → Tellable answer after
-  tellable (Refused n) a = tt
-  tellable (Contained n) a = tt
-  tellable (NotContained n) a = shown-whole a
-  tellable (Stopped n) a = tt
+  pub tellable : (answer : Result Containment Refusal) → VerdictAnswered b max_limit program_caller 0 before (outcome_of 0 answer after) → Tellable answer after
+  tellable (Err n) a = tt
+  tellable (Ok (Contained n)) a = tt
+  tellable (Ok (NotContained n)) a = shown-whole a
+  tellable (Ok (Stopped n)) a = tt
 
   -- its text is the one printed
-  pub told-printed : (answer : Answer) → VerdictAnswered b max_limit program_caller 0 before (outcome_of 0 answer after) → told_text answer after ≡ printed b
-  told-printed (Refused n) a = sym (prints-refused b size a refl)
-  told-printed (Contained n) a = sym (prints-included b size a refl)
-  told-printed (NotContained n) a = sym (prints-shown b size a refl)
-  told-printed (Stopped n) a = sym (prints-stopped b size a refl)
+  pub told-printed : (answer : Result Containment Refusal) → VerdictAnswered b max_limit program_caller 0 before (outcome_of 0 answer after) → told_text answer after ≡ printed b
+  told-printed (Err n) a = sym (prints-refused b size a refl)
+  told-printed (Ok (Contained n)) a = sym (prints-included b size a refl)
+  told-printed (Ok (NotContained n)) a = sym (prints-shown b size a refl)
+  told-printed (Ok (Stopped n)) a = sym (prints-stopped b size a refl)
 
-  module _ (small : AreBytes b) (answer : Answer) (a : VerdictAnswered b max_limit program_caller 0 before (outcome_of 0 answer after)) where
+  module _ (small : AreBytes b) (answer : Result Containment Refusal) (a : VerdictAnswered b max_limit program_caller 0 before (outcome_of 0 answer after)) where
     -- an empty page of an array of that size
     module _ {page : Page} (front : page.at ≡ 0) (l : length page.out.now ≡ max_text) where
       pub told-fits : Room (told_text answer after) page

@@ -7,10 +7,13 @@ ghost use Rattle.model.specs.Text.{printed};
 ghost use Rattle.text.specs.Put.{Room, Put, Printed};
 ghost use Rattle.printing.specs.Shown.{ShownWhole, text_of, Tellable, told_text};
 
-use deciding::{Answer, verdict_call};
+use containment::Containment;
+use deciding::verdict_call;
 use format::field::field;
 use format::limits::DOCUMENT_WIDTH;
 use format::sections::section_end;
+use questions::numbers::Account;
+use questions::refusal::Refusal;
 use text::page::Page;
 
 // The text of "not included", with the document and the result that an answer buffer shows.
@@ -27,16 +30,16 @@ fn shown_text(tried: u64, answer: &[u8], page: &mut Page)
 }
 
 // The text of an answer, with what the answer buffer shows.
-fn answer_text(told: Answer, answer: &[u8], page: &mut Page)
+fn answer_text(told: Result<Containment, Refusal>, answer: &[u8], page: &mut Page)
     requires shown { Tellable told answer.now }
     requires room { Room (told_text told answer.now) page.old }
     ensures { Put (told_text told answer.now) page.old page.new }
 {
     match told {
-        Answer::Refused(number) => page.line(b"refused", number),
-        Answer::Contained(tried) => lines::first_lines(b"included", tried, page),
-        Answer::NotContained(tried) => shown_text(tried, answer, page),
-        Answer::Stopped(tried) => lines::first_lines(b"stopped", tried, page),
+        Err(refusal) => page.line(b"refused", refusal.number()),
+        Ok(Containment::Contained(tried)) => lines::first_lines(b"included", tried, page),
+        Ok(Containment::NotContained(tried)) => shown_text(tried, answer, page),
+        Ok(Containment::Stopped(tried)) => lines::first_lines(b"stopped", tried, page),
     }
 }
 
@@ -45,7 +48,8 @@ pub fn verdict_text(case: &[u8], out: &mut [u8; 26308]) -> usize
     ensures { Printed (printed case.now) out.old out.new result }
 {
     let mut answer = [0u8; 8192];
-    let told = verdict_call(case, 1000000, 0, 0, &mut answer);
+    let account = Account { caller: 0, tally: 0 };
+    let told = verdict_call(case, 1000000, account, &mut answer);
     let mut page = Page::new(out);
     answer_text(told, &answer, &mut page);
     page.at
