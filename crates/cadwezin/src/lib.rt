@@ -21,7 +21,6 @@ use calls::result::result_call;
 use containment::Containment;
 use deciding::verdict_call;
 use laying::laid::{NodeRecord, laid_out};
-use moving::answers::Moved;
 use moving::downgrade::downgrade_call;
 use moving::upgrade::upgrade_call;
 use normalising::normalise_call;
@@ -118,40 +117,31 @@ pub fn cadwezin_paths(case: &[u8], number: u64) -> Result<Paths, Refusal>
     paths_call(case, number)
 }
 
-// SCAFFOLD
-#[repr(C)]
-#[derive(Clone, Copy)]
-pub struct CountAnswer {
-    pub refused: u64,
-    pub count: u64,
-}
-
 // Lay out a canonical document: its nodes fill the front of the lent table, and the node count is the result.
 pub fn cadwezin_layout(
     case: &[u8],
     number: u64,
     list: &[u8],
     table: &mut [NodeRecord],
-) -> CountAnswer
+) -> Result<usize, Refusal>
     ensures { LayoutAnswered case.now number list.now (records_in table.old) (layout_of result table.new) }
 {
-    let laid = laid_out(case, number, list, table.len());
-    table[..laid.count].copy_from_slice(&laid.nodes[..laid.count]);
-    CountAnswer {
-        refused: laid.refused,
-        count: laid.count as u64,
-    }
+    let laid = laid_out(case, number, list, table.len())?;
+    let records = laid.records();
+    let count = records.len();
+    table[..count].copy_from_slice(records);
+    Ok(count)
 }
 
 // An old case, in document 01's form, becomes the same case with a set of one, at the front of the answer buffer.
-pub fn cadwezin_upgrade(case: &[u8], answer: &mut [u8]) -> Moved
+pub fn cadwezin_upgrade(case: &[u8], answer: &mut [u8]) -> Result<usize, Refusal>
     ensures { UpgradeAnswered case.now answer.old (moved_of result answer.new) }
 {
     upgrade_call(case, answer)
 }
 
 // A case with a set of one goes back to the old form, at the front of the answer buffer.
-pub fn cadwezin_downgrade(case: &[u8], answer: &mut [u8]) -> Moved
+pub fn cadwezin_downgrade(case: &[u8], answer: &mut [u8]) -> Result<usize, Refusal>
     ensures { DowngradeAnswered case.now answer.old (moved_of result answer.new) }
 {
     downgrade_call(case, answer)
@@ -159,7 +149,7 @@ pub fn cadwezin_downgrade(case: &[u8], answer: &mut [u8]) -> Moved
 
 // The case in its one way of writing, at the front of the answer buffer: two are written alike exactly when renumbering nodes turns one
 // into the other.
-pub fn cadwezin_normalise(case: &[u8], answer: &mut [u8]) -> Moved
+pub fn cadwezin_normalise(case: &[u8], answer: &mut [u8]) -> Result<usize, Refusal>
     ensures { NormaliseAnswered case.now answer.old (moved_of result answer.new) }
 {
     normalise_call(case, answer)

@@ -81,7 +81,7 @@ pub extern "C" fn cadwezin_layout(
 ) -> CountAnswer
     ensures { LayoutAnswered case.now number list.now (records_in table.old) (table_of result table.new) }
 {
-    let r = cadwezin::cadwezin_layout(case, number, list, table); CountAnswer { refused: r.refused, count: r.count }
+    cadwezin::cadwezin_layout(case, number, list, table).into()
 }
 
 // An old case, in document 01's form, becomes the same case with a set of one, at the front of the answer buffer.
@@ -89,7 +89,7 @@ pub extern "C" fn cadwezin_layout(
 pub extern "C" fn cadwezin_upgrade(case: &[u8], answer: &mut [u8]) -> CountAnswer
     ensures { UpgradeAnswered case.now answer.old (buffer_of result answer.new) }
 {
-    let r = cadwezin::cadwezin_upgrade(case, answer); CountAnswer { refused: r.refused, count: r.count }
+    cadwezin::cadwezin_upgrade(case, answer).into()
 }
 
 // A case with a set of one goes back to the old form, at the front of the answer buffer.
@@ -97,7 +97,7 @@ pub extern "C" fn cadwezin_upgrade(case: &[u8], answer: &mut [u8]) -> CountAnswe
 pub extern "C" fn cadwezin_downgrade(case: &[u8], answer: &mut [u8]) -> CountAnswer
     ensures { DowngradeAnswered case.now answer.old (buffer_of result answer.new) }
 {
-    let r = cadwezin::cadwezin_downgrade(case, answer); CountAnswer { refused: r.refused, count: r.count }
+    cadwezin::cadwezin_downgrade(case, answer).into()
 }
 
 // The case in its one way of writing, at the front of the answer buffer: two are written alike exactly when renumbering nodes turns one
@@ -106,7 +106,7 @@ pub extern "C" fn cadwezin_downgrade(case: &[u8], answer: &mut [u8]) -> CountAns
 pub extern "C" fn cadwezin_normalise(case: &[u8], answer: &mut [u8]) -> CountAnswer
     ensures { NormaliseAnswered case.now answer.old (buffer_of result answer.new) }
 {
-    let r = cadwezin::cadwezin_normalise(case, answer); CountAnswer { refused: r.refused, count: r.count }
+    cadwezin::cadwezin_normalise(case, answer).into()
 }
 
 // Strike from the first pattern what it need not say, by verdicts within the limit. The shortened pattern's section, then a count and the
