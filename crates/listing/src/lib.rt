@@ -43,7 +43,10 @@ pub fn order_text(case: &[u8], out: &mut [u8; 484]) -> usize
     ensures { Printed (order_printed case.now) out.old out.new result }
 {
     let mut answer = [0u8; 8192];
-    let account = Account { caller: 0, tally: 0 };
+    let account = Account {
+        caller: 0,
+        tally: 0,
+    };
     let told = minimise_call(case, 1000000, account, &mut answer);
     let mut page = Page::new(out);
     answer_text(told, &answer, &mut page);

@@ -48,7 +48,10 @@ pub fn verdict_text(case: &[u8], out: &mut [u8; 26308]) -> usize
     ensures { Printed (printed case.now) out.old out.new result }
 {
     let mut answer = [0u8; 8192];
-    let account = Account { caller: 0, tally: 0 };
+    let account = Account {
+        caller: 0,
+        tally: 0,
+    };
     let told = verdict_call(case, 1000000, account, &mut answer);
     let mut page = Page::new(out);
     answer_text(told, &answer, &mut page);

@@ -2,9 +2,9 @@
 // contracts can speak of the bytes of those that know them.
 #![tactic(auto)]
 
+pub mod program;
 #[cfg(test)]
 mod tests;
-pub mod program;
 mod trouble;
 
 ghost use Rattle.std.specs.Prelude.{◌≡◌, length, take, IfErr, IfOk, IfSome, OnOk};

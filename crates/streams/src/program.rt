@@ -19,13 +19,7 @@ pub fn file<
     R: Read,
     W: Write,
     E: Write,
->(
-    tell: F,
-    mut text: T,
-    input: &mut R,
-    output: &mut W,
-    errors: &mut E,
-) -> Result<(), Trouble>
+>(tell: F, mut text: T, input: &mut R, output: &mut W, errors: &mut E) -> Result<(), Trouble>
     requires callable { F.IsAlwaysCallable tell }
     requires inside { StaysInside (F.post tell) T.items }
     ensures told { (told : List ℕ → Told) → Tells (F.post tell) T.items told → OnOk result (IfSome (R.remaining input.old)
@@ -57,5 +51,11 @@ pub fn print<T: AsSlice<u8> + Drop, F: FnOnce(&[u8], &mut T) -> usize, R: Read, 
         (λ xs. Appends (W.contents output.old) (W.contents output.new) (printed (take 65537 xs)))) }
     ensures unread { result ≡ Err Unreadable → Keeps (W.contents output.old) (W.contents output.new) }
 {
-    file(|case: &[u8], out: &mut T| Ok(text_of(case, out)), text, input, output, &mut sink())
+    file(
+        |case: &[u8], out: &mut T| Ok(text_of(case, out)),
+        text,
+        input,
+        output,
+        &mut sink(),
+    )
 }

@@ -37,11 +37,15 @@ fn run_verdict(rt: &impl Print, v: &Vector, answer: &mut [u8]) {
 }
 
 fn run_minimise(rt: &impl Print, v: &Vector, answer: &mut [u8]) {
-    let (refused, struck, tried) =
-        match minimise_call(v.case, v.head.limit, v.head.account, answer) {
-            Ok(minimised) => (0, minimised.struck, minimised.tried),
-            Err(refusal) => (refusal.number(), 0, 0),
-        };
+    let (refused, struck, tried) = match minimise_call(
+        v.case,
+        v.head.limit,
+        v.head.account,
+        answer,
+    ) {
+        Ok(minimised) => (0, minimised.struck, minimised.tried),
+        Err(refusal) => (refusal.number(), 0, 0),
+    };
     let _ = print!(rt; "minimise refused {refused} struck {struck} tried {tried}");
     print::buffer(rt, answer);
 }

@@ -3,4 +3,3 @@ use Rattle.questions.proofs.case.set_ends.Given as goal
 
 abbrev pub invariant-loop : goal.invariant-loop
 invariant-loop l = Walked l.b l.on l.n l.at l.counter
-
