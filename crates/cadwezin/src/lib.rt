@@ -91,7 +91,12 @@ pub fn cadwezin_fits(case: &[u8], document: &[u8]) -> Result<bool, Refusal>
 }
 
 // Is the list a result of the pattern that the number names, in the document?
-pub fn cadwezin_result(case: &[u8], number: u64, document: &[u8], list: &[u8]) -> Result<bool, Refusal>
+pub fn cadwezin_result(
+    case: &[u8],
+    number: u64,
+    document: &[u8],
+    list: &[u8],
+) -> Result<bool, Refusal>
     ensures { ResultAnswered case.now number document.now list.now (test_of result) }
 {
     result_call(case, number, document, list)
