@@ -1,15 +1,13 @@
 -- From an accepted case to what striking asks for, and from what striking comes to to what is told. Assumes nothing.
 use Prim.Native.Nat.{ℕ, ◌≤◌}
-use mathlib.Core.Path.{◌≡◌, sym, ap, ap₂, ◌∙◌, subst}
+use mathlib.Core.Path.{◌≡◌, ap, ap₂, ◌∙◌}
 use mathlib.Core.List.{List, ◌++◌}
-use native.Mathlib.Omega.{arith}
 use lib.ListN.{length}
-use Rattle.model.specs.Limits.{max_limit, max_pattern}
-use Rattle.model.specs.Summary.{Summary}
+use Rattle.model.specs.Limits.{max_limit}
 use Rattle.model.specs.Pattern.{Pattern}
 use Rattle.model.specs.Bytes.{Case, case_of, encode_pattern, encode_counted, written_at_front}
 use Rattle.model.specs.Facts.{AcceptedCase}
-use Rattle.model.specs.Striking.{Struck, strike_all}
+use Rattle.model.specs.Striking.{strike_all}
 use Rattle.format.specs.Given.{SummaryKept}
 use Rattle.striking.specs.Present.{Strikable}
 use Rattle.striking.specs.Strikes.{StruckBy}

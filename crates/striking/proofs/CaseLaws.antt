@@ -1,10 +1,10 @@
 -- The case of an inner verdict: the pattern without a leaf, and the set of one that the present pattern is. Assumes nothing.
 use Prim.Native.Nat.{ℕ, zero, suc, ◌≤◌, ◌<◌}
-use mathlib.Core.Path.{◌≡◌, sym, ap, subst}
+use mathlib.Core.Path.{◌≡◌, sym, subst}
 use mathlib.Core.Bool.{true}
 use mathlib.Core.Logic.{◌⊎◌, inl, inr}
 use mathlib.Core.List.Memᴰ
-use mathlib.Core.List.{List, [], ◌∷◌, Memᴰ}
+use mathlib.Core.List.{[], ◌∷◌, Memᴰ}
 use native.Mathlib.Omega.{arith}
 use lib.ListN.{length, get_or}
 use Rattle.model.specs.Limits.{max_pattern, max_position}
@@ -14,7 +14,7 @@ use Rattle.model.specs.Facts.{FewFigures}
 use Rattle.model.specs.Striking.{may_go, without}
 use Rattle.model.proofs.Removing.{length_without, without-carries, without-tree}
 use Rattle.model.proofs.Striking.{facts-without, member}
-use Rattle.format.specs.Given.{PatternKept, SetKept}
+use Rattle.format.specs.Given.{PatternKept}
 use Rattle.containment.specs.Answer.{CaseKept}
 use Rattle.striking.specs.Present.{Strikable}
 use Rattle.striking.proofs.SectionBytes.{low-without}

@@ -5,33 +5,27 @@ use mathlib.Core.Path.{◌≡◌, refl, sym, ap, ◌∙◌, subst}
 use mathlib.Core.Bool.{true}
 use mathlib.Core.Option.{Option, none, some}
 use Rattle.std.specs.Prelude.{Some, None}
-use mathlib.Core.List.{List, [], ◌∷◌, ◌++◌, map, append_assoc, append-nil}
+use mathlib.Core.List.{List, [], ◌∷◌, ◌++◌, append_assoc, append-nil}
 use native.Mathlib.Omega.{arith}
 use native.Mathlib.Nat.{zero-add}
-use native.Mathlib.Numerals.{add-one}
-use lib.ListN.{length, get_or, replicate, length-append}
-use lib.Seq.{sets, length-sets, length-take-le, take-suc-set}
-use Rattle.model.specs.Limits.{max_limit, max_pattern, pattern_width}
+use lib.ListN.{length, get_or, length-append}
+use Rattle.model.specs.Limits.{max_limit, max_pattern}
 use Rattle.model.specs.Lists.{up_from, total}
 use Rattle.model.specs.Summary.{Summary}
-use Rattle.model.specs.Pattern.{Pattern, no_pattern_record, arity}
-use Rattle.model.specs.Bytes.{pattern_record_at, pattern_fields, section_fields, encode_pattern, written_at_front}
-use Rattle.model.specs.Facts.{PatternFacts, FewFigures, RecordFits}
-use Rattle.model.specs.Striking.{removed, raised, without, may_go, may_go_of, verdict_without, Round, round, Struck, also_struck, strike_from, strike_all}
-use Rattle.model.proofs.ListLaws.{length-keep, length-up_from, get_or-up_from}
-use Rattle.model.proofs.Bytes.{Holds, pattern-readable, length-section}
+use Rattle.model.specs.Pattern.{Pattern, arity}
+use Rattle.model.specs.Facts.{PatternFacts}
+use Rattle.model.specs.Striking.{removed, without, may_go, may_go_of, verdict_without, Round, round, Struck, also_struck, strike_from, strike_all}
+use Rattle.model.proofs.ListLaws.{length-keep, length-up_from}
 use Rattle.model.proofs.Verdict.{verdict-tried}
-use Rattle.model.proofs.Removing.{length_removed, length_without, not_root_lem, without-carries}
+use Rattle.model.proofs.Removing.{length_removed, length_without, without-carries}
 use Rattle.model.proofs.Rounds.{total-append, RoundFacts, round-facts, each-limited}
 use Rattle.model.proofs.Striking.{leaf-may, facts-without}
 use Rattle.striking.specs.Present.{Strikable}
 use Rattle.striking.specs.Rounds.{leaf_of, round_of}
 use Rattle.striking.specs.Strikes.{StruckBy}
 use Rattle.striking.specs.declared.round.Rounded.{Rounded}
-use Rattle.format.proofs.WriteLaws.{fields-stored}
 use Rattle.striking.proofs.RoundLaws.{most_tried}
-use Rattle.model.proofs.StruckBack.{section-fits}
-use Rattle.striking.proofs.SectionBytes.{without-fits, low-without, pattern-held, pattern-given}
+use Rattle.striking.proofs.SectionBytes.{low-without}
 
 -- ---- a round
 

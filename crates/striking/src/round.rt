@@ -9,9 +9,9 @@ ghost use Rattle.striking.specs.Rounds.{round_of};
 use crate::present::Present;
 use crate::shorten::may_go;
 use containment::Containment;
-use judging::rows::SummaryRows;
 use containment::verdict::verdict;
 use format::set::PatternSet;
+use judging::rows::SummaryRows;
 
 // What a round comes to: the leaf that it strikes, if any, and how many were tried in all.
 #[derive(Clone, Copy)]

@@ -1,6 +1,6 @@
 -- The records are as many as the table has room for, so they are copied to its front, where the layout by value promises them of any table.
 -- Assumes nothing.
-use Rattle.std.proofs.Common.{arith, ap, ◌∙◌, ◌≡◌, ◌≤◌, sym, subst, length, length-take, List, Ok}
+use Rattle.std.proofs.Common.{arith, ap, ◌≤◌, sym, subst, length, length-take, List, Ok}
 use Rattle.std.proofs.Math.ListN.{length-map}
 use Rattle.model.specs.Calls.{LaidRecord}
 use Rattle.laying.specs.Records.{record_of, LaidBy}

@@ -1,6 +1,5 @@
 -- `striking::accepted` meets its contract: the first pattern of an accepted case has what striking asks for, and what striking comes to is
 -- written and answered. Assumes nothing.
-use Rattle.std.proofs.Common.{arith, ◌≡◌, ◌∙◌}
 use Rattle.format.proofs.GivenLaws.{given-summary}
 use Rattle.striking.proofs.AcceptedLaws.{summary-kept, first-strikable, struck-told}
 use Rattle.striking.proofs.accepted.Goals as goal

@@ -1,6 +1,5 @@
 -- `striking::write_order` meets its contract: the section ends where the lent part begins, so what the two write stands one after the
 -- other. Assumes nothing.
-use Rattle.std.proofs.Common.{arith}
 use Rattle.std.proofs.Math.Seq.{take-length}
 use Rattle.format.proofs.FrontLaws.{front-part}
 use Rattle.striking.proofs.write_order.Goals as goal

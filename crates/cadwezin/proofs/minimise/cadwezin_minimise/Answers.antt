@@ -1,6 +1,6 @@
 -- What the call promises of the caller's tally by value carries over to the eight: the caller's own is raised by tried, which fits, and the
 -- others stay. Of a refused call nothing was tried, and they all stay.
-use Rattle.std.proofs.Common.{arith, length, ◌≡◌, rules}
+use Rattle.std.proofs.Common.{arith, length, ◌≡◌}
 use Rattle.std.proofs.lemmas.Result.{err_from_is_err_and}
 use Rattle.cadwezin.proofs.MinimiseLaws.{known, fits, charged-own, refused-own}
 use Rattle.cadwezin.proofs.minimise.cadwezin_minimise.Goals as goal

@@ -51,7 +51,7 @@ loop-q-preserved c =
     let h = (inside c.loop-q-test.true c.count-q-end.ensures.0 c.pattern-pattern.ensures.0) in
     elim c.if-may_go.branch [
       | then-may_go+in-NotContained w ↦
-        rw w.tried-is (going_on _ _ _ c.loop-q.invariant G.limited G.pattern.few h (ap (λ (P : Pattern). may_go P c.loop-q.q) (sym c.pattern-pattern.ensures.0) ∙ sym c.may_go.ensures ∙ w.if-may_go.true) w.verdict_without.ensures w.in-NotContained.is)
+          rw w.tried-is (going_on _ _ _ c.loop-q.invariant G.limited G.pattern.few h (ap (λ (P : Pattern). may_go P c.loop-q.q) (sym c.pattern-pattern.ensures.0) ∙ sym c.may_go.ensures ∙ w.if-may_go.true) w.verdict_without.ensures w.in-NotContained.is)
       | else-may_go w ↦ rw w.tried-is (going_over _ _ _ c.loop-q.invariant G.limited G.pattern.few h (ap (λ (P : Pattern). may_go P c.loop-q.q) (sym c.pattern-pattern.ensures.0) ∙ sym c.may_go.ensures ∙ w.if-may_go.false))
     ]
 

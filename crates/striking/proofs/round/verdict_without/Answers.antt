@@ -1,6 +1,6 @@
 -- `striking::round::verdict_without` meets its contract: the pattern without the leaf and the set of one are an accepted case beside the
 -- summary, and its verdict is the one asked for. Assumes nothing.
-use Rattle.std.proofs.Common.{arith, length, ap, ◌∙◌, ◌≡◌}
+use Rattle.std.proofs.Common.{◌∙◌, ◌≡◌}
 use Rattle.model.specs.Striking.{without}
 use Rattle.striking.proofs.CaseLaws.{kept-without, few-without}
 use Rattle.striking.proofs.round.verdict_without.Goals as goal

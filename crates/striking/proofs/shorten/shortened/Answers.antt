@@ -1,5 +1,5 @@
 -- `striking::shorten::shortened` meets its contract: before turn i the count and the first i records are written. Assumes nothing.
-use Rattle.std.proofs.Common.{ℕ, ◌-◌, ◌≤◌, ◌<◌, ◌≡◌, refl, sym, ap, ◌∙◌, subst, arith, length, replicate}
+use Rattle.std.proofs.Common.{ℕ, ◌-◌, ◌<◌, ◌≡◌, refl, sym, ap, ◌∙◌, subst, arith, length, replicate}
 use Rattle.model.specs.Striking.{without}
 use Rattle.format.specs.Given.{pattern_at}
 use Rattle.striking.proofs.WriteWithout.{writing_start, writing_step, writing-end, count-without, left-inside, left-record}

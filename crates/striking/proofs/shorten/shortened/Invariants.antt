@@ -1,4 +1,3 @@
-use Rattle.std.proofs.Common.{replicate}
 use Rattle.model.specs.Striking.{without}
 use Rattle.format.specs.Given.{pattern_at}
 use Rattle.striking.proofs.WriteWithout.{Writing}

@@ -1,4 +1,3 @@
-use Rattle.std.proofs.Common.{refl}
 use Rattle.model.specs.Lists.{up_from}
 use Rattle.striking.proofs.NumbersLaws.{take-up_from}
 use Rattle.striking.proofs.numbers.Numbers.first.Goals as goal

@@ -1,5 +1,5 @@
 -- `striking::present::Present::write` meets its contract: the section as it stands is the pattern's encoding. Assumes nothing.
-use Rattle.std.proofs.Common.{ap, ◌∙◌, ◌≡◌, sym, arith, length, rules, subst}
+use Rattle.std.proofs.Common.{ap, ◌∙◌, ◌≡◌, sym, arith, length}
 use Rattle.model.specs.Pattern.{Pattern}
 use Rattle.model.specs.Bytes.{encode_pattern, written_at_front}
 use Rattle.format.specs.Given.{pattern_at}
