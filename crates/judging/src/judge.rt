@@ -58,6 +58,7 @@ impl Member {
     {
         let mut h = self.node(b, n, g);
         let mut x = self.up(b);
+        // A climb from parent to parent: no index is counted.
         while a.0 < x.0 {
             h = self.node(x, NOBODY, h);
             x = self.up(x);

@@ -29,6 +29,7 @@ fn put_record<const WIDTH: usize>(b: &[u8], from: usize, out: &mut [u8], to: usi
 
 // The pattern whose count is field `at`, in records of FROM fields, becomes one in records of TO fields, from field `to` of out on. The
 // result is the field after it.
+// Bytes and a field, not a `Pattern`: raw fields are copied, and the old form has no type.
 fn write_pattern<const FROM: usize, const TO: usize>(
     b: &[u8],
     at: usize,

@@ -27,6 +27,7 @@ pub fn read_all<R: Read>(reader: &mut R, buffer: &mut [u8]) -> Result<usize, Cut
     ensures whole { IfOk result (λ n. IfSome (R.remaining reader.old)
         (λ xs. take n buffer.new ≡ take (length buffer.new) xs)) }
 {
+    // `read_exact` does not tell how much it read before the end, and `read_to_end` takes a heap.
     let mut done = 0;
     while done < buffer.len() {
         match reader.read(&mut buffer[done..]) {
