@@ -12,6 +12,7 @@ use format::nodes::SummaryNode;
 
 impl<'a> Judges<'a> {
     // What a node on x that k holds makes of each member's set.
+    // Its like `pass_row` asks something of its member's tree that this does not.
     fn node_row(&self, x: SummaryNode, k: usize, a: &Offer) -> Offer
         requires { (x.0 < 64) × (k ≤ nobody) }
         ensures { RowBy (length self.now.members.now) (node_of self.now.members.now x.0 k) a.now result }

@@ -22,6 +22,7 @@ use std::array;
 
 impl<'a> Partial<'a> {
     // Each node's list begins with what is settled.
+    // A `for` over the number: node j has its list and its column.
     fn begin(&self, rows: &Rows, lists: &mut [Offers])
         requires { length lists.old ≡ 16 }
         ensures { Begun (length self.now.by.now.members.now) (length self.now.by.now.pattern.now) rows.now lists.new }

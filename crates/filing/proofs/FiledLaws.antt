@@ -97,3 +97,10 @@ module _ (b : List ℕ) {before : List ℕ} (long : length before ≡ min_buffer
   pub normalise-filed : demands.NormaliseAnswered b before (moved_of answer mid) → Answered answer mid after r → Filed (model.normalise_told b) before after r
   unfolding model.normalise_told
   normalise-filed a = filed (normalise_refusal b) (normalised b) long _ _ answer a
+
+-- ---- the stream's number is a small one
+
+module _ (b : List ℕ) {before after : List ℕ} where
+  pub upgrade-stream : (r : Result ℕ ℕ) → Filed (model.upgrade_told b) before after r → stream_of r ≤ 2
+  upgrade-stream (Ok n) h = omega arith
+  upgrade-stream (Err n) h = omega arith

@@ -33,6 +33,7 @@ fn tell(written: Result<usize, Refusal>, out: &mut [u8; 8192]) -> Result<usize, 
 }
 
 // Of an old case from standard input: the set of one that it is.
+// Three functions, each with a contract of its own: what they call differs, and nothing else.
 pub fn upgrade_told(case: &[u8], out: &mut [u8; 8192]) -> Result<usize, usize>
     ensures { Filed (upgrade_told case.now) out.old out.new result }
 {

@@ -39,6 +39,7 @@ fn answer_text(told: Result<Minimised, Refusal>, answer: &[u8], page: &mut Page)
 }
 
 // The text of a case from standard input, with limit 1,000,000, caller 0 and its tally 0, and how many bytes it has.
+// An array lent and a count, not a slice: the rest of the array is promised too.
 pub fn order_text(case: &[u8], out: &mut [u8; 484]) -> usize
     ensures { Printed (order_printed case.now) out.old out.new result }
 {

@@ -44,6 +44,7 @@ fn answer_text(told: Result<Containment, Refusal>, answer: &[u8], page: &mut Pag
 }
 
 // The text of a case from standard input, with limit 1,000,000, caller 0 and its tally 0, and how many bytes it has.
+// An array lent and a count, not a slice: the rest of the array is promised too.
 pub fn verdict_text(case: &[u8], out: &mut [u8; 26308]) -> usize
     ensures { Printed (printed case.now) out.old out.new result }
 {

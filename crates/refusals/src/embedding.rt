@@ -56,6 +56,14 @@ pub fn edge_kept(s: &Summary, edge: usize, a: SummaryNode, v: SummaryNode) -> bo
     is_child(s, a, v)
 }
 
+// The image of pattern node q, as a list gives it: before it is tested it may be any number.
+pub fn image_at(l: &[u8], q: PatternNode) -> SummaryNode
+    requires { q.0 < length (list_of l.now) }
+    ensures { result.0 ≡ image_in (list_of l.now) q.0 }
+{
+    SummaryNode(field(l, q.0))
+}
+
 // A list of images, one for each node of a pattern: before it is tested each may be any number.
 #[derive(Drop)]
 pub struct Images<'a> {
@@ -71,7 +79,7 @@ impl<'a> Images<'a> {
         requires { q.0 < length self.now.pattern }
         ensures { result.0 ≡ image_in (list_of self.now.list.now) q.0 }
     {
-        SummaryNode(field(self.list, q.0))
+        image_at(self.list, q)
     }
 
     // The root's image is the root; any other node's is reached from its parent's image. The pattern is a tree, so the parent has an

@@ -54,6 +54,7 @@ impl Page<'_> {
     }
 
     // The lines of all its records.
+    // Bytes and a width, not a `Document` or a `Pattern`: the lines of both are one function.
     pub fn record_lines(&mut self, b: &[u8], width: usize)
         requires whole { WholeSection width b.now 0 }
         requires room { Room (record_lines width b.now) self.old }

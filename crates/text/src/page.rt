@@ -5,6 +5,7 @@ ghost use Rattle.model.specs.Text.{digit as digit_of, decimal, number as number_
 ghost use Rattle.text.specs.Put.{Room, Put};
 
 #[derive(Drop)]
+// No `write!`: its Result can't be shown to be Ok, and the texts are promised without a branch.
 pub struct Page<'a> {
     pub out: &'a mut [u8],
     pub at: usize,
@@ -40,6 +41,7 @@ impl<'a> Page<'a> {
     }
 
     // A number in decimal.
+    // A recursion: it is the definition `decimal`.
     pub fn digits(&mut self, n: u64)
         requires { Room (decimal n) self.old }
         ensures { Put (decimal n) self.old self.new }

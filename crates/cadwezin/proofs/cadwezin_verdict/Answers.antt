@@ -3,6 +3,7 @@
 use Rattle.std.proofs.Common.{arith, length, ◌≡◌}
 use Rattle.std.proofs.lemmas.Result.{err_from_is_err_and}
 use Rattle.cadwezin.proofs.VerdictLaws.{known, fits, charged-own, refused-own}
+use Rattle.std.specs.Prelude.{Ok}
 use Rattle.cadwezin.proofs.cadwezin_verdict.Goals as goal
 
 pub returns-in_err-verdict : goal.returns-in_err-verdict
@@ -21,4 +22,4 @@ pub returns : goal.returns
 returns c =
     let size : length c.args.tallies.now.counts ≡ 8 = omega arith in
     rw (c.charge.ensures, c.account-account.ensures, c.tried_of.ensures)
-    (charged-own c.args.tallies.now.counts size c.in_ok-verdict.verdict (rw c.account-account.ensures at c.in_ok-verdict.ensures))
+    (charged-own c.args.tallies.now.counts size (Ok c.in_ok-verdict.verdict) (rw c.account-account.ensures at c.in_ok-verdict.ensures))

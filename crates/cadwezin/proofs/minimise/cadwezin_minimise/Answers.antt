@@ -3,6 +3,7 @@
 use Rattle.std.proofs.Common.{arith, length, ◌≡◌}
 use Rattle.std.proofs.lemmas.Result.{err_from_is_err_and}
 use Rattle.cadwezin.proofs.MinimiseLaws.{known, fits, charged-own, refused-own}
+use Rattle.std.specs.Prelude.{Ok}
 use Rattle.cadwezin.proofs.minimise.cadwezin_minimise.Goals as goal
 
 pub returns-in_err-minimised : goal.returns-in_err-minimised
@@ -21,4 +22,4 @@ pub returns : goal.returns
 returns c =
     let size : length c.args.tallies.now.counts ≡ 8 = omega arith in
     rw (c.charge.ensures, c.account-account.ensures)
-    (charged-own c.args.tallies.now.counts size c.in_ok-minimised.minimised (rw c.account-account.ensures at c.in_ok-minimised.ensures))
+    (charged-own c.args.tallies.now.counts size (Ok c.in_ok-minimised.minimised) (rw c.account-account.ensures at c.in_ok-minimised.ensures))

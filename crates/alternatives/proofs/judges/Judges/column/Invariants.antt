@@ -1,8 +1,0 @@
-use Prim.Native.Nat.{ℕ}
-use mathlib.Core.List.{[]}
-use lib.ListN.{length, get_or}
-use Rattle.alternatives.proofs.JoinLaws.{RowTo}
-use Rattle.alternatives.proofs.judges.Judges.column.Given as goal
-
-abbrev pub invariant-loop-i : goal.invariant-loop-i
-invariant-loop-i l = RowTo (length l.self.members.now) (λ (j e : ℕ). get_or (get_or l.rows j []) l.j.0 0) [] l.r l.i
