@@ -22,3 +22,4 @@ pub mod WaysLoop
 pub mod EachLoop
 pub mod SettleLaws
 pub mod LastLoop
+pub mod MaskLoops
