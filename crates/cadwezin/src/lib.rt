@@ -47,7 +47,7 @@ impl Tallies {
     }
 
     // What was tried for an account, in addition to what it has come to, is the caller's own count now.
-    pub fn charge(&mut self, account: Account, tried: u64)
+    pub(crate) fn charge(&mut self, account: Account, tried: u64)
         requires known { account.caller < callers }
         requires fits { account.tally + tried < 2 ^ 64 }
         ensures { self.new.counts ≡ slice_set self.old.counts account.caller (account.tally + tried) }
