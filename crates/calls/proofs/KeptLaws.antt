@@ -9,11 +9,11 @@ use Rattle.model.specs.Facts.{PatternFacts, AcceptedCase, DocumentFacts}
 use Rattle.model.specs.Questions.{pattern_given, selected}
 use Rattle.model.proofs.CaseFacts.{selected-facts}
 use Rattle.format.specs.Given.{SummaryKept, PatternKept, DocumentKept}
-use Rattle.format.proofs.GivenLaws.{given-document}
+use Rattle.format.proofs.GivenLaws.{kept-summary, kept-document}
 
 module _ {b : List ℕ} (A : AcceptedCase b) where
   pub summary-kept : SummaryKept (case_of b).summary
-  summary-kept = record { tree = A.facts.summary.tree; few = A.facts.summary_size }
+  summary-kept = kept-summary A
 
   module _ (s : ℕ) (g : pattern_given (case_of b) s ≡ true) where
     pub pattern-facts : PatternFacts (selected (case_of b) s)
@@ -23,4 +23,4 @@ module _ {b : List ℕ} (A : AcceptedCase b) where
     pattern-kept = record { tree = pattern-facts.tree; few = (selected-facts (case_of b) s A.facts g).size }
 
 pub document-kept : {w : List ℕ} → DocumentFacts w → DocumentKept (document_of w)
-document-kept d = let G = given-document d in record { tree = G.tree; few = G.few }
+document-kept = kept-document

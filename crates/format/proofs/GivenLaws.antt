@@ -7,10 +7,10 @@ use native.Mathlib.Omega.{arith}
 use lib.ListN.{length, get_or}
 use borrow.Author.Tests.{eqb-true}
 use Rattle.model.specs.Limits.{document_width}
-use Rattle.model.specs.Bytes.{first_at, set_at, member_at, set_of, section_end, case_of, WholeSection, is_whole_document}
+use Rattle.model.specs.Bytes.{first_at, set_at, member_at, set_of, section_end, case_of, document_of, WholeSection, is_whole_document}
 use Rattle.model.specs.Facts.{MemberFacts, DocumentFacts, AcceptedCase}
 use Rattle.model.proofs.ListLaws.{mem-at}
-use Rattle.format.specs.Given.{pattern_at, SummaryGiven, PatternGiven, SetGiven, DocumentGiven}
+use Rattle.format.specs.Given.{pattern_at, SummaryGiven, PatternGiven, SetGiven, DocumentGiven, SummaryKept, PatternKept, SetKept, DocumentKept}
 use Rattle.format.proofs.SectionLaws.{set_below, set-member}
 
 -- ---- accepted bytes
@@ -46,3 +46,21 @@ whole-document w e =
 
 pub given-document : {w : List ℕ} → DocumentFacts w → DocumentGiven w
 given-document {w} D = record { whole = whole-document w D.whole; tree = D.tree; few = D.size }
+
+-- ---- the same of the values that are read off them
+
+pub kept-summary : {b : List ℕ} → AcceptedCase b → SummaryKept (case_of b).summary
+kept-summary A = record { tree = A.facts.summary.tree; few = A.facts.summary_size }
+
+pub kept-first : {b : List ℕ} → AcceptedCase b → PatternKept (case_of b).first
+kept-first A = record { tree = A.facts.first.tree; few = A.facts.first_size }
+
+pub kept-set : {b : List ℕ} → AcceptedCase b → SetKept (case_of b).members
+kept-set {b} A =
+    record {
+      few = A.facts.few_members;
+      members = λ i h. (let m = A.facts.members (get_or (case_of b).members i []) (mem-at (case_of b).members i [] h) in record { tree = m.pattern.tree; few = m.size });
+    }
+
+pub kept-document : {w : List ℕ} → DocumentFacts w → DocumentKept (document_of w)
+kept-document D = record { tree = D.tree; few = D.size }

@@ -1,15 +1,13 @@
 -- Laws of the writers. Fields that are put one after another, from field 0 on, stand as bytes at the front of the buffer, and one
 -- more field adds its two bytes; so the loops write what the encodings say. Assumes nothing.
-use Prim.Native.Nat.{ℕ, zero, suc, ◌+◌, ◌-◌, ◌*◌, ◌/◌, ◌%◌, ◌≤◌, ◌<◌}
+use Prim.Native.Nat.{ℕ, zero, suc, ◌+◌, ◌*◌, ◌≤◌, ◌<◌}
 use mathlib.Core.Path.{◌≡◌, refl, sym, ap, ap₂, ◌∙◌, subst}
 use mathlib.Core.List.{List, [], ◌∷◌, ◌++◌, map, flat_map, append_assoc, map-append}
 use native.Mathlib.Omega.{arith}
 use native.Mathlib.Nat.{add-zero, zero-add}
 use native.Mathlib.Numerals.{add-one}
-use lib.ListN.{length, get_or, take, drop, set, length-append, length-drop}
-use lib.Seq.{sets, sets-eq, length-sets, get_or-set_same, get_or-set_other, take-suc, length-take-le, drop-drop}
-use borrow.Rule.Slice.PartMut.{put_mid}
-use Rattle.std.proofs.lemmas.List.{get_or-drop}
+use lib.ListN.{length, get_or, take, set, length-append}
+use lib.Seq.{sets, length-sets, get_or-set_same, get_or-set_other, take-suc, length-take-le}
 use Rattle.model.specs.Lists.{up_from}
 use Rattle.model.specs.Tree.{Document}
 use Rattle.model.specs.Bytes.{field, field_bytes, bytes_of, fields_at, document_fields, section_fields, encode_document, encode_counted, written_at_front}
@@ -220,36 +218,31 @@ copied-after {fs} {b₀} {out} {out'} {at} b from n w room e =
     let c : length (fields_at b from n) ≡ n = fields-count b from n in
     subst (λ (k : ℕ). Written (fs ++ fields_at b from n) b₀ out' (at + k)) c (written-run (fields_at b from n) w (omega arith) e)
 
--- the bytes of n fields, taken from where they stand
-pub fields-part : (b : List ℕ) (from n : ℕ) → ((i : ℕ) → get_or b i 0 < 256) → 2 * (from + n) ≤ length b
-    → take (2 * n) (drop (2 * from) b) ≡ bytes_of (fields_at b from n)
-unfolding up_from bytes_of flat_map field_bytes field
-fields-part b from zero low h = refl
-fields-part b from (suc n) low h =
-    let all : List ℕ = drop (2 * from) b in
-    let long : length all ≡ length b - 2 * from = length-drop (2 * from) b in
-    let x : ℕ = get_or b (2 * (from + n)) 0 in
-    let y : ℕ = get_or b (2 * (from + n) + 1) 0 in
-    let place : 2 * from + 2 * n ≡ 2 * (from + n) = omega arith in
-    let place-after : 2 * from + suc (2 * n) ≡ 2 * (from + n) + 1 = omega arith in
-    let double : 2 * suc n ≡ suc (suc (2 * n)) = omega arith in
-    let lowx-is : x ≡ (x + 256 * y) % 256 = omega (arith, low (2 * (from + n))) in
-    let lowy-is : y ≡ (x + 256 * y) / 256 % 256 = omega (arith, low (2 * (from + n)), low (2 * (from + n) + 1)) in
-    let first : get_or all (2 * n) 0 ≡ x = get_or-drop (2 * from) b (2 * n) 0 ∙ ap (λ (k : ℕ). get_or b k 0) place in
-    let second : get_or all (suc (2 * n)) 0 ≡ y = get_or-drop (2 * from) b (suc (2 * n)) 0 ∙ ap (λ (k : ℕ). get_or b k 0) place-after in
-    let bytes : x ∷ y ∷ [] ≡ field_bytes (field b (from + n)) = ap₂ (λ (u v : ℕ). u ∷ v ∷ []) lowx-is lowy-is in
-    ap (λ (k : ℕ). take k all) double
-    ∙ take-suc all (suc (2 * n)) 0 (omega arith)
-    ∙ ap (λ (l : List ℕ). l ++ (get_or all (suc (2 * n)) 0 ∷ [])) (take-suc all (2 * n) 0 (omega arith))
-    ∙ append_assoc (take (2 * n) all) (get_or all (2 * n) 0 ∷ []) (get_or all (suc (2 * n)) 0 ∷ [])
-    ∙ ap₂ (λ (u v : ℕ). take (2 * n) all ++ (u ∷ v ∷ [])) first second
-    ∙ ap₂ {C = List ℕ} (λ (l m : List ℕ). l ++ m) (fields-part b from n low (omega arith)) bytes
-    ∙ sym (bytes-append (fields_at b from n) (field b (from + n) ∷ []))
-    ∙ ap bytes_of (sym (fields-last b from n) ∙ ap (λ (k : ℕ). fields_at b from k) (add-one n))
+-- the loop that copies n of them to field `to` and on: i are copied
+pub record Copying (b : List ℕ) (from n to : ℕ) (b₀ out : List ℕ) (i : ℕ) : Type 0 where
+  pub turns : i ≤ n
+  pub size : length out ≡ length b₀
+  pub bytes : out ≡ sets b₀ (2 * to) (bytes_of (fields_at b from i))
 
--- a part of a list that is written over
-pub part-stored : (out : List ℕ) (a k : ℕ) (vs : List ℕ) → length vs ≡ k → a + k ≤ length out → put_mid a k out vs ≡ sets out a vs
-part-stored out a k vs e h =
-    ap (λ (l : List ℕ). take a out ++ (vs ++ l)) (drop-drop k a out ∙ ap (λ (m : ℕ). drop (a + m) out) (sym e))
-    ∙ sym (append_assoc (take a out) vs (drop (a + length vs) out))
-    ∙ sym (sets-eq vs out a (omega arith))
+module _ {b : List ℕ} {from n to : ℕ} {b₀ : List ℕ} where
+  pub copying-start : Copying b from n to b₀ b₀ 0
+  unfolding up_from bytes_of flat_map
+  copying-start = record { turns = omega arith; size = refl; bytes = refl }
+
+  pub copying-step : {out out' : List ℕ} {i v : ℕ} → Copying b from n to b₀ out i → i < n → v ≡ field b (from + i)
+      → out' ≡ sets out (2 * (to + i)) (field_bytes v) → Copying b from n to b₀ out' (i + 1)
+  copying-step {out} {out'} {i} {v} w h read e =
+      let fs : List ℕ = fields_at b from i in
+      let there : to + i ≡ to + length fs = ap (λ (k : ℕ). to + k) (sym (fields-count b from i)) in
+      record {
+        turns = omega arith;
+        size = ap length e ∙ length-sets out (2 * (to + i)) (field_bytes v) ∙ w.size;
+        bytes =
+            fields-run b₀ to fs (v ∷ []) there w.bytes (one-run out (to + i) v e)
+            ∙ ap (λ (l : List ℕ). sets b₀ (2 * to) (bytes_of l)) (ap (λ (x : ℕ). fs ++ (x ∷ [])) read ∙ sym (fields-last b from i));
+      }
+
+  pub copying-end : {out : List ℕ} {i : ℕ} → Copying b from n to b₀ out i → n ≤ i → out ≡ sets b₀ (2 * to) (bytes_of (fields_at b from n))
+  copying-end {out} {i} w h =
+      let done : i ≡ n = let t : i ≤ n = w.turns in omega arith in
+      w.bytes ∙ ap (λ (k : ℕ). sets b₀ (2 * to) (bytes_of (fields_at b from k))) done

@@ -5,6 +5,8 @@ ghost use Rattle.std.specs.Prelude.{◌≡◌, ◌+◌, ◌*◌, ◌≤◌, ◌<
 ghost use Rattle.std.proofs.lemmas.List.Edits.{sets};
 ghost use Rattle.model.specs.Bytes.{field_bytes, bytes_of, fields_at, encode_counted, written_at_front};
 
+use crate::field::field;
+
 // Field i becomes value, low byte first.
 pub fn put_field(out: &mut [u8], i: usize, value: u16)
     requires { 2 * i + 1 < length out.old }
@@ -33,5 +35,8 @@ pub fn copy_fields(b: &[u8], from: usize, n: usize, out: &mut [u8], to: usize)
     requires { (2 * (from + n) ≤ length b.now) × (2 * (to + n) ≤ length out.old) }
     ensures { out.new ≡ sets out.old (2 * to) (bytes_of (fields_at b.now from n)) }
 {
-    out[2 * to..2 * (to + n)].copy_from_slice(&b[2 * from..2 * (from + n)]);
+    // Field by field, not by `copy_from_slice`, which would have the archive for C need memmove from outside.
+    for i in 0..n {
+        put_field(out, to + i, field(b, from + i) as u16);
+    }
 }

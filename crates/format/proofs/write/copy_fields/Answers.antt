@@ -1,19 +1,16 @@
--- `format::write::copy_fields` meets its contract: the bytes that are copied are those of the fields. Assumes nothing.
-use mathlib.Core.Path.{ap, ◌∙◌}
-use native.Mathlib.Omega.{arith}
-use Prim.Native.Nat.{ℕ, ◌*◌}
-use lib.ListN.{take, drop}
-use borrow.Rule.Slice.PartMut.{put_mid}
-use Rattle.model.proofs.Bytes.{length-bytes}
-use Rattle.model.specs.Bytes.{bytes_of, fields_at}
-use Rattle.format.proofs.WriteLaws.{fields-part, part-stored, fields-count}
+-- `format::write::copy_fields` meets its contract: before turn i the first i fields are copied. Assumes nothing.
+use Rattle.format.proofs.WriteLaws.{copying-start, copying-step, copying-end}
 use Rattle.format.proofs.write.copy_fields.Goals as goal
 
+pub loop-i-init : goal.loop-i-init
+loop-i-init c = copying-start
+
+pub loop-i-preserved : goal.loop-i-preserved
+loop-i-preserved c =
+    copying-step c.loop-i.invariant c.loop-i-test.true c.field.ensures.0 c.put_field.ensures
+
+pub shape_of-out : goal.shape_of-out
+shape_of-out c = c.loop-i.invariant.size
+
 pub returns : goal.returns
-returns c =
-    let a = c.args in
-    let wide = length-bytes (fields_at a.b.now a.from a.n) in
-    let many = fields-count a.b.now a.from a.n in
-    ap (put_mid (2 * a.to) _ a.out.now)
-    (c.copy_from_slice.ensures.after ∙ ap (λ (k : ℕ). take k (drop (2 * a.from) a.b.now)) (omega arith) ∙ fields-part a.b.now a.from a.n (λ i. (c.type_inv.b i).fits) c.requires.0)
-    ∙ part-stored a.out.now (2 * a.to) _ (bytes_of (fields_at a.b.now a.from a.n)) (omega (arith, wide, many)) (omega (arith, c.requires.1))
+returns c = copying-end c.loop-i.invariant c.loop-i-test.false
