@@ -118,14 +118,14 @@ pub fn count64(m: u64) -> usize
 }
 
 // The least member, or 64 where there is none.
-fn first64(m: u64) -> usize
+pub fn first64(m: u64) -> usize
     ensures { result ≡ count_trailing_zeros 64 m }
 {
     index(u64::trailing_zeros(m))
 }
 
 // The set without i, which is in it.
-fn without64(m: u64, i: usize) -> u64
+pub fn without64(m: u64, i: usize) -> u64
     requires { (i < 64) × (2 ^ i ≤ m) }
     ensures { result ≡ m - 2 ^ i }
 {

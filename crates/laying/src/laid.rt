@@ -33,7 +33,7 @@ pub struct NodeRecord {
 }
 
 // What is laid out: the nodes' records, at the front of an array, since memory is fixed.
-#[derive(Drop)]
+#[derive(Clone, Copy)]
 pub struct Laid {
     count: usize,
     nodes: [NodeRecord; 1024],
@@ -46,10 +46,15 @@ impl Model for Laid {
     ghost Value = { List LaidRecord };
 
     ghost use Rattle.laying.specs.Array.{records_in, IsFilled};
+    ghost use Rattle.laying.specs.Back.{inside_of, given_back};
 
     ghost view = { λ a. records_in a.count a.nodes };
 
+    ghost inverse = { inside_of };
+
     ghost invariant = { λ a. IsFilled a.count a.nodes };
+
+    ghost inverse_ok = { given_back };
 }
 
 impl Laid {

@@ -3,7 +3,7 @@
 
 ghost use Rattle.std.specs.Prelude.{ℕ, ◌≤◌, ◌<◌, get_or};
 
-#[derive(Drop)]
+#[derive(Clone, Copy)]
 pub struct Wanted {
     // The nodes that hang by a descendant edge.
     pub deep: u16,

@@ -1,9 +1,11 @@
 // Numbers of nodes, at most 16, in some order: a list in fixed memory.
 
-ghost use Rattle.std.specs.Prelude.{◌≡◌, ◌<◌, ◌≤◌, [], ◌∷◌, ◌++◌, length, slice_index};
+ghost use Rattle.std.specs.Prelude.{◌≡◌, ◌<◌, ◌≤◌, [], ◌∷◌, ◌++◌, map, length, get_or, slice_index, replicate};
 ghost use Rattle.model.specs.Lists.{up_from};
-ghost use Rattle.model.specs.Striking.{removed};
+ghost use Rattle.model.specs.Bytes.{written_at_front};
+ghost use Rattle.model.specs.Striking.{raised as raised_of, removed};
 
+use crate::shorten::raised;
 use std::marker::Model;
 
 #[derive(Drop)]
@@ -20,6 +22,18 @@ impl Model for Numbers {
     ghost view = { λ s. take s.count s.items };
 
     ghost invariant = { λ s. s.count ≤ 16 };
+}
+
+// The items when the one at place q is gone; past the last there is 0. A new array, not `copy_within`, which would have the archive for C
+// need memmove from outside.
+fn without(items: &[u16; 16], q: usize) -> [u16; 16]
+    ensures { result ≡ written_at_front (map (λ i. get_or items.now (raised_of q i) 0) (up_from 0 15)) (replicate 16 0) }
+{
+    let mut left = [0u16; 16];
+    for i in 0..15 {
+        left[i] = items[raised(q, i)];
+    }
+    left
 }
 
 impl Numbers {
@@ -68,7 +82,7 @@ impl Numbers {
     {
         let end = self.count;
         let number = self.items[q];
-        self.items.copy_within(q + 1..end, q);
+        self.items = without(&self.items, q);
         self.count = end - 1;
         number
     }

@@ -38,7 +38,7 @@ fn lowered(q: usize, i: usize) -> usize
 }
 
 // The number that what is now node i had while node q was there.
-fn raised(q: usize, i: usize) -> usize
+pub fn raised(q: usize, i: usize) -> usize
     requires { i < 65536 }
     ensures { result ≡ raised_of q i }
 {

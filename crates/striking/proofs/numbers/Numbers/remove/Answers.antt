@@ -1,7 +1,7 @@
-use Rattle.std.proofs.Common.{arith, ◌-◌, ◌≤◌, length, ◌<◌, ◌≡◌, ap, ◌∙◌, take}
+use Rattle.std.proofs.Common.{arith, rules, ◌-◌, ◌≤◌, length, ◌<◌, ◌≡◌, ap, ◌∙◌, take}
 use Rattle.std.proofs.Math.ListN.{length-take}
 use Rattle.model.specs.Striking.{removed}
-use Rattle.striking.proofs.NumbersLaws.{moved-up}
+use Rattle.striking.proofs.NumbersLaws.{left-removed}
 use Rattle.striking.proofs.numbers.Numbers.remove.Goals as goal
 
 pub returns-clause-left : goal.returns-clause-left
@@ -10,6 +10,4 @@ returns-clause-left c =
     let view : take c.self.inside.count c.self.inside.items ≡ c.args.self.now = c.self.view_is in
     let size = ap length view in
     let there : c.args.q < c.self.inside.count = omega (arith, size, length-take c.self.inside.count c.self.inside.items) in
-    ap (take (c.self.inside.count - 1)) c.copy_within.ensures.after
-    ∙ moved-up c.args.q c.self.inside.count c.self.inside.items there (omega arith)
-    ∙ ap (removed c.args.q) view
+    left-removed c.args.q c.self.inside.count c.self.inside.items _ there few (search rules) c.without-self-inside.ensures ∙ ap (removed c.args.q) view
