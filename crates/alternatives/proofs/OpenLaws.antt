@@ -4,7 +4,7 @@ use Prim.Native.Nat.{ℕ, ◌+◌, ◌≤◌, ◌<◌}
 use mathlib.Core.Path.{◌≡◌, refl, sym, ap, ◌∙◌, subst}
 use mathlib.Core.Bool.{Bool, true, false}
 use mathlib.Core.Logic.{◌⊎◌, inl, inr}
-use mathlib.Core.List.{List, [], Memᴰ}
+use mathlib.Core.List.{List, [], ◌∷◌, Memᴰ}
 use native.Mathlib.Omega.{arith}
 use lib.Dec.{eqb}
 use lib.ListN.{length, get_or, set, take, length-set}
@@ -36,23 +36,41 @@ use Rattle.alternatives.proofs.Skipping.{listed-finishes}
 -- those of the nodes before j do
 pub record BegunTo (n : ℕ) (rows : List (List ℕ)) (now : List (List (List ℕ))) (j : ℕ) : Type 0 where
   pub long : length now ≡ 16
-  pub covers : (k : ℕ) → k < j → (f : ℕ → ℕ → Bool) → Settles n rows k f → Covers n (get_or now k []) f
+  pub alone : (k : ℕ) → k < j → length (get_or now k []) ≡ 1
+  pub first : (k : ℕ) → k < j → (i : ℕ) → i < n → get_or (get_or (get_or now k []) 0 []) i 0 ≡ get_or (get_or rows i []) k 0
 
 module _ {n : ℕ} {rows : List (List ℕ)} where
   pub begun-start : {now : List (List (List ℕ))} → length now ≡ 16 → BegunTo n rows now 0
-  begun-start l = record { long = l; covers = λ k h. absurd (omega arith) }
+  begun-start l = record { long = l; alone = λ k h. absurd (omega arith); first = λ k h. absurd (omega arith) }
 
   pub begun-step : {now : List (List (List ℕ))} {j : ℕ} (list : List (List ℕ)) (a : List ℕ) → BegunTo n rows now j → j < 16 → ((i : ℕ) → i < n → get_or a i 0 ≡ get_or (get_or rows i []) j 0)
-      → ((n : ℕ) (f : ℕ → ℕ → Bool) → Covers n (get_or now j []) f ⊎ Inside n a f → Covers n list f) → BegunTo n rows (set now j list) (j + 1)
+      → list ≡ a ∷ [] → BegunTo n rows (set now j list) (j + 1)
   begun-step {now} {j} list a v h e w =
       let s = v.long in
       record {
         long = length-set now j list ∙ s;
-        covers =
-            below_more (λ (k : ℕ). (f : ℕ → ℕ → Bool) → Settles n rows k f → Covers n (get_or (set now j list) k []) f) j
-            (λ k m f u. subst (λ (l : List (List ℕ)). Covers n l f) (sym (get_or-set_other now j k list [] (λ p. omega arith))) (v.covers k m f u))
-            (λ f u. subst (λ (l : List (List ℕ)). Covers n l f) (sym (get_or-set_same now j list [] (omega arith))) (w n f (inr (u.inside a e))));
+        alone =
+            below_more (λ (k : ℕ). length (get_or (set now j list) k []) ≡ 1) j
+            (λ k m. ap (λ (l : List (List ℕ)). length l) (other k m) ∙ v.alone k m) (ap (λ (l : List (List ℕ)). length l) here);
+        first =
+            below_more (λ (k : ℕ). (i : ℕ) → i < n → get_or (get_or (get_or (set now j list) k []) 0 []) i 0 ≡ get_or (get_or rows i []) k 0) j
+            (λ k m i f. ap (λ (l : List (List ℕ)). get_or (get_or l 0 []) i 0) (other k m) ∙ v.first k m i f)
+            (λ i f. ap (λ (l : List (List ℕ)). get_or (get_or l 0 []) i 0) here ∙ e i f);
       }
+    where
+      other : (k : ℕ) → k < j → get_or (set now j list) k [] ≡ get_or now k []
+      other k m = get_or-set_other now j k list [] (λ p. omega arith)
+
+      here : get_or (set now j list) j [] ≡ a ∷ []
+      here = let s = v.long in get_or-set_same now j list [] (omega arith) ∙ w
+
+  pub begun-end : {now : List (List (List ℕ))} {count : ℕ} → BegunTo n rows now count → Begun n count rows now
+  begun-end v = record { alone = v.alone; first = λ j i h. v.first j h i }
+
+  -- so each covers what is settled there
+  pub begun-covers : {lists : List (List (List ℕ))} {count : ℕ} → Begun n count rows lists → (j : ℕ) → j < count → (f : ℕ → ℕ → Bool) → Settles n rows j f → Covers n (get_or lists j []) f
+  begun-covers {lists} b j h f u =
+      let one = b.alone j h in record { row = 0; few = omega arith; inside = u.inside (get_or (get_or lists j []) 0 []) (λ i k. b.first j i h k) }
 
 -- ---- a list is passed on
 
@@ -121,7 +139,7 @@ module _ {ts : List Member} {m : Masks} {P : Pattern} (R : Made ts m P) {q : ℕ
   pub left-start : {rows : List (List ℕ)} {lists : List (List (List ℕ))} → RowsSettled ts m P q es rows → Begun (length ts) (length P) rows lists → LeftOpen ts m P q es lists
   left-start {rows = rows} {lists = lists} s b =
       record {
-        covered = λ fs F. inr (λ j h. b.covers j h (given_of ts P fs j)
+        covered = λ fs F. inr (λ j h. begun-covers b j h (given_of ts P fs j)
             (record { inside = λ a e. settled-inside R fs F.placed q j rows a h (rows_same P R.tree fs le F.kept s) e }));
       }
 

@@ -1,14 +1,16 @@
 -- The table of alternatives as it is stored: a cell stands for sets in use, and what is written to one leaves the others. Assumes nothing.
 use Prim.Native.Nat.{ℕ, ◌+◌, ◌≤◌, ◌<◌}
-use mathlib.Core.Path.{◌≡◌, refl, sym, ap, ◌∙◌, subst}
+use mathlib.Core.Path.{◌≡◌, refl, sym, ap, ap₂, ◌∙◌, subst}
 use mathlib.Core.Bool.{Bool, true, false}
-use mathlib.Core.List.{List, [], ◌++◌}
+use mathlib.Core.List.{List, [], ◌∷◌, ◌++◌}
 use native.Mathlib.Omega.{arith}
 use lib.Dec.{ltb, eqb}
 use lib.ListN.{length, get_or, set, take, drop, replicate, get_or-replicate, get_or-eq_default, get_or-append, length-replicate, length-drop, length-append}
 use lib.Seq.{length-take-le, get_or-take, get_or-drop, get_or-append_right, get_or-set_same, get_or-set_other, ext_get_or}
-use lib.Pointwise.{pointwise, pointwise_decides, bytes_decides}
+use lib.Pointwise.{pointwise, bytes_decides}
 use borrow.Author.Tests.{ltb-true, ltb-false}
+use Rattle.std.specs.List.{list_all, zip}
+use Rattle.model.proofs.ListLaws.{and_left, and_right}
 use Rattle.judging.specs.Blocks.{cell}
 use Rattle.alternatives.specs.declared.table.Cell.{Cell}
 use Rattle.alternatives.specs.declared.table.Table.{Table}
@@ -113,6 +115,15 @@ stored-append t mid t' {c} {x} {list} ys zs e q w h S =
           ∙ before t.sets ys zs t.used h (start_in t d y) (many_in t d y) (t.filled.within (cell d y));
     }
 
--- sets that are compared equal are the same
-pub same-sets : (xs ys : List (List ℕ)) → pointwise (pointwise eqb) xs ys ≡ true → xs ≡ ys
-same-sets xs ys e = (pointwise_decides bytes_decides xs ys).0 e
+-- lists whose sets are equal, one by one, are the same
+abbrev pub pair_same : List ℕ × List ℕ → Bool
+pair_same p = pointwise eqb p.0 p.1
+
+pub pairs-same : (xs ys : List (List ℕ)) → length xs ≡ length ys → list_all pair_same (zip xs ys) ≡ true → xs ≡ ys
+pairs-same [] [] l e = refl
+pairs-same [] (y ∷ ys) l e = absurd (omega arith)
+pairs-same (x ∷ xs) [] l e = absurd (omega arith)
+pairs-same (x ∷ xs) (y ∷ ys) l e =
+    let here : pointwise eqb x y ≡ true = and_left (pointwise eqb x y) (list_all pair_same (zip xs ys)) e in
+    let there : list_all pair_same (zip xs ys) ≡ true = and_right (pointwise eqb x y) (list_all pair_same (zip xs ys)) e in
+    ap₂ (λ (h : List ℕ) (t : List (List ℕ)). h ∷ t) ((bytes_decides x y).0 here) (pairs-same xs ys (omega arith) there)

@@ -9,9 +9,10 @@ use Rattle.alternatives.specs.Alternatives.{RowBy, Raises, Met}
 pub record Settles (n : ℕ) (rows : List (List ℕ)) (j : ℕ) (f : ℕ → ℕ → Bool) : Type 0 where
   pub inside : (a : List ℕ) → ((i : ℕ) → i < n → get_or a i 0 ≡ get_or (get_or rows i []) j 0) → Inside n a f
 
--- each of the first `count` nodes' lists covers what is settled there
+-- each of the first `count` nodes' lists has one set, the node's column of the rows of n members
 pub record Begun (n count : ℕ) (rows : List (List ℕ)) (lists : List (List (List ℕ))) : Type 0 where
-  pub covers : (j : ℕ) → j < count → (f : ℕ → ℕ → Bool) → Settles n rows j f → Covers n (get_or lists j []) f
+  pub alone : (j : ℕ) → j < count → length (get_or lists j []) ≡ 1
+  pub first : (j i : ℕ) → j < count → i < n → get_or (get_or (get_or lists j []) 0 []) i 0 ≡ get_or (get_or rows i []) j 0
 
 -- of each of the sets, what F makes of it
 pub record ListBy (n : ℕ) (F : ℕ → ℕ → ℕ) (sets made : List (List ℕ)) : Type 0 where

@@ -29,7 +29,7 @@ impl<'a> Partial<'a> {
     {
         for j in 0..self.by.pattern.count() {
             let list = &mut lists[j];
-            list.add(self.by.column(rows, PatternNode(j)));
+            list.start(self.by.column(rows, PatternNode(j)));
         }
     }
 

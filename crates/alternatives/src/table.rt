@@ -1,7 +1,7 @@
 // The table of alternatives, made once a case: of each node of the first pattern and each summary node above its places, sets over all
 // members' nodes of which at least one is offered, wherever the node and all below it are placed.
 
-ghost use Rattle.std.specs.Prelude.{[], ℕ, ◌<◌, length, get_or};
+ghost use Rattle.std.specs.Prelude.{◌≡◌, true, [], ℕ, ◌<◌, length, get_or};
 ghost use Rattle.cover.specs.Cover.{Within};
 ghost use Rattle.alternatives.specs.Filled.{Filled};
 
@@ -91,7 +91,7 @@ impl Table {
             × (take (length sets.now) (drop (self.now.used - length sets.now) self.now.sets) ≡ sets.now) }
     {
         let n = sets.len();
-        n <= self.used && &self.sets[self.used - n..self.used] == sets
+        n <= self.used && same_sets(&self.sets[self.used - n..self.used], sets)
     }
 
     // The sets are kept as the alternatives of node c and x: those last put in, where they are the same; else behind them, or, where there is
@@ -113,6 +113,14 @@ impl Table {
             self.append(c, x, &[common_all(sets)]);
         }
     }
+}
+
+// Two lists are the same. Set by set, not by `==` of the slices, which would have the archive for C need bcmp from outside.
+fn same_sets(a: &[Offer], b: &[Offer]) -> bool
+    requires { length a.now ≡ length b.now }
+    ensures { result ≡ true → a.now ≡ b.now }
+{
+    a.iter().zip(b).all(|(x, y)| x == y)
 }
 
 // What all the sets have in common.

@@ -134,6 +134,11 @@ module _ {a b : List ℕ} where
 among-at : {m : ℕ} {f : ℕ → ℕ → Bool} {sets : List (List ℕ)} {count : ℕ} {a : List ℕ} (k : ℕ) → k < count → get_or sets k [] ≡ a → Inside m a f → Among m sets count f
 among-at {m = m} {f = f} k h e w = record { row = k; few = h; inside = subst (λ (x : List ℕ). Inside m x f) (sym e) w }
 
+-- a set at the front, alone
+pub front-alone : (sets : List (List ℕ)) (a : List ℕ) → 0 < length sets → take 1 (set sets 0 a) ≡ a ∷ []
+front-alone [] a h = absurd (omega arith)
+front-alone (x ∷ sets) a h = refl
+
 module _ {m : ℕ} {f : ℕ → ℕ → Bool} where
   -- a set that passes a test says what is inside a
   pub covers-any : (sets : List (List ℕ)) (a : List ℕ) → list_any (λ b. inside_by b a) sets ≡ true → Inside m a f → Covers m sets f

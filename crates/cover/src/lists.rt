@@ -9,10 +9,13 @@ use std::marker::Model;
 // How many sets a list may have.
 const ROOM: usize = 64;
 
+// As many sets.
+pub type List = [Offer; 64];
+
 // The first `count` are its sets; what stands after them says nothing, so that a list is emptied at no cost.
 #[derive(Drop)]
 pub struct Offers {
-    sets: [Offer; 64],
+    sets: List,
     count: usize,
 }
 
@@ -49,6 +52,14 @@ impl Offers {
         ensures { self.new ≡ [] }
     {
         self.count = 0;
+    }
+
+    // One set alone.
+    pub fn start(&mut self, a: Offer)
+        ensures { self.new ≡ a ∷ [] }
+    {
+        self.sets[0] = a;
+        self.count = 1;
     }
 
     // With a at the end.
