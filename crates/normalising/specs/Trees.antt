@@ -1,5 +1,5 @@
 -- A tree read as a selection, its nodes' entries in rows, and its section as it is written.
-use Rattle.std.specs.Prelude.{ℕ, ◌≤◌, ◌<◌, ◌≡◌, List, [], ◌∷◌, length, get_or}
+use Rattle.std.specs.Prelude.{ℕ, ◌+◌, ◌-◌, ◌≤◌, ◌<◌, ◌≡◌, List, [], ◌∷◌, ◌++◌, length, get_or, take, drop}
 use Rattle.model.specs.Limits.{max_summary}
 use Rattle.model.specs.Pattern.{PatternRecord, Pattern, IsPatternTree, no_pattern_record}
 use Rattle.model.specs.Bytes.{Case, summary_fields, section_fields}
@@ -48,3 +48,7 @@ pub record CaseGiven (c : Case) : Type 0 where
   pub summary : TreeGiven (as_pattern c.summary)
   pub first : TreeGiven c.first
   pub members : SetGiven c.members
+
+-- a row put in at place `at` of a list of so many entries, what stood from there on behind it
+abbrev pub put_at : List Entry → List Entry → ℕ → ℕ → List Entry
+put_at r es at len = take at es ++ (r ++ (take (len - at) (drop at es) ++ drop (len + length r) es))

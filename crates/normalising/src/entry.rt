@@ -4,7 +4,7 @@ use std::marker::Model;
 
 #[derive(Clone, Copy, PartialEq, Eq, PartialOrd, Ord)]
 pub struct Entry {
-    pub depth: u8,
+    pub depth: u16,
     pub label: u16,
     pub edge: u16,
     pub position: u16,

@@ -1,7 +1,9 @@
 // The list of a subtree's entries, at most as many as a tree may have nodes.
 
-ghost use Rattle.std.specs.Prelude.{◌≡◌, ◌+◌, ◌≤◌, ◌<◌, [], ◌∷◌, length};
+ghost use Rattle.std.specs.Prelude.{◌≡◌, ◌+◌, ◌-◌, ◌≤◌, ◌<◌, [], ◌∷◌, length, get_or};
+ghost use Rattle.model.specs.Normal.{no_entry};
 ghost use Rattle.model.specs.Gathering.{place_in, opens as opens_in, joined};
+ghost use Rattle.normalising.specs.Trees.{put_at};
 
 use crate::entry::Entry;
 use std::marker::Model;
@@ -48,6 +50,30 @@ fn place(row: &[Entry], into: &[Entry]) -> usize
     into.len()
 }
 
+// The entry that stands at place i, not before `at`, when the row goes in there.
+fn entry_after(row: &[Entry], entries: &[Entry], at: usize, i: usize) -> Entry
+    requires { (at ≤ i) × (i < length entries.now) }
+    ensures own { i < at + length row.now → result ≡ get_or row.now (i - at) no_entry }
+    ensures behind { at + length row.now ≤ i → result ≡ get_or entries.now (i - length row.now) no_entry }
+{
+    if i < at + row.len() {
+        row[i - at]
+    } else {
+        entries[i - row.len()]
+    }
+}
+
+// A row goes in at place `at` of a list of so many entries, the last entry first: what stood from there on goes up behind it. Entry by
+// entry, not by `copy_from_slice` and `rotate_right`, which would have the archive for C need memmove from outside.
+fn put_in(row: &[Entry], entries: &mut [Entry], at: usize, len: usize)
+    requires { (at ≤ len) × (len + length row.now ≤ length entries.old) }
+    ensures { entries.new ≡ put_at row.now entries.old at len }
+{
+    for i in (at..len + row.len()).rev() {
+        entries[i] = entry_after(row, entries, at, i);
+    }
+}
+
 impl Row {
     pub fn new() -> Row
         ensures { result ≡ [] }
@@ -88,8 +114,7 @@ impl Row {
         let (len, end) = (self.len, self.len + row.len());
         let at = place(row, self.entries());
         let entries = &mut self.entries[..];
-        entries[len..end].copy_from_slice(row);
-        entries[at..end].rotate_right(row.len());
+        put_in(row, entries, at, len);
         self.len = end;
     }
 }

@@ -34,7 +34,7 @@ pub trait Tree {
         ensures { result ≡ pattern_parent (table self.now) i };
 
     // What is written of node i, at that depth.
-    fn entry(&self, i: usize, depth: u8) -> Entry
+    fn entry(&self, i: usize, depth: u16) -> Entry
         requires { (i < length (table self.now)) × ((get_or (table self.now) i no_pattern_record).edge < 65536) }
         ensures { result ≡ entry_with depth (get_or (table self.now) i no_pattern_record) };
 
@@ -67,7 +67,7 @@ impl<'a> Tree for Summary<'a> {
         self.parent(SummaryNode(i)).0
     }
 
-    fn entry(&self, i: usize, depth: u8) -> Entry {
+    fn entry(&self, i: usize, depth: u16) -> Entry {
         let s = SummaryNode(i);
         Entry {
             depth,
@@ -106,7 +106,7 @@ impl<'a> Tree for Pattern<'a> {
         self.parent(PatternNode(i)).0
     }
 
-    fn entry(&self, i: usize, depth: u8) -> Entry {
+    fn entry(&self, i: usize, depth: u16) -> Entry {
         let q = PatternNode(i);
         Entry {
             depth,

@@ -1,4 +1,4 @@
--- `normalising::row::Row::insert` meets its contract: the parts that are turned round are the list's rest and the row. Assumes nothing.
+-- `normalising::row::Row::insert` meets its contract: the row goes in at its place. Assumes nothing.
 use Prim.Native.Nat.{◌+◌, ◌≤◌}
 use mathlib.Core.Path.{◌≡◌, refl, sym, ap, ap₂, ◌∙◌}
 use native.Mathlib.Omega.{arith}
@@ -19,4 +19,5 @@ returns c =
     let len : length (take c.self.inside.len E) ≡ c.self.inside.len = length-take-le c.self.inside.len E (omega (arith, size, c.self.invariant)) in
     let fits : c.self.inside.len + length r ≤ length E = omega (arith, size, len, c.requires.1, ap length c.self.view_is, ap length given) in
     let inside : c.place-at.result ≤ c.self.inside.len = omega (arith, c.place-at.ensures.1, len, ap length own, ap length c.self.view_is) in
-    row-inserted E r refl fits inside c.copy_from_slice.ensures.after refl c.rotate_right.ensures.after (c.place-at.ensures.0 ∙ ap (place_in r) (own ∙ sym c.self.view_is)) ∙ ap₂ joined given c.self.view_is
+    ap (take (c.self.inside.len + length r)) c.put_in.ensures
+    ∙ row-inserted r E refl inside fits (c.place-at.ensures.0 ∙ ap (place_in r) (own ∙ sym c.self.view_is)) ∙ ap₂ joined given c.self.view_is
