@@ -57,14 +57,16 @@ module _ (b : List ℕ) (small : AreBytes b) where
                 tree = summary-tree (case_of b).summary a.facts.summary;
                 few = omega (arith, a.facts.summary_size, length-map (case_of b).summary read_as);
                 edges = strong-fits;
+                positions = λ i h. (let e = ap (λ (r : PatternRecord). r.position) (ListN.get_or-map read_as (case_of b).summary i no_summary_record) in omega (arith, e));
               };
-          first = record { tree = a.facts.first.tree; few = omega (arith, a.facts.first_size); edges = edge-fits (first_at b) };
+          first = record { tree = a.facts.first.tree; few = omega (arith, a.facts.first_size); edges = edge-fits (first_at b); positions = λ i h. (let r = a.facts.first.range i h in let n = a.facts.arity_bound in omega arith) };
           members = λ i h.
               let m = a.facts.members (get_or (case_of b).members i []) (mem-at (case_of b).members i [] h) in
               record {
                 tree = m.pattern.tree;
                 few = omega (arith, m.size);
                 edges = subst (λ (Q : Pattern). (i : ℕ) → i < length Q → (get_or Q i no_pattern_record).edge < 65536) (sym (set-member b (set_at b) i h)) (edge-fits (member_at b (set_at b) i));
+                positions = λ j k. (let r = m.pattern.range j k in let n = a.facts.arity_bound in let e = m.same_arity in omega arith);
               };
         }
 

@@ -1,4 +1,4 @@
-pub mod OrderLaws
+pub mod KeyLaws
 pub mod PlaceLaws
 pub mod TreeLaws
 pub mod RecordLaws

@@ -18,11 +18,12 @@ record_with p e = record { parent = p; label = e.label; edge = e.edge; position 
 abbrev pub entry_with : ℕ → PatternRecord → Entry
 entry_with d r = record { depth = d; label = r.label; edge = r.edge; position = r.position; figure = r.figure }
 
--- a tree of few enough nodes, whose edges fit a field
+-- a tree of few enough nodes, whose edges fit a field and positions a byte
 pub record TreeGiven (P : Pattern) : Type 0 where
   pub tree : IsPatternTree P
   pub few : length P ≤ max_summary
   pub edges : (i : ℕ) → i < length P → (get_or P i no_pattern_record).edge < 65_536
+  pub positions : (i : ℕ) → i < length P → (get_or P i no_pattern_record).position < 256
 
 -- the rows of the first n nodes are their entries alone
 pub record Loaded (P : Pattern) (rows : List (List Entry)) (n : ℕ) : Type 0 where

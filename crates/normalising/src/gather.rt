@@ -16,7 +16,7 @@ pub fn load<T: Tree>(tree: &T, rows: &mut [Row])
     rows[0].start(tree.entry(0, 0));
     for i in 1..tree.count() {
         let above = rows[tree.parent(i)].entries()[0];
-        rows[i].start(tree.entry(i, above.depth + 1));
+        rows[i].start(tree.entry(i, above.depth() + 1));
     }
 }
 

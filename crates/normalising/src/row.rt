@@ -1,7 +1,7 @@
 // The list of a subtree's entries, at most as many as a tree may have nodes.
 
 ghost use Rattle.std.specs.Prelude.{◌≡◌, ◌+◌, ◌-◌, ◌≤◌, ◌<◌, [], ◌∷◌, length, get_or};
-ghost use Rattle.model.specs.Normal.{no_entry};
+ghost use Rattle.model.specs.Normal.{no_entry, by_subtree};
 ghost use Rattle.model.specs.Gathering.{place_in, opens as opens_in, joined};
 ghost use Rattle.normalising.specs.Trees.{put_at};
 
@@ -28,13 +28,30 @@ impl Model for Row {
     ghost invariant = { λ r. r.len ≤ 64 };
 }
 
+// Row a does not come after row b: they are compared at the first difference, and a prefix comes first.
+fn not_after(a: &[Entry], b: &[Entry]) -> bool
+    ensures { result ≡ by_subtree a.now b.now }
+{
+    for i in 0..a.len() {
+        if b.len() <= i {
+            return false;
+        }
+        let x = a[i].key();
+        let y = b[i].key();
+        if x != y {
+            return x < y;
+        }
+    }
+    true
+}
+
 // The rest of a list goes on with a subtree as deep as the row's root, which the row does not come after.
 fn opens(row: &[Entry], rest: &[Entry]) -> bool
     requires { (0 < length row.now) × (0 < length rest.now) }
     ensures { result ≡ opens_in row.now rest.now }
 {
     let (next, root) = (rest[0], row[0]);
-    next.depth == root.depth && row <= rest
+    next.depth() == root.depth() && not_after(row, rest)
 }
 
 // The first place of a list where a row can stand, or the end.
@@ -78,13 +95,7 @@ impl Row {
     pub fn new() -> Row
         ensures { result ≡ [] }
     {
-        let none = Entry {
-            depth: 0,
-            label: 0,
-            edge: 0,
-            position: 0,
-            figure: 0,
-        };
+        let none = Entry::new(0, 0, 0, 0, 0);
         Row {
             entries: [none; ROW],
             len: 0,

@@ -35,7 +35,8 @@ pub trait Tree {
 
     // What is written of node i, at that depth.
     fn entry(&self, i: usize, depth: u16) -> Entry
-        requires { (i < length (table self.now)) × ((get_or (table self.now) i no_pattern_record).edge < 65536) }
+        requires { (i < length (table self.now)) × (depth < 256) × ((get_or (table self.now) i no_pattern_record).edge < 65536)
+            × ((get_or (table self.now) i no_pattern_record).position < 256) }
         ensures { result ≡ entry_with depth (get_or (table self.now) i no_pattern_record) };
 
     // How many fields a record has.
@@ -69,13 +70,7 @@ impl<'a> Tree for Summary<'a> {
 
     fn entry(&self, i: usize, depth: u16) -> Entry {
         let s = SummaryNode(i);
-        Entry {
-            depth,
-            label: self.label(s),
-            edge: self.strong(s) as u16,
-            position: 0,
-            figure: 0,
-        }
+        Entry::new(depth, self.label(s), self.strong(s) as u16, 0, 0)
     }
 
     fn width(&self) -> usize {
@@ -84,8 +79,8 @@ impl<'a> Tree for Summary<'a> {
 
     fn put(&self, parent: u16, entry: Entry, out: &mut [u8], at: usize) {
         put_field(out, at, parent);
-        put_field(out, at + 1, entry.label);
-        put_field(out, at + 2, entry.edge);
+        put_field(out, at + 1, entry.label());
+        put_field(out, at + 2, entry.edge());
     }
 }
 
@@ -108,13 +103,13 @@ impl<'a> Tree for Pattern<'a> {
 
     fn entry(&self, i: usize, depth: u16) -> Entry {
         let q = PatternNode(i);
-        Entry {
+        Entry::new(
             depth,
-            label: self.label(q),
-            edge: self.edge(q) as u16,
-            position: self.position(q) as u16,
-            figure: self.figure(q) as u16,
-        }
+            self.label(q),
+            self.edge(q) as u16,
+            self.position(q) as u16,
+            self.figure(q) as u16,
+        )
     }
 
     fn width(&self) -> usize {
@@ -123,9 +118,9 @@ impl<'a> Tree for Pattern<'a> {
 
     fn put(&self, parent: u16, entry: Entry, out: &mut [u8], at: usize) {
         put_field(out, at, parent);
-        put_field(out, at + 1, entry.label);
-        put_field(out, at + 2, entry.edge);
-        put_field(out, at + 3, entry.position);
-        put_field(out, at + 4, entry.figure);
+        put_field(out, at + 1, entry.label());
+        put_field(out, at + 2, entry.edge());
+        put_field(out, at + 3, entry.position());
+        put_field(out, at + 4, entry.figure());
     }
 }

@@ -21,7 +21,7 @@ fn write_records<T: Tree>(tree: &T, list: &[Entry], out: &mut [u8], at: usize)
     let mut last = [0u16; ROW];
     for k in 0..list.len() {
         let entry = list[k];
-        let depth = usize::from(entry.depth);
+        let depth = usize::from(entry.depth());
         let above = depth.saturating_sub(1);
         tree.put(last[above], entry, out, at + tree.width() * k);
         last[depth] = k as u16;

@@ -6,7 +6,7 @@ use native.Mathlib.Omega.{arith}
 use lib.ListN.{get_or, set}
 use lib.Seq.{sets}
 use Rattle.std.proofs.lemmas.List.{get_or_read}
-use Rattle.model.specs.Normal.{Entry, no_entry}
+use Rattle.model.specs.Normal.{no_entry}
 use Rattle.model.specs.Bytes.{bytes_of}
 use Rattle.normalising.specs.Trees.{record_with}
 use Rattle.normalising.proofs.RecordLaws.{Writing, writing_start, depth-inside, writing_step, writing-end}
@@ -17,26 +17,26 @@ loop-k-init g c = writing_start _ _ _ _
 
 pub bounds-last-depth : goal.bounds-last-depth
 bounds-last-depth g c =
-    let own = c.entry.view_is ∙ get_or_read c.args.list.now c.loop-k.k _ c.loop-k-test.true c.index-list-k.is no_entry in
+    let own = get_or_read c.args.list.now c.loop-k.k _ c.loop-k-test.true c.index-list-k.is no_entry in
     let small = depth-inside g.met.T.Tree.even c.requires.0 c.loop-k.invariant c.loop-k-test.true own in
-    omega (arith, small, c.from-depth.ensures)
+    omega (arith, small, c.from-depth.ensures, c.depth.ensures.0)
 
 pub offset_bounds-last-depth : goal.offset_bounds-last-depth
 offset_bounds-last-depth g c =
-    let own = c.entry.view_is ∙ get_or_read c.args.list.now c.loop-k.k _ c.loop-k-test.true c.index-list-k.is no_entry in
+    let own = get_or_read c.args.list.now c.loop-k.k _ c.loop-k-test.true c.index-list-k.is no_entry in
     let small = depth-inside g.met.T.Tree.even c.requires.0 c.loop-k.invariant c.loop-k-test.true own in
-    record { fits = omega (arith, small, c.from-depth.ensures) }
+    record { fits = omega (arith, small, c.from-depth.ensures, c.depth.ensures.0) }
 
 pub loop-k-preserved : goal.loop-k-preserved
 loop-k-preserved g c =
     let fields = g.T.Tree.fields in
     let k = c.loop-k.k in
-    let own = c.entry.view_is ∙ get_or_read c.args.list.now k _ c.loop-k-test.true c.index-list-k.is no_entry in
-    let above : c.saturating_sub-above.result ≡ c.entry.inside.depth - 1 = c.saturating_sub-above.ensures ∙ ap (λ (x : ℕ). x - 1) c.from-depth.ensures in
+    let own = get_or_read c.args.list.now k _ c.loop-k-test.true c.index-list-k.is no_entry in
+    let deep = c.from-depth.ensures ∙ c.depth.ensures.0 in
+    let above : c.saturating_sub-above.result ≡ c.index-list-k.result.depth - 1 = c.saturating_sub-above.ensures ∙ ap (λ (x : ℕ). x - 1) deep in
     let put = c.put.ensures
-    ∙ ap₂ (λ (w a : ℕ). sets c.loop-k.out (2 * (c.args.at + w * k)) (bytes_of (fields (record_with (get_or c.loop-k.last a 0) c.index-list-k.result)))) c.width.ensures.0 above
-    ∙ ap (λ (e : Entry). sets c.loop-k.out (2 * (c.args.at + g.T.Tree.width * k)) (bytes_of (fields (record_with (get_or c.loop-k.last (c.entry.inside.depth - 1) 0) e)))) (sym c.entry.view_is) in
-    subst (λ (d : ℕ). Writing fields c.args.list.now c.args.at c.args.out.now c.put.new.out (set c.loop-k.last d k) (k + 1)) (sym c.from-depth.ensures)
+    ∙ ap₂ (λ (w a : ℕ). sets c.loop-k.out (2 * (c.args.at + w * k)) (bytes_of (fields (record_with (get_or c.loop-k.last a 0) c.index-list-k.result)))) c.width.ensures.0 above in
+    subst (λ (d : ℕ). Writing fields c.args.list.now c.args.at c.args.out.now c.put.new.out (set c.loop-k.last d k) (k + 1)) (sym deep)
     (writing_step g.met.T.Tree.even c.requires.0 c.loop-k.invariant c.loop-k-test.true own put)
 
 pub returns : goal.returns

@@ -1,14 +1,13 @@
 -- A summary's record: three fields are put one after another. Assumes nothing.
 use Prim.Native.Nat.{◌*◌}
-use mathlib.Core.Path.{ap, ◌∙◌}
+use mathlib.Core.Path.{◌∙◌}
+use mathlib.Core.List.{[], ◌∷◌}
 use lib.Seq.{sets}
 use Rattle.model.specs.Bytes.{bytes_of}
-use Rattle.model.specs.Normal.{Entry}
-use Rattle.normalising.specs.Trees.{outline_fields, record_with}
 use Rattle.normalising.proofs.RecordLaws.{three-put}
 use Rattle.normalising.proofs.tree.SummaryTree.put.Goals as goal
 
 pub returns : goal.returns
 returns c =
     three-put c.args.out.now c.args.at c.args.parent _ _ c.put_field.ensures c.put_field-2.ensures c.put_field-3.ensures
-    ∙ ap (λ (e : Entry). sets c.args.out.now (2 * c.args.at) (bytes_of (outline_fields (record_with c.args.parent e)))) c.entry.view_is
+    ∙ (λ k. sets c.args.out.now (2 * c.args.at) (bytes_of (c.args.parent ∷ c.label.ensures k ∷ c.edge.ensures k ∷ [])))
