@@ -9,13 +9,11 @@ returns-in-Ok-clause-told g c = λ told k.
     let S = λ (stream : ℕ) (bytes : List ℕ). Sent stream bytes (g.W.Write.contents c.args.output.now) (g.W.Write.contents c.write_to.new.output)
     (g.E.Write.contents c.args.errors.now) (g.E.Write.contents c.write_to.new.errors) in
     OnOk-read c.write_to.result (λ bytes. S (told bytes).stream (told bytes).bytes) (g.R.Read.remaining c.args.input.now) _ _ 65537 (omega arith)
-    c.in_ok-count.ensures.whole
-    (OnOk-told _ S (rw c.in-Ok.is at (k _ _ _ _ c.tell-told.ensures)) (rw c.as_slice-text.ensures at c.write_to.ensures.ok))
+    c.in_ok-count.ensures.whole (OnOk-told _ S (rw c.in-Ok.is at (k _ _ _ _ c.tell-told.ensures)) (rw c.as_slice-text.ensures at c.write_to.ensures.ok))
 
 pub returns-clause-told : goal.returns-clause-told
 returns-clause-told g c = λ told k.
     let S = λ (stream : ℕ) (bytes : List ℕ). Sent stream bytes (g.W.Write.contents c.args.output.now) (g.W.Write.contents c.write_to-in-Err.new.output)
     (g.E.Write.contents c.args.errors.now) (g.E.Write.contents c.write_to-in-Err.new.errors) in
     OnOk-read c.write_to-in-Err.result (λ bytes. S (told bytes).stream (told bytes).bytes) (g.R.Read.remaining c.args.input.now) _ _ 65537 (omega arith)
-    c.in_ok-count.ensures.whole
-    (OnOk-told _ S (rw c.in-Err.is at (k _ _ _ _ c.tell-told.ensures)) (rw c.as_slice-text.ensures at c.write_to-in-Err.ensures.ok))
+    c.in_ok-count.ensures.whole (OnOk-told _ S (rw c.in-Err.is at (k _ _ _ _ c.tell-told.ensures)) (rw c.as_slice-text.ensures at c.write_to-in-Err.ensures.ok))
