@@ -115,7 +115,7 @@ impl Table {
     }
 }
 
-// Two lists are the same. Set by set, not by `==` of the slices, which would have the archive for C need bcmp from outside.
+// Two lists are the same. Set by set, not by `==` of the slices, which may have the archive for C need bcmp from outside.
 fn same_sets(a: &[Offer], b: &[Offer]) -> bool
     requires { length a.now ≡ length b.now }
     ensures { result ≡ true → a.now ≡ b.now }

@@ -24,7 +24,7 @@ impl Model for Numbers {
     ghost invariant = { λ s. s.count ≤ 16 };
 }
 
-// The items when the one at place q is gone; past the last there is 0. A new array, not `copy_within`, which would have the archive for C
+// The items when the one at place q is gone; past the last there is 0. A new array, not `copy_within`, which may have the archive for C
 // need memmove from outside.
 fn without(items: &[u16; 16], q: usize) -> [u16; 16]
     ensures { result ≡ written_at_front (map (λ i. get_or items.now (raised_of q i) 0) (up_from 0 15)) (replicate 16 0) }
