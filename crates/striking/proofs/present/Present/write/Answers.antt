@@ -10,12 +10,12 @@ pub returns-clause-end : goal.returns-clause-end
 returns-clause-end c =
     let view : pattern_at c.self.inside.section 0 ≡ c.args.self.now = c.self.view_is in
     let n : c.count.result ≡ length (pattern_at c.self.inside.section 0) = c.count.ensures.0 ∙ ap length (c.pattern.ensures.0 ∙ sym view) in
-    let o = copied-out c.self.inside.section 0 n c.self.invariant.given c.args.out.now (omega (arith, c.requires)) c.copy_fields.ensures in
-    (o.0 ∙ ap (λ (P : Pattern). length (encode_pattern P)) view, omega (arith, n, c.self.invariant.given.few))
+    let out = (copied-out c.self.inside.section 0 n c.self.invariant.given c.args.out.now (omega (arith, c.requires)) c.copy_fields.ensures).0 in
+    (out ∙ ap (λ (P : Pattern). length (encode_pattern P)) view, omega (arith, n, c.self.invariant.given.few))
 
 pub returns-clause-front : goal.returns-clause-front
 returns-clause-front c =
     let view : pattern_at c.self.inside.section 0 ≡ c.args.self.now = c.self.view_is in
     let n : c.count.result ≡ length (pattern_at c.self.inside.section 0) = c.count.ensures.0 ∙ ap length (c.pattern.ensures.0 ∙ sym view) in
-    let o = copied-out c.self.inside.section 0 n c.self.invariant.given c.args.out.now (omega (arith, c.requires)) c.copy_fields.ensures in
-    o.1 ∙ ap (λ (P : Pattern). written_at_front (encode_pattern P) c.args.out.now) view
+    let out = (copied-out c.self.inside.section 0 n c.self.invariant.given c.args.out.now (omega (arith, c.requires)) c.copy_fields.ensures).1 in
+    out ∙ ap (λ (P : Pattern). written_at_front (encode_pattern P) c.args.out.now) view
