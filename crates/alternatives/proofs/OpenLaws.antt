@@ -135,11 +135,12 @@ parent-before : {ts : List Member} {m : Masks} {P : Pattern} {c j : ℕ} → Mad
 parent-before {c = c} R z h p = subst (λ (x : ℕ). x < c) (sym p) (R.tree.earlier c z h)
 
 module _ {ts : List Member} {m : Masks} {P : Pattern} (R : Made ts m P) {q : ℕ} {es : List ℕ} (le : q ≤ length P) where
-  -- each list begins with what is settled
-  pub left-start : {rows : List (List ℕ)} {lists : List (List (List ℕ))} → RowsSettled ts m P q es rows → Begun (length ts) (length P) rows lists → LeftOpen ts m P q es lists
-  left-start {rows = rows} {lists = lists} s b =
+  -- each list begins with what covers what is settled
+  pub left-start : {rows : List (List ℕ)} {lists : List (List (List ℕ))} → RowsSettled ts m P q es rows
+      → ((j : ℕ) → j < length P → (f : ℕ → ℕ → Bool) → Settles (length ts) rows j f → Covers (length ts) (get_or lists j []) f) → LeftOpen ts m P q es lists
+  left-start {rows = rows} {lists = lists} s covers =
       record {
-        covered = λ fs F. inr (λ j h. begun-covers b j h (given_of ts P fs j)
+        covered = λ fs F. inr (λ j h. covers j h (given_of ts P fs j)
             (record { inside = λ a e. settled-inside R fs F.placed q j rows a h (rows_same P R.tree fs le F.kept s) e }));
       }
 

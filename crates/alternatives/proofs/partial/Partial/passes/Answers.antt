@@ -2,11 +2,11 @@
 use Rattle.std.proofs.Common.{[], length, arith, sym, ap, ◌∙◌}
 use Rattle.std.proofs.lemmas.List.{get_or_read}
 use Rattle.std.proofs.lemmas.Bool.{eqb-true}
-use Rattle.alternatives.proofs.OpenLaws.{left-start, left_end}
+use Rattle.alternatives.proofs.OpenLaws.{begun-covers, left-start, left_end}
 use Rattle.alternatives.proofs.partial.Partial.passes.Goals as goal
 
 pub loop-c-init : goal.loop-c-init
-loop-c-init c = (c.begin.auto.lists ∙ c.from_fn-lists.ensures.items.long, left-start c.requires.made c.args.self.now.inside c.requires.rows_settled c.begin.ensures)
+loop-c-init c = (c.begin.auto.lists ∙ c.from_fn-lists.ensures.items.long, left-start c.requires.made c.args.self.now.inside c.requires.rows_settled (begun-covers c.begin.ensures))
 
 pub returns-then-is_empty : goal.returns-then-is_empty
 returns-then-is_empty c e =
